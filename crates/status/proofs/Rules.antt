@@ -1,0 +1,68 @@
+-- Rules by which `search` follows a chain of tests: `search chain` at a return closes `answer ≡ refuseIf .. (refuseUnless .. (..))`
+-- from the tests on the way. Assumes nothing.
+use Prim.Native.Nat.{ℕ, _≤_, _<_}
+use mathlib.Core.Path.{_≡_, refl, sym, ap, _∙_}
+use mathlib.Core.Bool.{Bool, true, false, not}
+use borrow.Author.Tests.{lt-ltb, le-ltb, le-leb, lt-leb, eq-eqb, ne-eqb, not-true, not-false}
+use Rattle.status.specs.declared.Status.{Status}
+use Rattle.status.specs.declared.Answer.{Answer}
+use Rattle.status.specs.declared.Answer.the-variants.{Refused}
+use Rattle.status.specs.Choice.{pick, _and_, _or_}
+use Rattle.status.specs.Answer.{refuseIf, refuseUnless}
+
+pub refuse-on : (b : Bool) (s : Status) (a : Answer) → b ≡ true → Refused s ≡ refuseIf b s a
+unfolding refuseIf
+refuse-on b s a e = rw e refl
+
+-- where the status is itself chosen
+pub refuse-as : (b : Bool) (s t : Status) (a : Answer) → b ≡ true → t ≡ s → Refused t ≡ refuseIf b s a
+unfolding refuseIf
+refuse-as b s t a e f = rw e (ap Refused f)
+
+pub refuse-off : (b : Bool) (s : Status) (a x : Answer) → b ≡ false → x ≡ a → x ≡ refuseIf b s a
+unfolding refuseIf
+refuse-off b s a x e f = rw e f
+
+pub unless-on : (b : Bool) (s : Status) (a : Answer) → b ≡ false → Refused s ≡ refuseUnless b s a
+unfolding refuseUnless
+unless-on b s a e = rw e refl
+
+pub unless-off : (b : Bool) (s : Status) (a x : Answer) → b ≡ true → x ≡ a → x ≡ refuseUnless b s a
+unfolding refuseUnless
+unless-off b s a x e f = rw e f
+
+pub pick-on : (X : Type 0) (b : Bool) (x y z : X) → b ≡ true → x ≡ y → x ≡ pick b y z
+unfolding pick
+pick-on X b x y z e f = rw e f
+
+pub pick-off : (X : Type 0) (b : Bool) (x y z : X) → b ≡ false → x ≡ z → x ≡ pick b y z
+unfolding pick
+pick-off X b x y z e f = rw e f
+
+pub and-off : (a b : Bool) → a ≡ false → false ≡ (a and b)
+unfolding _and_
+and-off a b e = rw e refl
+
+pub and-on : (a b x : Bool) → a ≡ true → x ≡ b → x ≡ (a and b)
+unfolding _and_
+and-on a b x e f = rw e f
+
+pub or-on : (a b : Bool) → a ≡ true → true ≡ (a or b)
+unfolding _or_
+or-on a b e = rw e refl
+
+pub or-off : (a b x : Bool) → a ≡ false → x ≡ b → x ≡ (a or b)
+unfolding _or_
+or-off a b x e f = rw e f
+
+-- what a call gave, where its result was tested
+pub via : {r b t : Bool} → r ≡ b → r ≡ t → b ≡ t
+via p q = sym p ∙ q
+
+pub via-not : {r b : Bool} → r ≡ b → not r ≡ true → b ≡ false
+via-not {r} p q = sym p ∙ not-true r q
+
+pub via-not-not : {r b : Bool} → r ≡ b → not r ≡ false → b ≡ true
+via-not-not {r} p q = sym p ∙ not-false r q
+
+pub ruleset chain = (lt-ltb, le-ltb, le-leb, lt-leb, eq-eqb, ne-eqb, not-true, not-false, refuse-on, refuse-off, refuse-as, unless-on, unless-off, pick-on, pick-off, and-off, and-on, or-on, or-off, via, via-not, via-not-not)

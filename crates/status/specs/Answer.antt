@@ -1,0 +1,59 @@
+-- The numbers of the statuses and the answer's word. 01 "Status and answer word".
+use Prim.Native.Nat.{ℕ}
+use mathlib.Core.Bool.{Bool, true, false}
+use lib.IntN.{ℤ, pos, negℤ}
+use Rattle.status.specs.declared.Status.{Status}
+use Rattle.status.specs.declared.Status.the-variants.{Internal, NoResources, InvalidArgs, BadHandle, OutOfRange, BadState, ShouldWait, PeerClosed, AccessDenied}
+use Rattle.status.specs.declared.Record.{Record}
+use Rattle.status.specs.declared.Record.the-variants.{Empty, Count, Info, Limits, Packet}
+use Rattle.status.specs.declared.Answer.{Answer}
+use Rattle.status.specs.declared.Answer.the-variants.{Done, Refused}
+
+-- a status is a negative number; this is the number without its sign. The list by who can cause it.
+unfoldable pub statusNumber : Status → ℕ
+statusNumber Internal = 1
+statusNumber NoResources = 3
+statusNumber InvalidArgs = 10
+statusNumber BadHandle = 11
+statusNumber OutOfRange = 14
+statusNumber BadState = 20
+statusNumber ShouldWait = 22
+statusNumber PeerClosed = 24
+statusNumber AccessDenied = 30
+
+-- the number that a done call answers: its count, 0 for a record without one
+unfoldable pub recordCount : Record → ℕ
+recordCount Empty = 0
+recordCount (Count n) = n
+recordCount (Info i) = 0
+recordCount (Limits t) = 0
+recordCount (Packet k) = 0
+
+-- the answer word: the count when zero or more, else the status as a negative number
+unfoldable pub answerWord : Answer → ℤ
+answerWord (Done d) = pos (recordCount d)
+answerWord (Refused s) = negℤ (pos (statusNumber s))
+
+-- the count of an answer: the bytes that a done call moved; none by a refused call
+unfoldable pub countOf : Answer → ℕ
+countOf (Done d) = recordCount d
+countOf (Refused s) = 0
+
+-- whether the call was done
+unfoldable pub isDone : Answer → Bool
+isDone (Done d) = true
+isDone (Refused s) = false
+
+-- done, with no record
+abbrev pub ok : Answer
+ok = Done Empty
+
+-- a test that refuses if it holds, then the rest
+unfoldable pub refuseIf : Bool → Status → Answer → Answer
+refuseIf true s a = Refused s
+refuseIf false s a = a
+
+-- a test that refuses unless it holds, then the rest
+unfoldable pub refuseUnless : Bool → Status → Answer → Answer
+refuseUnless true s a = a
+refuseUnless false s a = Refused s

@@ -1,0 +1,4 @@
+-- Choice: tests and choices that all definitions are written with.
+-- Answer: the numbers of the statuses, the answer's word (01 "Status and answer word"), and a test with its status.
+pub mod Choice
+pub mod Answer
