@@ -48,12 +48,18 @@ isDone (Refused s) = false
 abbrev pub ok : Answer
 ok = Done Empty
 
--- a test that refuses if it holds, then the rest
-unfoldable pub refuseIf : Bool → Status → Answer → Answer
-refuseIf true s a = Refused s
-refuseIf false s a = a
+-- a test that refuses if it holds
+unfoldable pub refuseIf : Bool → Status → Answer
+refuseIf true s = Refused s
+refuseIf false s = ok
 
--- a test that refuses unless it holds, then the rest
-unfoldable pub refuseUnless : Bool → Status → Answer → Answer
-refuseUnless true s a = a
-refuseUnless false s a = Refused s
+-- a test that refuses unless it holds
+unfoldable pub refuseUnless : Bool → Status → Answer
+refuseUnless true s = ok
+refuseUnless false s = Refused s
+
+-- tests in their order: the first refusal is the answer, else what stands last
+infixr 20 _then_
+unfoldable pub _then_ : Answer → Answer → Answer
+_then_ (Done d) a = a
+_then_ (Refused s) a = Refused s

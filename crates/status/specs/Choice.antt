@@ -8,7 +8,6 @@ pick false x y = y
 
 infixr 35 _and_
 infixr 30 _or_
-
 unfoldable pub _and_ : Bool → Bool → Bool
 _and_ true b = b
 _and_ false b = false

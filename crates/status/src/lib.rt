@@ -1,7 +1,7 @@
 // The answer of a call: a done case that holds its record, or a refusal that holds its status.
 // After error.rs, `SocketInfo` of ipc/socket.rs and `PacketSignal` of signal/port_packet.rs.
 ghost use mathlib.Core.Path.{_≡_};
-ghost use Rattle.status.specs.Answer.{answerWord};
+ghost use Rattle.status.specs.Answer.{answerWord, countOf, isDone};
 
 // Why a call is refused. `statusNumber` gives each its number.
 pub enum Status {
@@ -20,18 +20,18 @@ pub enum Status {
 #[repr(C)]
 pub struct SocketInfo {
     pub options: u32,
-    pub rx_buf_max: usize,
-    pub rx_buf_size: usize,
-    pub rx_buf_available: usize,
-    pub tx_buf_max: usize,
-    pub tx_buf_size: usize,
+    pub rx_buf_max: u64,
+    pub rx_buf_size: u64,
+    pub rx_buf_available: u64,
+    pub tx_buf_max: u64,
+    pub tx_buf_size: u64,
 }
 
 // The read and the write threshold of an end; 0 is none.
 #[repr(C)]
 pub struct Thresholds {
-    pub read: usize,
-    pub write: usize,
+    pub read: u64,
+    pub write: u64,
 }
 
 // What a wait leaves once its mask has met the word: the trigger is the mask.
@@ -81,5 +81,31 @@ pub fn word(a: Answer) -> i64
             Status::PeerClosed => -24,
             Status::AccessDenied => -30,
         },
+    }
+}
+
+// The count of an answer, 0 for a refusal: the bytes that a call moved.
+pub fn count_of(a: Answer) -> u32
+    ensures { λ r. ⌜ r ≡ countOf a ⌝ }
+{
+    match a {
+        Answer::Done(d) => match d {
+            Record::Empty => 0,
+            Record::Count(n) => n,
+            Record::Info(_) => 0,
+            Record::Limits(_) => 0,
+            Record::Packet(_) => 0,
+        },
+        Answer::Refused(_) => 0,
+    }
+}
+
+// Whether the call was done.
+pub fn is_done(a: Answer) -> bool
+    ensures { λ r. ⌜ r ≡ isDone a ⌝ }
+{
+    match a {
+        Answer::Done(_) => true,
+        Answer::Refused(_) => false,
     }
 }
