@@ -1,2 +1,3 @@
 pub mod Rules
+pub mod Chains
 pub mod Cases

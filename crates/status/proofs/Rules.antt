@@ -7,7 +7,7 @@ use borrow.Author.Tests.{lt-ltb, le-ltb, le-leb, lt-leb, eq-eqb, ne-eqb, not-tru
 use Rattle.status.specs.declared.Status.{Status}
 use Rattle.status.specs.declared.Answer.{Answer}
 use Rattle.status.specs.declared.Answer.the-variants.{Done, Refused}
-use Rattle.status.specs.declared.Record.the-variants.{Empty}
+use Rattle.status.specs.declared.Record.the-variants.{Empty, Count}
 use Rattle.status.specs.Choice.{pick, _and_, _or_}
 use Rattle.status.specs.Answer.{refuseIf, refuseUnless, _then_, isDone}
 
@@ -49,6 +49,10 @@ unless-last b s e = rw e refl
 pub pass-unless : (b : Bool) (s : Status) → b ≡ true → Done Empty ≡ refuseUnless b s
 unfolding refuseUnless
 pass-unless b s e = rw e refl
+
+-- a count that a call gave
+pub count-as : (m n : ℕ) → m ≡ n → Done (Count m) ≡ Done (Count n)
+count-as m n e = ap (λ (k : ℕ). Done (Count k)) e
 
 -- several tests made by a call that gave x
 pub then-stop : (x g a : Answer) → x ≡ g → isDone x ≡ false → x ≡ (g then a)
@@ -95,4 +99,4 @@ via-not {r} p q = sym p ∙ not-true r q
 pub via-not-not : {r b : Bool} → r ≡ b → not r ≡ false → b ≡ true
 via-not-not {r} p q = sym p ∙ not-false r q
 
-pub ruleset chain = (lt-ltb, le-ltb, le-leb, lt-leb, eq-eqb, ne-eqb, not-true, not-false, refuse-on, refuse-off, refuse-as, unless-on, unless-off, refuse-last, pass-last, unless-last, pass-unless, pick-on, pick-off, and-off, and-on, or-on, or-off, via, via-not, via-not-not)
+pub ruleset chain = (lt-ltb, le-ltb, le-leb, lt-leb, eq-eqb, ne-eqb, not-true, not-false, refuse-on, refuse-off, refuse-as, unless-on, unless-off, refuse-last, pass-last, unless-last, pass-unless, count-as, then-stop, then-go, pick-on, pick-off, and-off, and-on, or-on, or-off, via, via-not, via-not-not)

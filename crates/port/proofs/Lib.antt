@@ -1,0 +1,13 @@
+pub mod Lists
+pub mod Partition
+pub mod Shift
+pub mod Compact
+pub mod Size
+pub mod Tests
+pub mod Operations
+pub mod Refused
+pub mod Views
+pub mod Idle
+pub mod Sound
+pub mod Length
+pub mod Cases

@@ -1,0 +1,16 @@
+-- The test of soundness without the sum of the two counts. Assumes nothing.
+use Prim.Native.Nat.{ℕ, _+_, _-_, _≤_}
+use mathlib.Core.Path.{_≡_, sym, _∙_}
+use mathlib.Core.Bool.{true, false}
+use mathlib.Core.Logic.{⊎-elim}
+use native.Mathlib.Omega.{arith}
+use lib.Dec.{leb}
+use borrow.Author.Tests.{le-leb, lt-leb, leb-true, leb-false}
+use Rattle.port.proofs.Lists.{either}
+
+pub fits-leb : (a b : ℕ) → a ≤ 128 → leb b (128 - a) ≡ leb (a + b) 128
+fits-leb a b h =
+    ⊎-elim
+    (λ (t : leb b (128 - a) ≡ true). t ∙ sym (le-leb (a + b) 128 (omega (arith, leb-true b (128 - a) t))))
+    (λ (t : leb b (128 - a) ≡ false). t ∙ sym (lt-leb (a + b) 128 (omega (arith, leb-false b (128 - a) t))))
+    (either (leb b (128 - a)))

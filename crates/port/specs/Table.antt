@@ -1,0 +1,84 @@
+-- The table of 128 places: its packets, its waits and its unused places; a wait and its packet. 01 "Signal word and packets".
+use Prim.Native.Nat.{ℕ, _+_}
+use mathlib.Core.Bool.{Bool, false, not, Bool·beq}
+use mathlib.Core.List.{List, _++_, map, reverse}
+use lib.ListN.{length, take, drop, replicate}
+use lib.Dec.{leb}
+use Rattle.status.specs.Choice.{_and_}
+use Rattle.status.specs.declared.PortPacket.{PortPacket}
+use Rattle.port.specs.declared.Place.{Place}
+use Rattle.port.specs.declared.Places.{Places}
+use Rattle.port.specs.Signal.{meets}
+use Rattle.port.specs.Lists.{filter, any}
+
+-- ---- the table and its three parts
+
+-- a place that no run has used yet, or that was freed
+abbrev pub free : Place
+free = record { key = 0; mask = 0; observed = 0; one = false }
+
+-- 01 "Signal word and packets": a place is used while it holds a packet or a wait
+abbrev pub used : Places → ℕ
+used t = t .packets + t .waits
+
+-- 01 "Status and answer word": no run leaves a table with more than 128 used places
+abbrev pub sound : Places → Bool
+sound t = leb (t .packets + t .waits) 128
+
+-- the packets in the order of their firing, oldest first
+unfoldable pub packetsOf : Places → List Place
+packetsOf t = take (t .packets) (t .table)
+
+-- the waits of both ends in the order of their registration, oldest first
+unfoldable pub waitsOf : Places → List Place
+waitsOf t = drop (t .packets) (take (t .packets + t .waits) (t .table))
+
+-- the places behind them; no operation looks at what they hold
+unfoldable pub unusedOf : Places → List Place
+unusedOf t = drop (t .packets + t .waits) (t .table)
+
+-- the table that has these three parts
+unfoldable pub tableOf : List Place → List Place → List Place → Places
+tableOf ps ws us = record { packets = length ps; waits = length ws; table = ps ++ (ws ++ us) }
+
+-- 01 "Signal word and packets": the pair holds 128 places, at first all unused
+unfoldable pub newPlaces : Places
+newPlaces = record { packets = 0; waits = 0; table = replicate 128 free }
+
+-- ---- a wait and its packet
+
+-- a wait of end 1 or of end 2; it has observed nothing yet
+unfoldable pub waitOf : Bool → ℕ → ℕ → Place
+waitOf one key mask = record { key = key; mask = mask; observed = 0; one = one }
+
+-- the wait as a packet: it has observed this word
+unfoldable pub observe : ℕ → Place → Place
+observe w p = record { key = p .key; mask = p .mask; observed = w; one = p .one }
+
+-- 01 "Signal word and packets": the packet has the wait's key, its mask as the trigger, the observed word, count 1 and timestamp 0
+unfoldable pub packetOf : Place → PortPacket
+packetOf p = record { key = p .key; trigger = p .mask; observed = p .observed; count = 1; timestamp = 0 }
+
+-- whether the wait is of that end and its mask meets the end's word
+unfoldable pub fires : Bool → ℕ → Place → Bool
+fires one w p = Bool·beq (p .one) one and meets w (p .mask)
+
+-- whether any of the waits fires
+unfoldable pub anyFires : Bool → ℕ → List Place → Bool
+anyFires one w ws = any (fires one w) ws
+
+-- 01 "Signal word and packets": that end's waits are visited newest first; each that meets the word yields a packet
+unfoldable pub fired : Bool → ℕ → List Place → List Place
+fired one w ws = map (observe w) (reverse (filter (fires one w) ws))
+
+-- the other waits stay, in their order
+unfoldable pub kept : Bool → ℕ → List Place → List Place
+kept one w ws = filter (λ p. not (fires one w p)) ws
+
+-- whether the wait is of the other end
+unfoldable pub ofOther : Bool → Place → Bool
+ofOther one p = not (Bool·beq (p .one) one)
+
+-- the waits of the other end, in their order
+unfoldable pub others : Bool → List Place → List Place
+others one ws = filter (ofOther one) ws

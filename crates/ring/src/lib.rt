@@ -1,0 +1,125 @@
+// A ring of capacity C is the first C entries of a lent slice. A copy into it or out of it works on two parts: one from the ring's middle up
+// to its end, and one from its start.
+ghost use mathlib.Core.Path.{_≡_};
+ghost use Prim.Native.Nat.{_+_, _≤_, _<_, min};
+ghost use lib.ListN.{length};
+ghost use lib.Seq.{paste};
+ghost use Rattle.ring.specs.Ring;
+
+// The most bytes that one block copies.
+const BLOCK: usize = 4096;
+
+// The place that is k entries past the place `start`, by comparison and subtraction.
+pub fn place(capacity: usize, start: usize, k: usize) -> usize
+    ensures { λ r. ⌜ r ≡ Ring.place capacity start k ⌝ }
+{
+    if capacity <= start {
+        return k;
+    }
+    let room = capacity - start;
+    if k < room { start + k } else { k - room }
+}
+
+// Whether n entries from the place `at` on lie in a ring of this capacity, in a slice of `size` entries.
+fn fits(capacity: usize, at: usize, n: usize, size: usize) -> bool
+    ensures { λ r. ⌜ r ≡ Ring.fits capacity at n size ⌝ }
+{
+    if capacity <= at {
+        return false;
+    }
+    if capacity < n {
+        return false;
+    }
+    capacity <= size
+}
+
+// The lesser of two numbers.
+fn least(a: usize, b: usize) -> usize
+    ensures { λ r. ⌜ r ≡ min a b ⌝ }
+{
+    if a <= b { a } else { b }
+}
+
+// Copies all of src, at most BLOCK bytes, to the start of dst. The bytes pass through a local array, which neither slice can overlap, so that
+// the compiler makes one `memmove` of the two loops and drops the array. A loop from src to dst, which it must take for overlapping, stays a
+// loop of 16-byte moves, at 4 KiB less than half as fast.
+fn copy_block(dst: &mut [u8], src: &[u8])
+    requires { ⌜ (length (now src) ≤ 4096) × (length (now src) ≤ length (now dst)) ⌝ }
+    ensures { λ _. ⌜ now (dst .exit) ≡ paste (now (dst .entry)) 0 (now (src .entry)) (length (now (src .entry))) ⌝ }
+{
+    let n = src.len();
+    let mut array = [0u8; BLOCK];
+    let block: &mut [u8] = &mut array;
+    bytes::copy(src, &mut block[0..n]);
+    let filled: &[u8] = &block[..];
+    bytes::copy(&filled[0..n], dst);
+}
+
+// Copies all of src into dst from index `at` on, block by block.
+fn copy_at(dst: &mut [u8], at: usize, src: &[u8])
+    requires { ⌜ at + length (now src) ≤ length (now dst) ⌝ }
+    ensures { λ _. ⌜ now (dst .exit) ≡ paste (now (dst .entry)) at (now (src .entry)) (length (now (src .entry))) ⌝ }
+{
+    let mut i = 0;
+    while i < src.len() {
+        let n = least(src.len() - i, BLOCK);
+        let to = at + i;
+        let end = i + n;
+        copy_block(&mut dst[to..], &src[i..end]);
+        i = end;
+    }
+}
+
+// Puts the first n bytes of src into the ring from the place `at` on.
+fn put(ring: &mut [u8], capacity: usize, at: usize, src: &[u8], n: usize)
+    requires { ⌜ (at < capacity) × (n ≤ capacity) × (capacity ≤ length (now ring)) × (n ≤ length (now src)) ⌝ }
+    ensures { λ _. ⌜ now (ring .exit) ≡ Ring.put capacity at n (now (src .entry)) (now (ring .entry)) ⌝ }
+{
+    let room = capacity - at;
+    if n <= room {
+        copy_at(ring, at, &src[0..n]);
+        return;
+    }
+    copy_at(ring, at, &src[0..room]);
+    copy_at(ring, 0, &src[room..n]);
+}
+
+// Copies the n bytes from the place `start` on to the start of dst.
+fn get(ring: &[u8], capacity: usize, start: usize, n: usize, dst: &mut [u8])
+    requires { ⌜ (start < capacity) × (n ≤ capacity) × (capacity ≤ length (now ring)) × (n ≤ length (now dst)) ⌝ }
+    ensures { λ _. ⌜ now (dst .exit) ≡ paste (now (dst .entry)) 0 (Ring.front capacity start n (now (ring .entry))) n ⌝ }
+{
+    let room = capacity - start;
+    if n <= room {
+        copy_at(dst, 0, &ring[start..start + n]);
+        return;
+    }
+    copy_at(dst, 0, &ring[start..capacity]);
+    copy_at(dst, room, &ring[0..n - room]);
+}
+
+// Copies the first n bytes of src into the ring from the place `at` on. What does not fit is not copied.
+pub fn copy_in(ring: &mut [u8], capacity: usize, at: usize, src: &[u8], n: usize)
+    ensures { λ _. ⌜ now (ring .exit) ≡ Ring.copiedIn capacity at n (now (src .entry)) (now (ring .entry)) ⌝ }
+{
+    if !fits(capacity, at, n, ring.len()) {
+        return;
+    }
+    if src.len() < n {
+        return;
+    }
+    put(ring, capacity, at, src, n);
+}
+
+// Copies the n bytes from the place `start` on to the start of dst. What does not fit is not copied.
+pub fn copy_out(ring: &[u8], capacity: usize, start: usize, n: usize, dst: &mut [u8])
+    ensures { λ _. ⌜ now (dst .exit) ≡ Ring.copiedOut capacity start n (now (ring .entry)) (now (dst .entry)) ⌝ }
+{
+    if !fits(capacity, start, n, ring.len()) {
+        return;
+    }
+    if dst.len() < n {
+        return;
+    }
+    get(ring, capacity, start, n, dst);
+}
