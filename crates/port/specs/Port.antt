@@ -62,7 +62,8 @@ registerOf one w key mask edge t =
     (pick (eqb (used t) 128) (refused NoResources t) (done (registeredOf (waitOf one key mask) w edge t)))
     (refused Internal t)
 
--- 01 "Signal word and packets": one change of an end's word, here from w; if the word stays the same, nothing fires
+-- 01 "Signal word and packets": one change of an end's word, here from w; if the word stays the same, nothing fires. 01 "Status and answer word":
+-- a table with more than 128 used places is INTERNAL.
 unfoldable pub changeOf : Bool → ℕ → ℕ → ℕ → Places → Change
 changeOf one w clear set t =
     pick (sound t)
@@ -81,6 +82,6 @@ takeOf t =
     (record { places = takenOf t; answer = Done (Packet (packetOf (getD (packetsOf t) 0 free))) }))
     (refused Internal t)
 
--- 01 "Signal word and packets": an end's waits vanish as it closes; packets outlive the end
+-- 01 "Signal word and packets": an end's waits vanish as it closes; packets outlive the end. A table with more than 128 used places is INTERNAL.
 unfoldable pub dropOf : Bool → Places → Next
 dropOf one t = pick (sound t) (done (droppedOf one t)) (refused Internal t)

@@ -1,4 +1,5 @@
 -- The table of 128 places: its packets, its waits and its unused places; a wait and its packet. 01 "Signal word and packets".
+-- An end is named by a Bool: true is end 1, false is end 2.
 use Prim.Native.Nat.{ℕ, _+_}
 use mathlib.Core.Bool.{Bool, false, not, Bool·beq}
 use mathlib.Core.List.{List, _++_, map, reverse}

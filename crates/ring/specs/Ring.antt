@@ -25,11 +25,10 @@ put C at n xs ring = paste (paste ring at xs (min n (C - at))) 0 (drop (min n (C
 unfoldable pub fits : ℕ → ℕ → ℕ → ℕ → Bool
 fits C at n size = ltb at C and leb n C and leb C size
 
--- the ring after a copy into it of the first n of xs; where they do not fit, or xs is shorter, it stays as it was. 01 "Delivered bytes".
+-- the ring after a copy into it of the first n of xs. Where they do not fit, or xs is shorter, it stays as it was: so the copy demands nothing.
 unfoldable pub copiedIn : {A : Type 0} → ℕ → ℕ → ℕ → List A → List A → List A
 copiedIn C at n xs ring = pick (fits C at n (length ring) and leb n (length xs)) (put C at n xs ring) ring
 
--- dst after a copy to its start of the n entries from the place `start` on; where they do not fit, or dst is shorter, it stays as it was.
--- 01 "Delivered bytes".
+-- dst after a copy to its start of the n entries from the place `start` on. Where they do not fit, or dst is shorter, it stays as it was.
 unfoldable pub copiedOut : {A : Type 0} → ℕ → ℕ → ℕ → List A → List A → List A
 copiedOut C start n ring dst = pick (fits C start n (length ring) and leb n (length dst)) (paste dst 0 (front C start n ring) n) dst

@@ -34,7 +34,7 @@ unfoldable pub answerWord : Answer → ℤ
 answerWord (Done d) = pos (recordCount d)
 answerWord (Refused s) = negℤ (pos (statusNumber s))
 
--- the count of an answer: the bytes that a done call moved; none by a refused call
+-- the count of an answer, 0 for a refusal
 unfoldable pub countOf : Answer → ℕ
 countOf (Done d) = recordCount d
 countOf (Refused s) = 0

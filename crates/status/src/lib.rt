@@ -84,7 +84,7 @@ pub fn word(a: Answer) -> i64
     }
 }
 
-// The count of an answer, 0 for a refusal: the bytes that a call moved.
+// The count of an answer, 0 for a refusal.
 pub fn count_of(a: Answer) -> u32
     ensures { λ r. ⌜ r ≡ countOf a ⌝ }
 {

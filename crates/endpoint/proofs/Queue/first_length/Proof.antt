@@ -1,0 +1,44 @@
+use denote.Ref.{now}
+use mathlib.Core.Path.{sym}
+use lib.ListN.{List·getD-eq-default}
+use Rattle.status.proofs.Rules.{chain, pick-on}
+use Rattle.endpoint.specs.Queue.{firstLength}
+use borrow.Author.Needs.{needs}
+use Rattle.endpoint.proofs.Queue.first_length.Statement.{statement}
+use Rattle.endpoint.proofs.Queue.first_length.Tie as tie
+
+has-length-requires : tie.Need-has-length-requires
+has-length-requires c κs = search needs
+
+returns : tie.Need-returns
+unfolding firstLength
+returns c = search chain depth 12
+
+cast-at : tie.Need-cast-at
+cast-at c = search needs
+
+returns-2 : tie.Need-returns-2
+unfolding firstLength
+returns-2 c = pick-on _ _ _ _ _ (search chain) (sym (List·getD-eq-default (now (c .before .before .before .before .before .args .table)) 0 (c .if2 .taken)))
+
+mul-result : tie.Need-mul-result
+mul-result c = search needs
+
+shared-slice-read-result : tie.Need-shared-slice-read-result
+shared-slice-read-result c = search needs
+
+returns-3 : tie.Need-returns-3
+unfolding firstLength
+returns-3 c = search chain depth 12
+
+pub first-length-spec : {M : Type 1} → statement M
+first-length-spec =
+    tie.close
+    (tie.spec
+    has-length-requires
+    returns
+    cast-at
+    returns-2
+    mul-result
+    shared-slice-read-result
+    returns-3)

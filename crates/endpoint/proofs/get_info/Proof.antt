@@ -1,0 +1,38 @@
+use Rattle.endpoint.specs.Info.{infoOf}
+use borrow.Author.Needs.{needs}
+use Rattle.endpoint.proofs.get_info.Statement.{statement}
+use Rattle.endpoint.proofs.get_info.Tie as tie
+
+bit-if-requires : tie.Need-bit-if-requires
+bit-if-requires c κs = search needs
+
+cast-t8 : tie.Need-cast-t8
+cast-t8 c = search needs
+
+available-requires : tie.Need-available-requires
+available-requires c κs = search needs
+
+cast-t10 : tie.Need-cast-t10
+cast-t10 c = search needs
+
+unless-closed-requires : tie.Need-unless-closed-requires
+unless-closed-requires c κs = search needs
+
+unless-closed-requires-2 : tie.Need-unless-closed-requires-2
+unless-closed-requires-2 c κs = search needs
+
+returns : tie.Need-returns
+unfolding infoOf
+returns c = cc
+
+pub get-info-spec : {M : Type 1} → statement M
+get-info-spec =
+    tie.close
+    (tie.spec
+    bit-if-requires
+    cast-t8
+    available-requires
+    cast-t10
+    unless-closed-requires
+    unless-closed-requires-2
+    returns)

@@ -1,0 +1,10 @@
+use Rattle.port.specs.Signal.{meets}
+use Rattle.endpoint.proofs.has_bit.Statement.{statement}
+use Rattle.endpoint.proofs.has_bit.Tie as tie
+
+returns : tie.Need-returns
+unfolding meets
+returns c = cc
+
+pub has-bit-spec : {M : Type 1} → statement M
+has-bit-spec = tie.close (tie.spec returns)

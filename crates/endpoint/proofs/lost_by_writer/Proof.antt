@@ -1,0 +1,21 @@
+use Rattle.endpoint.specs.Write.{lostByWriter}
+use borrow.Author.Needs.{needs}
+use Rattle.endpoint.proofs.lost_by_writer.Statement.{statement}
+use Rattle.endpoint.proofs.lost_by_writer.Tie as tie
+
+bit-if-requires : tie.Need-bit-if-requires
+bit-if-requires c κs = search needs
+
+is-missed-requires : tie.Need-is-missed-requires
+is-missed-requires c κs = search needs
+
+bit-if-requires-2 : tie.Need-bit-if-requires-2
+bit-if-requires-2 c κs = search needs
+
+returns : tie.Need-returns
+unfolding lostByWriter
+returns c = cc
+
+pub lost-by-writer-spec : {M : Type 1} → statement M
+lost-by-writer-spec =
+    tie.close (tie.spec bit-if-requires is-missed-requires bit-if-requires-2 returns)

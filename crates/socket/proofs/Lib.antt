@@ -1,0 +1,4 @@
+pub mod Steps
+pub mod Sound
+pub mod Moved
+pub mod Calls

@@ -1,0 +1,50 @@
+-- Wait, take and close. 01 "Signal word and packets"; 01 "Delivered bytes", close.
+use Prim.Native.Nat.{ℕ}
+use mathlib.Core.Bool.{Bool, not}
+use lib.ListN.{getD}
+use lib.Dec.{ltb, eqb}
+use Rattle.status.specs.declared.Status.the-variants.{InvalidArgs, NoResources, ShouldWait}
+use Rattle.status.specs.declared.Record.the-variants.{Packet}
+use Rattle.status.specs.declared.Answer.{Answer}
+use Rattle.status.specs.declared.Answer.the-variants.{Done}
+use Rattle.status.specs.Choice.{pick}
+use Rattle.status.specs.Answer.{refuseIf, _then_}
+use Rattle.port.specs.Signal.{WRITABLE, «PEER_CLOSED»}
+use Rattle.port.specs.Table.{free, used, packetsOf, packetOf, waitOf}
+use Rattle.port.specs.Port.{registeredOf, takenOf, droppedOf}
+use Rattle.endpoint.specs.Endpoint.{closedEnd}
+use Rattle.socket.specs.declared.Pair.{Pair}
+use Rattle.socket.specs.Pair.{isOne, own, peer, withEnd, withPlaces, signalChange}
+use Rattle.socket.specs.Tests.{soundTest, openingTest}
+
+-- 01 "Signal word and packets": the edge byte is 0 or 1; −3 means exactly that all 128 places are used
+unfoldable pub waitAnswer : Pair → (h edge : ℕ) → Answer
+waitAnswer p h edge =
+    openingTest p h
+    then refuseIf (ltb 1 edge) InvalidArgs
+    then refuseIf (eqb (used (p .places)) 128) NoResources
+
+-- 01 "Signal word and packets": the wait is tested at once against the end's present word, unless edge is 1
+unfoldable pub waited : Bool → (key mask edge : ℕ) → Pair → Pair
+waited t key mask edge p = withPlaces (registeredOf (waitOf t key mask) (own t p .signals) (eqb edge 1) (p .places)) p
+
+-- 01 "Signal word and packets": the oldest packet, or −22 where there is none
+unfoldable pub takeAnswer : Pair → Answer
+takeAnswer p =
+    soundTest p
+    then refuseIf (eqb (p .places .packets) 0) ShouldWait
+    then Done (Packet (packetOf (getD (packetsOf (p .places)) 0 free)))
+
+-- the pair without its oldest packet, whose place can be used again
+unfoldable pub took : Pair → Pair
+took p = withPlaces (takenOf (p .places)) p
+
+-- 01 "Delivered bytes", close: refused for its record or its handle alone
+unfoldable pub closeAnswer : Pair → (h : ℕ) → Answer
+closeAnswer p h = openingTest p h
+
+-- 01 "Delivered bytes", close: the end's queue and waits vanish, its packets stay; an open peer loses WRITABLE and gains PEER_CLOSED
+unfoldable pub closed : Bool → Pair → Pair
+closed t p =
+    let p₁ = withPlaces (droppedOf t (p .places)) (withEnd t (closedEnd (own t p)) p) in
+    pick (peer t p .closed) p₁ (signalChange (not t) WRITABLE «PEER_CLOSED» p₁)
