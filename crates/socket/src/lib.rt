@@ -17,6 +17,12 @@ mod threshold;
 mod wait;
 mod write;
 
+pub use ends::own;
+pub use ends::peer;
+pub use tests::handle_test;
+pub use tests::slices_test;
+pub use tests::sound_test;
+
 // Both ends of a pair, and the places of its waits and packets. It holds no byte that was written.
 #[repr(C)]
 pub struct Pair {

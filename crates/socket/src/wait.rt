@@ -1,4 +1,4 @@
-// Waits.
+// Waits and their packets.
 use crate::Pair;
 use crate::Step;
 use crate::ends;
@@ -11,7 +11,7 @@ ghost use Prim.Native.Nat.{_<_};
 ghost use Rattle.port.specs.Table.{used};
 ghost use Rattle.socket.specs.Pair.{isOne};
 ghost use Rattle.socket.specs.Tests.{Steps};
-ghost use Rattle.socket.specs.Wait.{waitAnswer, waited};
+ghost use Rattle.socket.specs.Wait.{waitAnswer, waited, takeAnswer, took};
 
 fn wait_answer(p: Pair, handle: u32, edge: u8) -> Answer
     ensures { λ r. ⌜ r ≡ waitAnswer p handle edge ⌝ }
@@ -54,6 +54,32 @@ impl Pair {
         Step {
             pair: waited_pair(self, handle == 1, key, mask, edge),
             answer: a,
+        }
+    }
+    // Takes the oldest packet.
+    pub fn take(self) -> Step
+        ensures { λ r. ⌜ Steps self (takeAnswer self) (took self) r ⌝ }
+    {
+        let a = tests::sound_test(self);
+        if !status::is_done(a) {
+            return Step {
+                pair: self,
+                answer: a,
+            };
+        }
+        if self.places.packets == 0 {
+            return Step {
+                pair: self,
+                answer: Answer::Refused(Status::ShouldWait),
+            };
+        }
+        let places = self.places;
+        let next = places.take();
+        let left = next.places;
+        let answer = next.answer;
+        Step {
+            pair: ends::with_places(self, left),
+            answer,
         }
     }
 }

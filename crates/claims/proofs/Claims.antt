@@ -1,0 +1,27 @@
+-- Each claim by its proof. Assumes nothing.
+use Rattle.claims.specs.Claims.{Claims}
+use Rattle.claims.proofs.Match.{calls-match}
+use Rattle.claims.proofs.Whole.{runs-match, lines-match}
+use Rattle.claims.proofs.Exists.{runs-exist}
+use Rattle.claims.proofs.TwoRuns.{two-runs}
+use Rattle.claims.proofs.Example.{differ}
+use Rattle.claims.proofs.Refused.{refused-changes-nothing}
+use Rattle.claims.proofs.RunsSound.{runs-are-sound}
+use Rattle.claims.proofs.Edges.{at-the-edges}
+use Rattle.claims.proofs.Damaged.{damaged-records, lent-slices}
+
+pub claims : Claims
+claims =
+    record {
+      twoRuns = two-runs;
+      runsExist = runs-exist;
+      example = differ;
+      refused = refused-changes-nothing;
+      sound = runs-are-sound;
+      calls = calls-match;
+      runs = runs-match;
+      lines = lines-match;
+      edges = at-the-edges;
+      damaged = damaged-records;
+      lent = lent-slices;
+    }

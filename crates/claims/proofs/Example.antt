@@ -1,0 +1,29 @@
+-- The run with two memories, by the claim and by computation. Assumes nothing.
+use mathlib.Core.Path.{refl}
+use Rattle.claims.specs.Edges.{datagram, eight}
+use Rattle.claims.specs.Example.{salary, filler, empty, used, outcomesOf, createOf, sourcesOf, Differ}
+use Rattle.claims.specs.Run.{Run}
+use Rattle.claims.proofs.Exists.{runs-exist}
+use Rattle.claims.proofs.TwoRuns.{two-runs}
+
+run-salary : Run (eight datagram) empty empty salary (createOf empty) (outcomesOf empty salary)
+unfolding createOf outcomesOf
+run-salary = runs-exist (eight datagram) empty empty salary
+
+run-filler : Run (eight datagram) used used filler (createOf used) (outcomesOf used filler)
+unfolding createOf outcomesOf
+run-filler = runs-exist (eight datagram) used used filler
+
+pub differ : Differ
+unfolding outcomesOf sourcesOf
+differ =
+    record {
+      run1 = run-salary;
+      run2 = run-filler;
+      alike =
+          two-runs (eight datagram) empty empty used used (record { ring = refl; table = refl }) (record { ring = refl; table = refl }) salary filler refl
+          _ _ _ _ run-salary run-filler;
+      first = refl;
+      second = refl;
+      sources = refl;
+    }

@@ -1,0 +1,94 @@
+-- What a refused create hands back: every call on it is INTERNAL. Assumes nothing.
+use Prim.Native.Nat.{ℕ, suc}
+use mathlib.Core.Path.{_≡_, refl, sym, ap, ap₂, _∙_}
+use mathlib.Core.Bool.{Bool}
+use mathlib.Core.List.{List, [], _∷_, map}
+use mathlib.Core.Option.{Option, some}
+use lib.ListN.{length}
+use Rattle.status.specs.declared.Status.the-variants.{Internal}
+use Rattle.status.specs.declared.Answer.{Answer}
+use Rattle.status.specs.declared.Answer.the-variants.{Refused}
+use Rattle.status.specs.Choice.{_and_}
+use Rattle.status.specs.Answer.{refuseUnless, _then_}
+use Rattle.socket.specs.Pair.{noPair}
+use Rattle.socket.specs.Tests.{soundPair, soundTest, Lent, openingTest}
+use Rattle.socket.specs.Write.{writeAnswer}
+use Rattle.socket.specs.Read.{readAnswer}
+use Rattle.socket.specs.Threshold.{readThresholdAnswer, writeThresholdAnswer, thresholdsAnswer}
+use Rattle.socket.specs.Disposition.{disposeAnswer, shutdownAnswer}
+use Rattle.socket.specs.Info.{infoAnswer}
+use Rattle.socket.specs.Wait.{waitAnswer, takeAnswer, closeAnswer}
+use Rattle.syscall.specs.Write.{userWriteAnswer}
+use Rattle.syscall.specs.Read.{userReadAnswer}
+use Rattle.syscall.specs.Control.{userDisposeAnswer, userShutdownAnswer}
+use Rattle.claims.specs.Calls.{Control, setDisposition, shutdown, plainDisposition, plainShutdown, setReadThreshold, setWriteThreshold, getThresholds, getInfo, wait, takePacket, Call, write, read, plainWrite, plainRead, close, control, Input, Public, public, Slices, State, state, seenOf}
+use Rattle.claims.specs.Answers.{View, view, controlAnswer, answerTo, pairAfter}
+use Rattle.claims.specs.Step.{answerOf, outcome, outcomes}
+use Rattle.claims.specs.Origins.{Origin, Lines, noLines, linesAfter, sourceOf, sourcesFrom}
+use Rattle.claims.specs.TwoRuns.{seen, answers, delivered, calls}
+use Rattle.claims.proofs.Lists.{cons-path}
+use Rattle.claims.proofs.Refused.{pair-stays, lines-stay, no-source, refused-after, refused-delivers}
+
+abbrev no-view : (z1 z2 : Lent) → View
+no-view z1 z2 = record { pair = noPair; one = z1; two = z2 }
+
+control-internal : (z1 z2 : Lent) (c : Control) → controlAnswer (no-view z1 z2) c ≡ Refused Internal
+unfolding controlAnswer noPair soundPair soundTest openingTest refuseUnless _then_ _and_ readThresholdAnswer writeThresholdAnswer thresholdsAnswer disposeAnswer shutdownAnswer infoAnswer waitAnswer takeAnswer userDisposeAnswer userShutdownAnswer
+control-internal z1 z2 (setDisposition h a b) = refl
+control-internal z1 z2 (shutdown h o) = refl
+control-internal z1 z2 (plainDisposition h a b) = refl
+control-internal z1 z2 (plainShutdown h a b) = refl
+control-internal z1 z2 (setReadThreshold h n) = refl
+control-internal z1 z2 (setWriteThreshold h n) = refl
+control-internal z1 z2 (getThresholds h) = refl
+control-internal z1 z2 (getInfo h) = refl
+control-internal z1 z2 (wait h k m x) = refl
+control-internal z1 z2 takePacket = refl
+
+internal : (z1 z2 : Lent) (base size : ℕ) (c : Call) → answerTo (no-view z1 z2) base size c ≡ Refused Internal
+unfolding answerTo noPair soundPair soundTest openingTest refuseUnless _then_ _and_ writeAnswer readAnswer closeAnswer userWriteAnswer userReadAnswer
+internal z1 z2 base size (write h o a n at) = refl
+internal z1 z2 base size (read h o a n at) = refl
+internal z1 z2 base size (plainWrite h) = refl
+internal z1 z2 base size (plainRead h peek) = refl
+internal z1 z2 base size (close h) = refl
+internal z1 z2 base size (control c) = control-internal z1 z2 c
+
+module _ (one two : Slices) where
+  none : State
+  none = state noPair one two
+
+  answer-none : (i : Input) → answerOf none i ≡ Refused Internal
+  unfolding none
+  answer-none i = internal _ _ (i .base) (length (i .memory)) (i .call)
+
+  -- what is seen of each call
+  seen-none : (i : Input) → outcome none i .seen ≡ seenOf (Refused Internal) noPair
+  unfolding none outcome
+  seen-none i =
+      ap (λ (x : Answer). seenOf x (pairAfter (view none) (i .call) x)) (answer-none i)
+      ∙ ap (seenOf (Refused Internal)) (pair-stays (view none) (i .call) Internal)
+
+  pub seen-all : (is : List Input) → seen (outcomes (state noPair one two) is) ≡ map (λ (p : Public). seenOf (Refused Internal) noPair) (map public is)
+  unfolding none outcomes
+  seen-all [] = refl
+  seen-all (i ∷ is) =
+      cons-path (seen-none i) (ap (λ (s : State). seen (outcomes s is)) (refused-after none i Internal (answer-none i)) ∙ seen-all is)
+
+  -- nothing is delivered, and nothing has a source
+  pub origins-all : (f : Origin → Option ℕ) (dg : Bool) (w : ℕ) (is : List Input)
+      → map (map some) (delivered (outcomes (state noPair one two) is))
+      ≡ map (map f) (sourcesFrom dg w noLines (calls is) (answers (outcomes (state noPair one two) is)))
+  unfolding none outcomes sourcesFrom outcome
+  origins-all f dg w [] = refl
+  origins-all f dg w (i ∷ is) =
+      let a = answer-none i in
+      let e = refused-after none i Internal a in
+      let l : linesAfter dg w (i .call) (answerOf none i) noLines ≡ noLines
+      = ap (λ (x : Answer). linesAfter dg w (i .call) x noLines) a ∙ lines-stay dg w (i .call) Internal noLines in
+      cons-path
+      (ap (map some) (refused-delivers none i Internal a)
+      ∙ sym (ap (λ (x : Answer). map f (sourceOf noLines (i .call) x)) a ∙ ap (map f) (no-source noLines (i .call) Internal)))
+      (ap (λ (s : State). map (map some) (delivered (outcomes s is))) e
+      ∙ origins-all f dg (suc w) is
+      ∙ sym (ap₂ (λ (ln : Lines) (s : State). map (map f) (sourcesFrom dg (suc w) ln (calls is) (answers (outcomes s is)))) l e))

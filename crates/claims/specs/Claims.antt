@@ -1,0 +1,28 @@
+-- All that is claimed of runs of calls, as one record. proofs/Claims has its proof.
+use Rattle.claims.specs.Match.{CallsMatch, RunsMatch, RunsExist}
+use Rattle.claims.specs.TwoRuns.{TwoRuns}
+use Rattle.claims.specs.Laws.{RefusedChangesNothing, RunsAreSound}
+use Rattle.claims.specs.Lines.{LinesMatch}
+use Rattle.claims.specs.Edges.{AtTheEdges}
+use Rattle.claims.specs.Example.{Differ}
+use Rattle.claims.specs.Damaged.{DamagedRecords}
+use Rattle.claims.specs.Lends.{LentSlices}
+
+pub record Claims : Type 0 where
+  -- 01 "Two runs": any list of calls, run twice
+  pub twoRuns : TwoRuns
+  -- and that this is said of something: every list of calls has a run, an example
+  pub runsExist : RunsExist
+  pub example : Differ
+  -- 01 "Status and answer word": a refused call changes nothing, and no run leaves a record on which a call is INTERNAL
+  pub refused : RefusedChangesNothing
+  pub sound : RunsAreSound
+  -- a run of the code is the computed one
+  pub calls : CallsMatch
+  pub runs : RunsMatch
+  pub lines : LinesMatch
+  -- 01 "At the edges": P1 to P14
+  pub edges : AtTheEdges
+  -- 01 "Status and answer word": damaged records, short slices and first lengths, create's arguments
+  pub damaged : DamagedRecords
+  pub lent : LentSlices

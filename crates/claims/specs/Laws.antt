@@ -1,0 +1,53 @@
+-- Two laws of all calls: a refused call changes nothing, and no call of a run meets a record that no run leaves.
+-- 01 "Status and answer word".
+use mathlib.Core.Path.{_≡_}
+use mathlib.Core.Bool.{Bool, true, false}
+use mathlib.Core.List.{List, [], _∷_}
+use lib.ListN.{length}
+use lib.Dec.{eqb}
+use Rattle.status.specs.declared.Status.{Status}
+use Rattle.status.specs.declared.Status.the-variants.{Internal}
+use Rattle.status.specs.declared.Answer.the-variants.{Refused}
+use Rattle.status.specs.Answer.{isDone}
+use Rattle.endpoint.specs.Queue.{shortSlices, firstLength, badFirst}
+use Rattle.socket.specs.declared.Step.{Step}
+use Rattle.socket.specs.Pair.{own, newPair, noPair}
+use Rattle.socket.specs.Tests.{soundPair, Steps}
+use Rattle.claims.specs.Calls.{Create, Input, Slices, State, state, ownSlices, Outcome}
+use Rattle.claims.specs.Run.{Does, createdBy}
+
+-- ---- refused calls
+
+pub record Unchanged (s : State) (i : Input) (s′ : State) (o : Outcome) : Type 0 where
+  -- pair, rings and tables
+  pub state : s′ ≡ s
+  pub memory : o .memory ≡ i .memory
+  pub delivers : o .delivered ≡ []
+
+-- of any state, damaged ones and short slices too, and any call of the code
+abbrev pub RefusedChangesNothing : Type 0
+RefusedChangesNothing =
+    (s : State) (i : Input) (s′ : State) (o : Outcome) → Does s i s′ o → (e : Status) → o .seen .answer ≡ Refused e → Unchanged s i s′ o
+
+-- ---- runs
+
+-- the states that a run reaches by a list of calls
+pub data Reaches : State → List Input → State → Type 0 where
+  here : {s : State} → Reaches s [] s
+  by : {s s′ s″ : State} {i : Input} {o : Outcome} {is : List Input} → Does s i s′ o → Reaches s′ is s″ → Reaches s (i ∷ is) s″
+
+-- a state on which the tests of the record, of the slices and of the first lengths are passed, and no call is INTERNAL
+pub record Sound (s : State) : Type 0 where
+  pub sound : soundPair (s .pair) ≡ true
+  pub long : (t : Bool) → shortSlices (s .pair .datagram) (s .pair .capacity) (length (ownSlices t s .ring)) (length (ownSlices t s .table)) ≡ false
+  pub first : (t : Bool) → badFirst (s .pair .datagram) (own t (s .pair) .queue) (firstLength (s .pair .datagram) (own t (s .pair) .queue) (ownSlices t s .table)) ≡ false
+  pub answers : (i : Input) (s′ : State) (o : Outcome) → Does s i s′ o → o .seen .answer ≡ Refused Internal → ⊥
+
+-- from a done create on, every state of every run is so
+abbrev pub RunsAreSound : Type 0
+RunsAreSound =
+    (c : Create) (one two : Slices) (r : Step)
+    → Steps noPair (createdBy c one two) (newPair (eqb (c .kind) 1) (c .capacity) (c .rights1) (c .rights2)) r
+    → isDone (r .answer) ≡ true
+    → (is : List Input) (s : State) → Reaches (state (r .pair) one two) is s
+    → Sound s

@@ -1,0 +1,48 @@
+-- Two runs of one list of calls are alike in all but the bytes, and each byte delivered comes from the same offset of the same write in both.
+-- 01 "Two runs".
+use Prim.Native.Nat.{ℕ}
+use mathlib.Core.Path.{_≡_}
+use mathlib.Core.Bool.{Bool}
+use mathlib.Core.List.{List, map}
+use mathlib.Core.Option.{some}
+use lib.ListN.{length}
+use lib.Dec.{eqb}
+use Rattle.status.specs.declared.Answer.{Answer}
+use Rattle.claims.specs.Calls.{Create, Call, Input, public, Slices, Seen, Outcome}
+use Rattle.claims.specs.Run.{Run}
+use Rattle.claims.specs.Origins.{sources, found}
+
+abbrev pub seen : List Outcome → List Seen
+seen os = map (λ (o : Outcome). o .seen) os
+
+abbrev pub answers : List Outcome → List Answer
+answers os = map (λ (o : Outcome). o .seen .answer) os
+
+abbrev pub delivered : List Outcome → List (List ℕ)
+delivered os = map (λ (o : Outcome). o .delivered) os
+
+abbrev pub calls : List Input → List Call
+calls is = map (λ (i : Input). i .call) is
+
+-- What is claimed of two runs, on the inputs is and js, whose create gave x and y and whose calls gave os and os′:
+pub record Alike (datagram : Bool) (is js : List Input) (x y : Seen) (os os′ : List Outcome) : Type 0 where
+  -- create's answer and pair are the same,
+  pub create : x ≡ y
+  -- after every call the answer, both signal words and the pair are the same,
+  pub same : seen os ≡ seen os′
+  -- and the bytes delivered in each run are those found at the sources, one list of sources for both
+  pub first : map (map some) (delivered os) ≡ map (map (found is)) (sources datagram (calls is) (answers os))
+  pub second : map (map some) (delivered os′) ≡ map (map (found js)) (sources datagram (calls is) (answers os))
+
+pub record SameLengths (l l′ : Slices) : Type 0 where
+  pub ring : length (l .ring) ≡ length (l′ .ring)
+  pub table : length (l .table) ≡ length (l′ .table)
+
+-- Any list of calls, run twice by the code. Create's arguments and the slices' lengths are the same in both runs, and so are the calls, their
+-- arguments, bases and memory lengths. Rings and tables hold anything before create, and memory anything at each call, in each run.
+abbrev pub TwoRuns : Type 0
+TwoRuns =
+    (c : Create) (one two one′ two′ : Slices) → SameLengths one one′ → SameLengths two two′
+    → (is js : List Input) → map public is ≡ map public js
+    → (x y : Seen) (os os′ : List Outcome) → Run c one two is x os → Run c one′ two′ js y os′
+    → Alike (eqb (c .kind) 1) is js x y os os′
