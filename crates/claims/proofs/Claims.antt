@@ -7,7 +7,7 @@ use Rattle.claims.proofs.TwoRuns.{two-runs}
 use Rattle.claims.proofs.Example.{differ}
 use Rattle.claims.proofs.Refused.{refused-changes-nothing}
 use Rattle.claims.proofs.RunsSound.{runs-are-sound}
-use Rattle.claims.proofs.Edges.{at-the-edges}
+use Rattle.claims.proofs.Edges.{at-the-edges, in-order, packets-in-order}
 use Rattle.claims.proofs.Damaged.{damaged-records, lent-slices}
 
 pub claims : Claims
@@ -22,6 +22,8 @@ claims =
       runs = runs-match;
       lines = lines-match;
       edges = at-the-edges;
+      orders = in-order;
+      packets = packets-in-order;
       damaged = damaged-records;
       lent = lent-slices;
     }

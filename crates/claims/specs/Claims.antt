@@ -4,6 +4,8 @@ use Rattle.claims.specs.TwoRuns.{TwoRuns}
 use Rattle.claims.specs.Laws.{RefusedChangesNothing, RunsAreSound}
 use Rattle.claims.specs.Lines.{LinesMatch}
 use Rattle.claims.specs.Edges.{AtTheEdges}
+use Rattle.claims.specs.Orders.{Orders}
+use Rattle.claims.specs.Packets.{Packets}
 use Rattle.claims.specs.Example.{Differ}
 use Rattle.claims.specs.Damaged.{DamagedRecords}
 use Rattle.claims.specs.Lends.{LentSlices}
@@ -23,6 +25,9 @@ pub record Claims : Type 0 where
   pub lines : LinesMatch
   -- 01 "At the edges": P1 to P14
   pub edges : AtTheEdges
+  -- beside them: orders of tests and of packets, rights, thresholds, info, memory at exit
+  pub orders : Orders
+  pub packets : Packets
   -- 01 "Status and answer word": damaged records, short slices and first lengths, create's arguments
   pub damaged : DamagedRecords
   pub lent : LentSlices

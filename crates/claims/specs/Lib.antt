@@ -5,6 +5,7 @@
 --   Laws       01 "Status and answer word": a refused call changes nothing, no call of a run is INTERNAL
 --   Match      a run of the code is the computed one. Answers, Step: one call, computed
 --   Edges      01 "At the edges": P1 to P14. Lines: what a line of the listing shows
+--   Orders     cases beside them; Packets: those of waits and packets
 --   Damaged    01 "Status and answer word": damaged records. Lends: short slices, first lengths, create's arguments
 pub mod Calls
 pub mod Run
@@ -16,6 +17,8 @@ pub mod TwoRuns
 pub mod Laws
 pub mod Lines
 pub mod Edges
+pub mod Orders
+pub mod Packets
 pub mod Example
 pub mod Damaged
 pub mod Lends

@@ -1,0 +1,66 @@
+//! Compares the oracle with a program on many scripts. Prints the first
+//! difference with a small script that shows it, and counts.
+
+use differential::compare::{compare, Difference, Program};
+use differential::source::{Source, USAGE};
+use differential::text;
+use std::process::ExitCode;
+use std::time::Instant;
+
+/// Where `rt` links the program, from this package's folder.
+const PROGRAM: &str = "../../target/bin/socket_script";
+
+fn main() -> ExitCode {
+    let words: Vec<String> = std::env::args().skip(1).collect();
+    match run(words) {
+        Ok(code) => code,
+        Err(what) => {
+            eprintln!("{what}");
+            eprintln!("usage: compare [--workers N] SCRIPTS [-- PROGRAM [ARGUMENT...]]");
+            eprintln!("scripts: {USAGE}");
+            eprintln!("program: {PROGRAM} unless given");
+            ExitCode::from(2)
+        }
+    }
+}
+
+fn run(mut words: Vec<String>) -> Result<ExitCode, String> {
+    let mut program = vec![PROGRAM.to_string()];
+    if let Some(place) = words.iter().position(|word| word == "--") {
+        program = words.split_off(place).split_off(1);
+    }
+    let mut workers = 2;
+    if words.first().is_some_and(|word| word == "--workers") {
+        let number = words.get(1).and_then(|word| word.parse().ok());
+        workers = number.ok_or("--workers takes a number")?;
+        words.drain(..2);
+    }
+    if program.is_empty() {
+        return Err("no program after --".to_string());
+    }
+    let source = Source::parse(&words)?;
+    let start = Instant::now();
+    let (tally, difference) = compare(&source, &Program::new(program), workers);
+    let seconds = start.elapsed().as_secs_f64();
+    print!("{tally}");
+    println!("{:.1} s, {:.0} scripts a second", seconds, tally.scripts as f64 / seconds);
+    match difference {
+        None => {
+            println!("no difference");
+            Ok(ExitCode::SUCCESS)
+        }
+        Some(difference) => {
+            show(&difference);
+            Ok(ExitCode::FAILURE)
+        }
+    }
+}
+
+fn show(difference: &Difference) {
+    let (line, expected, found) = difference.line();
+    println!("script {} differs; cut down:", difference.number);
+    print!("{}", text::decode(&difference.script));
+    println!("line {} of the listing:", line + 1);
+    println!("oracle:  {expected}");
+    println!("program: {found}");
+}

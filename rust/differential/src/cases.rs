@@ -1,0 +1,36 @@
+//! The named scripts of cases.txt, with what document 01 says of their lines.
+
+use crate::text;
+
+const TEXT: &str = include_str!("../cases.txt");
+
+pub struct Case {
+    pub name: String,
+    pub script: Vec<u8>,
+    /// Numbers of records and how their lines go on after the number.
+    pub lines: Vec<(usize, String)>,
+}
+
+/// All cases, in order.
+pub fn cases() -> Vec<Case> {
+    TEXT.split("\n== ").skip(1).map(case).collect()
+}
+
+fn case(section: &str) -> Case {
+    let (name, body) = section.split_once('\n').expect("a case has lines");
+    let mut records = 0;
+    let mut script = String::new();
+    let mut lines = Vec::new();
+    for line in body.lines().filter(|line| !line.is_empty() && !line.starts_with('#')) {
+        match line.strip_prefix("> ") {
+            Some(rest) => lines.push((records - 1, rest.to_string())),
+            None => {
+                records += 1;
+                script.push_str(line);
+                script.push('\n');
+            }
+        }
+    }
+    let script = text::encode(&script).unwrap_or_else(|what| panic!("case {name}: {what}"));
+    Case { name: name.to_string(), script, lines }
+}

@@ -1,0 +1,1 @@
+// Clocks are not part of the comparison.

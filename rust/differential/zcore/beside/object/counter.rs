@@ -1,0 +1,1 @@
+// Counters are not part of the comparison.
