@@ -1,7 +1,8 @@
 -- What is claimed, and what it is said with:
 --   Claims     all of it as one record
 --   TwoRuns    01 "Two runs": any list of calls, run twice. Calls: the calls, what each finds and gives; Run: a run of the code, by the
---              functions' contracts; Origins: the lines of origins. Example: one run with two memories
+--              functions' contracts; Code: that these are the contracts, by src/code.rt; Origins: the lines of origins. Example: one run with
+--              two memories
 --   Laws       01 "Status and answer word": a refused call changes nothing, no call of a run is INTERNAL
 --   Match      a run of the code is the computed one. Answers, Step: one call, computed
 --   Edges      01 "At the edges": P1 to P14. Lines: what a line of the listing shows
@@ -9,6 +10,7 @@
 --   Damaged    01 "Status and answer word": damaged records. Lends: short slices, first lengths, create's arguments
 pub mod Calls
 pub mod Run
+pub mod Code
 pub mod Answers
 pub mod Step
 pub mod Match

@@ -1,0 +1,36 @@
+-- What the functions of src/code.rt ensure: what a call of the code gives is a step of `Does`, on every state that has its pair and the slices
+-- that it is lent. The rest of the state is any. That `Does` has no other step for it is `CallsMatch`. 01 "Two runs".
+use Prim.Native.Nat.{ℕ}
+use mathlib.Core.Path.{_≡_}
+use mathlib.Core.List.{List, []}
+use Rattle.socket.specs.declared.Pair.{Pair}
+use Rattle.socket.specs.declared.Step.{Step}
+use Rattle.socket.specs.Pair.{isOne}
+use Rattle.claims.specs.Calls.{Create, Call, Input, input, Slices, state, ownSlices, peerSlices, withPair, withPeer, seenOf, Outcome, gives}
+use Rattle.claims.specs.Run.{Does, Calls, Run}
+
+abbrev pub slicesOf : (ring table : List ℕ) → Slices
+slicesOf ring table = record { ring = ring; table = table }
+
+-- a call that is lent no slice and looks at no memory
+abbrev pub StepOf : Pair → Call → Step → Type 0
+StepOf p call r =
+    (one two : Slices) (base : ℕ) (memory : List ℕ)
+    → Does (state p one two) (input call base memory) (withPair (r .pair) (state p one two)) (gives r [] memory)
+
+-- a call by handle h that is lent its own slices, and leaves them as they are
+abbrev pub OwnLent : Pair → (h : ℕ) → (lent : Slices) → Input → Step → (delivered memory : List ℕ) → Type 0
+OwnLent p h lent i r delivered memory =
+    (one two : Slices) → ownSlices (isOne h) (state p one two) ≡ lent
+    → Does (state p one two) i (withPair (r .pair) (state p one two)) (gives r delivered memory)
+
+-- a call by handle h that is lent the peer's slices, and leaves them as `left`
+abbrev pub PeerLent : Pair → (h : ℕ) → (lent left : Slices) → Input → Step → (memory : List ℕ) → Type 0
+PeerLent p h lent left i r memory =
+    (one two : Slices) → peerSlices (isOne h) (state p one two) ≡ lent
+    → Does (state p one two) i (withPeer (isOne h) (r .pair) left (state p one two)) (gives r [] memory)
+
+-- create: a run begins with its answer and its pair, whatever calls follow
+abbrev pub Starts : Create → (one two : Slices) → Step → Type 0
+Starts c one two r =
+    (is : List Input) (os : List Outcome) → Calls (state (r .pair) one two) is os → Run c one two is (seenOf (r .answer) (r .pair)) os

@@ -1,0 +1,112 @@
+-- One turn. Assumes nothing.
+use Prim.Native.Nat.{ℕ, _+_, _-_, _≤_}
+use native.Mathlib.Omega.{arith}
+use mathlib.Core.Path.{_≡_, refl, sym, ap, _∙_, subst}
+use mathlib.Core.Bool.{Bool, true, false}
+use mathlib.Core.List.{List}
+use lib.ListN.{length, take, drop, length-drop}
+use lib.Seq.{take-all, drop-drop, length-take-le}
+use Rattle.text.proofs.Place.{nothing, upTo, same}
+use Rattle.text.specs.Put.{Fit}
+use Rattle.socket.specs.declared.Pair.{Pair}
+use Rattle.socket.specs.declared.Step.{Step}
+use Rattle.socket.specs.Pair.{shownBy}
+use Rattle.script.specs.declared.State.{State}
+use Rattle.script.specs.declared.turn.Stepped.{Stepped}
+use Rattle.script.specs.declared.turn.Turned.{Turned}
+use Rattle.script.specs.declared.record.Decoded.{Decoded}
+use Rattle.script.specs.Record.{recordOf}
+use Rattle.script.specs.Line.{LINE, lineOf}
+use Rattle.script.specs.Call.{Rings, callOf, delivered, settled, CallDone}
+use Rattle.script.specs.Machine.{Machine, machine, Move, stay, halt, go, isLast, steppedState, stepped, calledLine, stepLine}
+use Rattle.script.specs.Turn.{machineAfter, textOf, takenBy, goesOn, StepDone, StopDone, TurnDone}
+
+-- the part of a list from a place to its end
+pub part-all : (from : ℕ) (l : List ℕ) → from ≤ length l → take (length l - from) (drop from l) ≡ drop from l
+part-all from l h = take-all (length l - from) (drop from l) (simp length-drop (omega arith))
+
+pub record-at : (from : ℕ) (l : List ℕ) (r q : Decoded) → from ≤ length l → r ≡ recordOf (take (length l - from) (drop from l)) → r ≡ q
+    → recordOf (drop from l) ≡ q
+record-at from l r q h e f = ap recordOf (sym (part-all from l h)) ∙ sym e ∙ f
+
+pub body-at : (from n : ℕ) (l : List ℕ) → take (from + 3 + n - (from + 3)) (drop (from + 3) l) ≡ take n (drop 3 (drop from l))
+body-at from n l =
+    let e : from + 3 + n - (from + 3) ≡ n = omega arith in
+    ap (λ (k : ℕ). take k (drop (from + 3) l)) e ∙ ap (λ (z : List ℕ). take n z) (sym (drop-drop 3 from l))
+
+module _ (m : Machine) (mv : Move) (offset from at : ℕ) (out : List ℕ) where
+  pub turn-stay : mv ≡ stay
+      → TurnDone m mv offset from at (m .memory) (m .lent) out out (record { state = m .state; from = from; at = at; more = false })
+  unfolding machineAfter textOf takenBy goesOn
+  turn-stay e =
+      subst (λ (v : Move). TurnDone m v offset from at (m .memory) (m .lent) out out (record { state = m .state; from = from; at = at; more = false })) (sym e)
+      (record { state = refl; memory = refl; lent = refl; next = omega arith; more = refl; text = nothing LINE at out })
+
+  pub turn-stop : (out′ : List ℕ) (r : Turned) → mv ≡ halt → StopDone (m .state) offset from at out out′ r
+      → TurnDone m mv offset from at (m .memory) (m .lent) out out′ r
+  unfolding machineAfter textOf takenBy goesOn
+  turn-stop out′ r e h =
+      subst (λ (v : Move). TurnDone m v offset from at (m .memory) (m .lent) out out′ r) (sym e)
+      (record {
+        state = h .state;
+        memory = refl;
+        lent = refl;
+        next = h .next ∙ (let z : from ≡ from + 0 = omega arith in z);
+        more = h .more;
+        text = upTo LINE (omega arith) (h .text);
+      })
+
+  pub turn-step : (tag n : ℕ) (body body′ memory′ : List ℕ) (z′ : Rings) (out′ : List ℕ) (q : Stepped)
+      → mv ≡ go (stepped m tag body′) (stepLine m tag body′) (3 + n) → body ≡ body′ → StepDone m tag body at memory′ z′ out out′ q
+      → TurnDone m mv offset from at memory′ z′ out out′ (record { state = q .state; from = from + 3 + n; at = q .at; more = true })
+  unfolding machineAfter textOf takenBy goesOn
+  turn-step tag n body body′ memory′ z′ out′ q e b d =
+      let f : StepDone m tag body′ at memory′ z′ out out′ q = subst (λ (x : List ℕ). StepDone m tag x at memory′ z′ out out′ q) b d in
+      subst (λ (v : Move). TurnDone m v offset from at memory′ z′ out out′ (record { state = q .state; from = from + 3 + n; at = q .at; more = true })) (sym e)
+      (record {
+        state = f .state;
+        memory = f .memory;
+        lent = f .lent;
+        next = (let z : from + 3 + n ≡ from + (3 + n) = omega arith in z);
+        more = refl;
+        text = f .text;
+      })
+
+-- ---- one step
+
+abbrev pub mkState : Pair → ℕ → Bool → State
+mkState p number ended = record { pair = p; number = number; ended = ended }
+
+module _ (st : State) (tag at to : ℕ) (b memory memory₁ memory₂ out out′ : List ℕ) (z z₁ : Rings) (s : Step) (last : Bool)
+    (w : CallDone (callOf memory z (st .pair) tag b) memory₁ z₁ s) (f : Fit LINE at (lineOf (st .number) (s .answer) (shownBy (s .pair) 1) (shownBy (s .pair) 2) (delivered tag b (s .answer) memory₁)) to out out′)
+    (l : memory₂ ≡ settled tag b (s .answer) memory₁) (i : last ≡ isLast tag (s .answer)) where
+  step-state : mkState (s .pair) (st .number + 1) last ≡ steppedState st tag (callOf memory z (st .pair) tag b)
+  unfolding steppedState
+  step-state =
+      ap (λ (x : Bool). mkState (s .pair) (st .number + 1) x) i
+      ∙ ap (λ (x : Step). mkState (x .pair) (st .number + 1) (isLast tag (x .answer))) (w .step)
+
+  step-memory : memory₂ ≡ settled tag b (callOf memory z (st .pair) tag b .step .answer) (callOf memory z (st .pair) tag b .memory)
+  step-memory =
+      l ∙ ap (λ (x : Step). settled tag b (x .answer) memory₁) (w .step)
+      ∙ ap (λ (x : List ℕ). settled tag b (callOf memory z (st .pair) tag b .step .answer) x) (w .memory)
+
+  step-text : lineOf (st .number) (s .answer) (shownBy (s .pair) 1) (shownBy (s .pair) 2) (delivered tag b (s .answer) memory₁)
+      ≡ calledLine (st .number) tag b (callOf memory z (st .pair) tag b)
+  unfolding calledLine
+  step-text =
+      ap (λ (x : Step). lineOf (st .number) (x .answer) (shownBy (x .pair) 1) (shownBy (x .pair) 2) (delivered tag b (x .answer) memory₁)) (w .step)
+      ∙ ap (λ (x : List ℕ).
+      lineOf (st .number) (callOf memory z (st .pair) tag b .step .answer) (shownBy (callOf memory z (st .pair) tag b .step .pair) 1)
+      (shownBy (callOf memory z (st .pair) tag b .step .pair) 2)
+      (delivered tag b (callOf memory z (st .pair) tag b .step .answer) x))
+      (w .memory)
+
+  pub step-done : StepDone (machine st memory z) tag b at memory₂ z₁ out out′ (record { state = mkState (s .pair) (st .number + 1) last; at = to })
+  unfolding stepped stepLine
+  step-done = record { state = step-state; memory = step-memory; lent = w .lent; text = same _ step-text f }
+
+pub body-length : (from n : ℕ) (l : List ℕ) → from + 3 + n ≤ length l → length (take (from + 3 + n - (from + 3)) (drop (from + 3) l)) ≡ n
+body-length from n l h =
+    let e : from + 3 + n - (from + 3) ≡ n = omega arith in
+    ap (λ (k : ℕ). length (take k (drop (from + 3) l))) e ∙ length-take-le n (drop (from + 3) l) (omega (arith, length-drop (from + 3) l))

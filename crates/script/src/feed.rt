@@ -1,0 +1,175 @@
+// A script is fed in blocks: the header, blocks of any size, the end of the input.
+use crate::State;
+use crate::turn;
+use socket::Pair;
+ghost use Prim.Native.Nat.{_+_, _-_, _≤_, _<_};
+ghost use mathlib.Core.Path.{_≡_};
+ghost use mathlib.Core.Bool.{true};
+ghost use lib.ListN.{length};
+ghost use Rattle.text.specs.Put.{Written};
+ghost use Rattle.script.specs.Call.{rings};
+ghost use Rattle.script.specs.Machine.{startState};
+ghost use Rattle.script.specs.Listing.{closing};
+ghost use Rattle.script.specs.Listing.{header as Listing·header};
+ghost use Rattle.script.specs.Feed.{isReady, FeedDone, moved, shifted};
+
+// After a block: the state, how many bytes of the input are done with, and how many of the output are written.
+pub struct Fed {
+    pub state: State,
+    pub taken: usize,
+    pub written: usize,
+}
+
+// The first line of every listing.
+pub fn header(out: &mut [u8]) -> usize
+    ensures { λ r. ⌜ Written 22 0 Listing·header r (now (out .entry)) (now (out .exit)) ⌝ }
+{
+    text::copy(out, 0, b"record word end1 end2\n")
+}
+
+// No record has been run. The pair is what a refused create hands back.
+pub fn start() -> State
+    ensures { λ r. ⌜ r ≡ startState ⌝ }
+{
+    let ring = [0u8; 1];
+    let table = [0u32; 1];
+    let s = Pair::create(0, 0, 0, 0, &ring, &table, &ring, &table);
+    let pair = s.pair;
+    State {
+        pair,
+        number: 0,
+        ended: false,
+    }
+}
+
+fn is_ready(st: State, offset: u64, input: usize, memory: usize) -> bool
+    ensures { λ r. ⌜ r ≡ isReady st offset input memory ⌝ }
+{
+    if st.number > 4611686018427387904 {
+        return false;
+    }
+    if offset > 4611686018427387904 {
+        return false;
+    }
+    if input > 4611686018427387904 {
+        return false;
+    }
+    memory <= 4096
+}
+
+// Moves as long as there is one to make and room for its line.
+fn feed_ready(
+    st: State,
+    offset: u64,
+    input: &[u8],
+    memory: &mut [u8],
+    ring_one: &mut [u8],
+    table_one: &mut [u32],
+    ring_two: &mut [u8],
+    table_two: &mut [u32],
+    out: &mut [u8],
+) -> Fed
+    requires { ⌜ isReady st offset (length (now input)) (length (now memory)) ≡ true ⌝ }
+    ensures { λ r. ⌜ FeedDone st offset (now (input .entry)) (now (memory .entry)) (now (memory .exit)) (rings (now («ring_one» .entry)) (now («table_one» .entry)) (now («ring_two» .entry)) (now («table_two» .entry))) (rings (now («ring_one» .exit)) (now («table_one» .exit)) (now («ring_two» .exit)) (now («table_two» .exit))) (now (out .entry)) (now (out .exit)) r ⌝ }
+{
+    let mut s = st;
+    let mut from: usize = 0;
+    let mut at: usize = 0;
+    let mut more = true;
+    while more && out.len() - at >= 8254 {
+        let t = turn::turn(
+            s,
+            offset,
+            input,
+            from,
+            memory,
+            ring_one,
+            table_one,
+            ring_two,
+            table_two,
+            out,
+            at,
+        );
+        s = t.state;
+        from = t.from;
+        at = t.at;
+        more = t.more;
+    }
+    Fed {
+        state: s,
+        taken: from,
+        written: at,
+    }
+}
+
+// Feeds a block, of which `offset` bytes came before. The caller puts out the text, and feeds again from the first byte that is not done with: at once
+// if there was text, else with more bytes behind.
+pub fn feed(
+    st: State,
+    offset: u64,
+    input: &[u8],
+    memory: &mut [u8],
+    ring_one: &mut [u8],
+    table_one: &mut [u32],
+    ring_two: &mut [u8],
+    table_two: &mut [u32],
+    out: &mut [u8],
+) -> Fed
+    ensures { λ r. ⌜ FeedDone st offset (now (input .entry)) (now (memory .entry)) (now (memory .exit)) (rings (now («ring_one» .entry)) (now («table_one» .entry)) (now («ring_two» .entry)) (now («table_two» .entry))) (rings (now («ring_one» .exit)) (now («table_one» .exit)) (now («ring_two» .exit)) (now («table_two» .exit))) (now (out .entry)) (now (out .exit)) r ⌝ }
+{
+    if is_ready(st, offset, input.len(), memory.len()) {
+        return feed_ready(
+            st,
+            offset,
+            input,
+            memory,
+            ring_one,
+            table_one,
+            ring_two,
+            table_two,
+            out,
+        );
+    }
+    Fed {
+        state: st,
+        taken: 0,
+        written: 0,
+    }
+}
+
+// The end of the input: bytes that are left are a record that is cut.
+pub fn finish(st: State, offset: u64, left: &[u8], out: &mut [u8]) -> usize
+    ensures { λ r. ⌜ Written 26 0 (closing offset (st .ended) (now (left .entry))) r (now (out .entry)) (now (out .exit)) ⌝ }
+{
+    if left.len() == 0 {
+        return 0;
+    }
+    if st.ended {
+        return 0;
+    }
+    text::stop(out, 0, offset)
+}
+
+fn move_front(buffer: &mut [u8], from: usize, n: usize)
+    requires { ⌜ from + n ≤ length (now buffer) ⌝ }
+    ensures { λ _. ⌜ now (buffer .exit) ≡ moved from n (now (buffer .entry)) ⌝ }
+{
+    let mut i = 0;
+    while i < n {
+        buffer[i] = buffer[from + i];
+        i += 1;
+    }
+}
+
+// Moves the bytes from one place to another to the front.
+pub fn shift(buffer: &mut [u8], from: usize, to: usize)
+    ensures { λ _. ⌜ now (buffer .exit) ≡ shifted from to (now (buffer .entry)) ⌝ }
+{
+    if to < from {
+        return;
+    }
+    if buffer.len() < to {
+        return;
+    }
+    move_front(buffer, from, to - from);
+}

@@ -1,0 +1,49 @@
+use borrow.Author.Needs.{needs}
+use native.Mathlib.Omega.{arith}
+use Rattle.socket_script.proofs.close.Statement.{statement}
+use Rattle.socket_script.proofs.close.Tie as tie
+
+sub-finish : tie.Need-sub-finish
+sub-finish c = search needs
+
+part-finish-start : tie.Need-part-finish-start
+part-finish-start c = search needs
+
+part-finish-end : tie.Need-part-finish-end
+part-finish-end c = search needs
+
+finish-requires : tie.Need-finish-requires
+finish-requires c κs = search needs
+
+sub-write-all : tie.Need-sub-write-all
+sub-write-all c = search needs
+
+part-write-all-start : tie.Need-part-write-all-start
+part-write-all-start c = search needs
+
+part-write-all-end : tie.Need-part-write-all-end
+part-write-all-end c = let p = c .before .before .before .finish .ensures .fit .put (c .before .before .before .before .before .before .before .before .pre .1) in omega (arith, p .fits, c .before .before .before .finish .kept .1 .1 .1 .0)
+
+write-all-requires : tie.Need-write-all-requires
+write-all-requires c κs = search needs
+
+same-length : tie.Need-same-length
+same-length c = search needs
+
+returns : tie.Need-returns
+returns c = search needs
+
+pub close-spec : {M : Type 1} → statement M
+close-spec =
+    tie.close
+    (tie.spec
+    sub-finish
+    part-finish-start
+    part-finish-end
+    finish-requires
+    sub-write-all
+    part-write-all-start
+    part-write-all-end
+    write-all-requires
+    same-length
+    returns)

@@ -1,0 +1,26 @@
+-- The text of an answer's word. Assumes nothing.
+use mathlib.Core.Path.{_≡_, refl}
+use mathlib.Core.List.{_∷_}
+use Rattle.status.specs.declared.Status.{Status}
+use Rattle.status.specs.declared.Status.the-variants.{Internal, NoResources, InvalidArgs, BadHandle, OutOfRange, BadState, ShouldWait, PeerClosed, AccessDenied}
+use Rattle.status.specs.declared.Record.{Record}
+use Rattle.status.specs.declared.Answer.the-variants.{Done, Refused}
+use Rattle.status.specs.Answer.{statusNumber, answerWord, countOf}
+use Rattle.text.specs.Digits.{decimalOf}
+use Rattle.text.specs.Answer.{signedOf, wordOf}
+
+pub done-word : (d : Record) → decimalOf (countOf (Done d)) ≡ wordOf (Done d)
+unfolding wordOf signedOf answerWord countOf
+done-word d = refl
+
+pub refused-word : (s : Status) → (45 ∷ decimalOf (statusNumber s)) ≡ wordOf (Refused s)
+unfolding wordOf signedOf answerWord statusNumber
+refused-word Internal = refl
+refused-word NoResources = refl
+refused-word InvalidArgs = refl
+refused-word BadHandle = refl
+refused-word OutOfRange = refl
+refused-word BadState = refl
+refused-word ShouldWait = refl
+refused-word PeerClosed = refl
+refused-word AccessDenied = refl

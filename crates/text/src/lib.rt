@@ -1,0 +1,254 @@
+// Numbers and bytes as text, put into a lent slice at a place. Each public writer gives the place behind its text; where the slice has no room
+// for the most that the writer could put, it puts nothing and gives its place back.
+use status::Answer;
+use status::Status;
+ghost use Prim.Native.Nat.{_+_, _*_, _≤_, _<_};
+ghost use mathlib.Core.Path.{_≡_};
+ghost use mathlib.Core.List.{[], _∷_};
+ghost use lib.ListN.{length};
+ghost use Rattle.status.specs.Answer.{statusNumber};
+ghost use Rattle.text.specs.Put.{place, Put, Fit, Written, Room};
+ghost use Rattle.text.specs.Digits.{digitOf, digitsOf, widthOf, decimalOf, hexOf, hexBytesOf};
+ghost use Rattle.text.specs.Answer.{wordOf, stopOf};
+
+// Whether k bytes have room at a place of a slice that is so long.
+pub fn has_room(len: usize, at: usize, k: usize) -> bool
+    ensures { λ r. ⌜ Room len at k r ⌝ }
+{
+    if len < k {
+        return false;
+    }
+    at <= len - k
+}
+
+pub fn byte(out: &mut [u8], at: usize, b: u8) -> usize
+    ensures { λ r. ⌜ Written 1 at (b ∷ []) r (now (out .entry)) (now (out .exit)) ⌝ }
+{
+    if has_room(out.len(), at, 1) {
+        out[at] = b;
+        return at + 1;
+    }
+    at
+}
+
+fn copy_in(out: &mut [u8], at: usize, src: &[u8])
+    requires { ⌜ at + length (now src) ≤ length (now out) ⌝ }
+    ensures { λ _. ⌜ now (out .exit) ≡ place at (now (src .entry)) (now (out .entry)) ⌝ }
+{
+    let n = src.len();
+    let mut i = 0;
+    while i < n {
+        out[at + i] = src[i];
+        i += 1;
+    }
+}
+
+// Bytes as they are.
+pub fn copy(out: &mut [u8], at: usize, src: &[u8]) -> usize
+    ensures { λ r. ⌜ Written (length (now (src .entry))) at (now (src .entry)) r (now (out .entry)) (now (out .exit)) ⌝ }
+{
+    if has_room(out.len(), at, src.len()) {
+        copy_in(out, at, src);
+        return at + src.len();
+    }
+    at
+}
+
+fn digit(d: u64) -> u8
+    requires { ⌜ d < 16 ⌝ }
+    ensures { λ r. ⌜ r ≡ digitOf d ⌝ }
+{
+    if d < 10 { 48 + d as u8 } else { 87 + d as u8 }
+}
+
+// How many decimal digits a number has.
+fn width(n: u64) -> usize
+    ensures { λ r. ⌜ r ≡ widthOf n ⌝ }
+{
+    if n < 10 {
+        return 1;
+    }
+    if n < 100 {
+        return 2;
+    }
+    if n < 1000 {
+        return 3;
+    }
+    if n < 10000 {
+        return 4;
+    }
+    if n < 100000 {
+        return 5;
+    }
+    if n < 1000000 {
+        return 6;
+    }
+    if n < 10000000 {
+        return 7;
+    }
+    if n < 100000000 {
+        return 8;
+    }
+    if n < 1000000000 {
+        return 9;
+    }
+    if n < 10000000000 {
+        return 10;
+    }
+    if n < 100000000000 {
+        return 11;
+    }
+    if n < 1000000000000 {
+        return 12;
+    }
+    if n < 10000000000000 {
+        return 13;
+    }
+    if n < 100000000000000 {
+        return 14;
+    }
+    if n < 1000000000000000 {
+        return 15;
+    }
+    if n < 10000000000000000 {
+        return 16;
+    }
+    if n < 100000000000000000 {
+        return 17;
+    }
+    if n < 1000000000000000000 {
+        return 18;
+    }
+    if n < 10000000000000000000 {
+        return 19;
+    }
+    20
+}
+
+fn put_decimal(out: &mut [u8], at: usize, k: usize, n: u64)
+    requires { ⌜ at + k ≤ length (now out) ⌝ }
+    ensures { λ _. ⌜ now (out .exit) ≡ place at (digitsOf 10 k n []) (now (out .entry)) ⌝ }
+{
+    let mut i = k;
+    let mut rest = n;
+    while i > 0 {
+        i -= 1;
+        out[at + i] = digit(rest % 10);
+        rest /= 10;
+    }
+}
+
+fn put_hex(out: &mut [u8], at: usize, k: usize, n: u64)
+    requires { ⌜ at + k ≤ length (now out) ⌝ }
+    ensures { λ _. ⌜ now (out .exit) ≡ place at (digitsOf 16 k n []) (now (out .entry)) ⌝ }
+{
+    let mut i = k;
+    let mut rest = n;
+    while i > 0 {
+        i -= 1;
+        out[at + i] = digit(rest % 16);
+        rest /= 16;
+    }
+}
+
+// A number in decimal. It asks for the room of the longest.
+pub fn decimal(out: &mut [u8], at: usize, n: u64) -> usize
+    ensures { λ r. ⌜ Written 20 at (decimalOf n) r (now (out .entry)) (now (out .exit)) ⌝ }
+{
+    if has_room(out.len(), at, 20) {
+        let k = width(n);
+        put_decimal(out, at, k, n);
+        return at + k;
+    }
+    at
+}
+
+// The last k hexadecimal digits of a number, in lower case.
+pub fn hex(out: &mut [u8], at: usize, k: usize, n: u64) -> usize
+    ensures { λ r. ⌜ Written k at (hexOf k n) r (now (out .entry)) (now (out .exit)) ⌝ }
+{
+    if has_room(out.len(), at, k) {
+        put_hex(out, at, k, n);
+        return at + k;
+    }
+    at
+}
+
+fn put_hex_bytes(out: &mut [u8], at: usize, src: &[u8]) -> usize
+    requires { ⌜ at + 2 * length (now src) ≤ length (now out) ⌝ }
+    ensures { λ r. ⌜ Put (2 * length (now (src .entry))) at (hexBytesOf (now (src .entry))) r (now (out .entry)) (now (out .exit)) ⌝ }
+{
+    let mut i = 0;
+    let mut to = at;
+    while i < src.len() {
+        let b = src[i] as u64;
+        out[to] = digit(b / 16);
+        out[to + 1] = digit(b % 16);
+        to += 2;
+        i += 1;
+    }
+    to
+}
+
+// Bytes, two hexadecimal digits each.
+pub fn hex_bytes(out: &mut [u8], at: usize, src: &[u8]) -> usize
+    ensures { λ r. ⌜ Written (2 * length (now (src .entry))) at (hexBytesOf (now (src .entry))) r (now (out .entry)) (now (out .exit)) ⌝ }
+{
+    if out.len() / 2 < src.len() {
+        return at;
+    }
+    if has_room(out.len(), at, 2 * src.len()) {
+        return put_hex_bytes(out, at, src);
+    }
+    at
+}
+
+// A status' number without its sign.
+fn status_number(s: Status) -> u64
+    ensures { λ r. ⌜ r ≡ statusNumber s ⌝ }
+{
+    match s {
+        Status::Internal => 1,
+        Status::NoResources => 3,
+        Status::InvalidArgs => 10,
+        Status::BadHandle => 11,
+        Status::OutOfRange => 14,
+        Status::BadState => 20,
+        Status::ShouldWait => 22,
+        Status::PeerClosed => 24,
+        Status::AccessDenied => 30,
+    }
+}
+
+fn negative(out: &mut [u8], at: usize, n: u64) -> usize
+    ensures { λ r. ⌜ Fit 21 at (45 ∷ decimalOf n) r (now (out .entry)) (now (out .exit)) ⌝ }
+{
+    let to = byte(out, at, b'-');
+    decimal(out, to, n)
+}
+
+// An answer's word: the count, or the status with its sign.
+pub fn word(out: &mut [u8], at: usize, a: Answer) -> usize
+    ensures { λ r. ⌜ Written 21 at (wordOf a) r (now (out .entry)) (now (out .exit)) ⌝ }
+{
+    if has_room(out.len(), at, 21) {
+        match a {
+            Answer::Done(_) => decimal(out, at, status::count_of(a) as u64),
+            Answer::Refused(s) => negative(out, at, status_number(s)),
+        }
+    } else {
+        at
+    }
+}
+
+// The line that ends a script at a byte.
+pub fn stop(out: &mut [u8], at: usize, n: u64) -> usize
+    ensures { λ r. ⌜ Written 26 at (stopOf n) r (now (out .entry)) (now (out .exit)) ⌝ }
+{
+    if has_room(out.len(), at, 26) {
+        let a = copy(out, at, b"stop ");
+        let b = decimal(out, a, n);
+        return byte(out, b, b'\n');
+    }
+    at
+}
