@@ -1,0 +1,102 @@
+-- What is written when a script is run into a buffer. Assumes nothing.
+use Prim.Native.Nat.{ℕ, _+_, _-_, _≤_}
+use native.Mathlib.Nat.{zero-add}
+use native.Mathlib.Omega.{arith}
+use mathlib.Core.Path.{_≡_, refl, sym, ap, _∙_}
+use mathlib.Core.Bool.{Bool, true, false}
+use mathlib.Core.List.{List, [], _++_, append-nil, append-assoc}
+use mathlib.Core.Logic.{⊎-elim}
+use lib.Dec.{leb}
+use lib.ListN.{length, take, drop, length-take, length-drop}
+use lib.Seq.{take-all, take-append-add, take-append-le}
+use borrow.Author.Tests.{le-leb, leb-true, leb-false}
+use borrow.Rule.Slice.PartMut.{midOf, putMid, postOf}
+use Rattle.status.specs.Choice.{_and_}
+use Rattle.port.proofs.Lists.{either}
+use Rattle.text.specs.Put.{place, Put, Fit, Written}
+use Rattle.text.proofs.Place.{place-front}
+use Rattle.script.specs.declared.State.{State}
+use Rattle.script.specs.declared.feed.Fed.{Fed}
+use Rattle.script.specs.Line.{LINE}
+use Rattle.script.specs.Turn.{LIMIT}
+use Rattle.script.specs.Call.{Rings}
+use Rattle.script.specs.Machine.{Machine, machine, startState, moveOf, stay}
+use Rattle.script.specs.Listing.{header, run, closing}
+use Rattle.script.specs.Feed.{isReady, FeedDone}
+use Rattle.script.proofs.Runs.{run-stay}
+use Rattle.replay.specs.Ran.{Ran}
+
+-- what a writer gives back lies in the list
+pub written-fits : {k at r : ℕ} {xs l l′ : List ℕ} → Written k at xs r l l′ → at ≤ length l → r ≤ length l
+written-fits {k} {at} {r} {xs} {l} {l′} w h =
+    ⊎-elim
+    (λ (e : leb (at + k) (length l) ≡ true). w .fit .put (leb-true (at + k) (length l) e) .fits)
+    (λ (e : leb (at + k) (length l) ≡ false). omega (arith, w .kept (leb-false (at + k) (length l) e) .0))
+    (either (leb (at + k) (length l)))
+
+put-all : {k r : ℕ} {xs l l′ : List ℕ} → Put k 0 xs r l l′ → take r l′ ≡ xs
+put-all {k} {r} {xs} {l} {l′} p =
+    ap (λ (z : List ℕ). take r z) (p .out) ∙ ap (λ (n : ℕ). take n (place 0 xs l)) (p .next) ∙ place-front 0 xs l (omega arith)
+
+-- the front of a list, and what was put behind it
+two : (a b : ℕ) (x y p : List ℕ) → a ≤ length x → b ≤ length y → take (a + b) (take a x ++ (y ++ p)) ≡ take a x ++ take b y
+two a b x y p ha hb =
+    let e : a ≡ length (take a x) = omega (arith, length-take a x) in
+    ap (λ (n : ℕ). take (n + b) (take a x ++ (y ++ p))) e ∙ take-append-add (take a x) (y ++ p) b
+    ∙ ap (λ (l : List ℕ). take a x ++ l) (take-append-le b y p hb)
+
+ready : (input memory : ℕ) → input ≤ LIMIT → memory ≤ 4096 → isReady startState 0 input memory ≡ true
+unfolding isReady startState _and_
+ready input memory hi hm = simp (le-leb input 4611686018427387904 hi, le-leb memory 4096 hm)
+
+-- a list, when its part from a place on is back
+abbrev pub behind : (at : ℕ) → (l part : List ℕ) → List ℕ
+behind at l part = putMid at (length l - at) l part
+
+module _ (s memory memory′ l sub l₂ sub₂ : List ℕ) (z z′ : Rings) (c : ℕ) (f : Fed)
+    (d : FeedDone startState 0 s memory memory′ z z′ l sub f)
+    (w : Written 26 0 (closing (f .taken) (f .state .ended) (drop (f .taken) s)) c l₂ sub₂)
+    (small : length memory ≤ 4096)
+  where
+    -- with room for a line, the block leaves no move, and then comes what the end of the input puts out
+    lines : length s ≤ LIMIT → f .written + LINE ≤ length sub → 26 ≤ length l₂ → take (f .written) sub ++ take c sub₂ ≡ run 0 (machine startState memory z) s
+    lines hs room last =
+        let m : Machine = machine (f .state) memory′ z′ in
+        let left : List ℕ = drop (f .taken) s in
+        let still : moveOf m left ≡ stay = d .stuck (ready (length s) (length memory) hs small) (omega arith) in
+        let end : run (f .taken) m left ≡ take c sub₂ = run-stay (f .taken) m left still ∙ sym (put-all (w .fit .put last)) in
+        let begin : run 0 (machine startState memory z) s ≡ take (f .written) sub ++ run (0 + f .taken) m (left ++ []) =
+        ap (λ (x : List ℕ). run 0 (machine startState memory z) x) (sym (append-nil s)) ∙ d .rest [] in
+        let same : run (0 + f .taken) m (left ++ []) ≡ run (f .taken) m left =
+        ap (λ (n : ℕ). run n m (left ++ [])) (zero-add (f .taken)) ∙ ap (λ (x : List ℕ). run (f .taken) m x) (append-nil left) in
+        sym (begin ∙ ap (λ (x : List ℕ). take (f .written) sub ++ x) (same ∙ end))
+
+-- the header, the lines in the part behind it, and the end of the input in the part behind these
+pub ran :
+    {s memory memory′ out out₁ l sub l₂ sub₂ : List ℕ} {z z′ : Rings} {n c : ℕ} {st : State} {f : Fed}
+    → length memory ≤ 4096 → st ≡ startState → Written 22 0 header n out out₁ → length out₁ ≡ length out
+    → FeedDone st 0 s memory memory′ z z′ l sub f → n + length sub ≡ length out
+    → Written 26 0 (closing (f .taken) (f .state .ended) (midOf (f .taken) (length s - f .taken) s)) c l₂ sub₂
+    → n + f .written + length l₂ ≡ length out → length sub₂ ≡ length l₂ → n + f .written ≤ length (behind n out₁ sub)
+    → length (behind (n + f .written) (behind n out₁ sub) sub₂) ≡ length out
+    → Ran (header ++ run 0 (machine startState memory z) s) s (n + f .written + c) (behind (n + f .written) (behind n out₁ sub) sub₂)
+ran {s} {memory} {memory′} {out} {out₁} {l} {sub} {l₂} {sub₂} {z} {z′} {n} {c} {st} {f} small e h same₁ d₀ len w₀ len₂ same₂ within all =
+    let d : FeedDone startState 0 s memory memory′ z z′ l sub f = rw e at d₀ in
+    let left : midOf (f .taken) (length s - f .taken) s ≡ drop (f .taken) s = take-all (length s - f .taken) (drop (f .taken) s) (omega (arith, length-drop (f .taken) s)) in
+    let w : Written 26 0 (closing (f .taken) (f .state .ended) (drop (f .taken) s)) c l₂ sub₂ = rw left at w₀ in
+    let at : ℕ = n + f .written in
+    let out₂ : List ℕ = behind n out₁ sub in
+    let rests : c ≤ length l₂ = written-fits w (omega arith) in
+    let begins : n ≤ length out = written-fits h (omega arith) in
+    record {
+      fits = omega arith;
+      whole = λ hs room.
+          let front : take n out₁ ≡ header = put-all (h .fit .put (omega arith)) in
+          let text : take (f .written) sub ++ take c sub₂ ≡ run 0 (machine startState memory z) s =
+          lines s memory memory′ l sub l₂ sub₂ z z′ c f d w small hs (omega arith) (omega arith) in
+          two at c out₂ sub₂ (postOf at (length out₂ - at) out₂) within (omega arith)
+          ∙ ap (λ (x : List ℕ). x ++ take c sub₂) (two n (f .written) out₁ sub (postOf n (length out₁ - n) out₁) (omega arith) (d .fits))
+          ∙ append-assoc (take n out₁) (take (f .written) sub) (take c sub₂)
+          ∙ ap (λ (x : List ℕ). x ++ (take (f .written) sub ++ take c sub₂)) front
+          ∙ ap (λ (x : List ℕ). header ++ x) text;
+    }

@@ -1,0 +1,84 @@
+-- `replay` meets its contract. The invariant: if as many entries agree as were run, all entries before `at` agree. An entry takes eight bytes at
+-- least, so that there are no more entries than bytes.
+use Prim.Native.Nat.{_-_, _≤_}
+use mathlib.Core.Path.{_≡_, refl}
+use native.Mathlib.Omega.{arith}
+use borrow.Author.Needs.{needs}
+use lib.ListN.{length}
+use Rattle.replay.specs.Entry.{AllAgree, none, more}
+use Rattle.replay.proofs.entry.replay.Statement.{statement}
+use Rattle.replay.proofs.entry.replay.Tie as tie
+
+abbrev Inv-loop : tie.InvT-loop
+Inv-loop s out₀ t₀ at₀ out t at = (at ≤ length s) × (t .total ≤ at) × (t .agree ≤ t .total) × (t .agree ≡ t .total → AllAgree s at) × (length out ≡ length out₀)
+
+abbrev μ-loop : tie.MeasureT-loop
+μ-loop s out₀ t₀ at₀ out t at = length s - at
+
+loop-holds : tie.Need-loop-holds Inv-loop μ-loop
+loop-holds c = (omega arith, omega arith, omega arith, (λ e. none), refl)
+
+entry-at-requires : tie.Need-entry-at-requires Inv-loop μ-loop
+entry-at-requires c κs = search needs
+
+enum-told : tie.Need-enum-told Inv-loop μ-loop
+enum-told c = search needs
+
+same-length : tie.Need-same-length Inv-loop μ-loop
+same-length c = search needs
+
+returns : tie.Need-returns Inv-loop μ-loop
+returns c =
+    let h = c .before .before .before .before .loop .inv in
+    record { within = h .0; all = h .3; cut = λ e. rw (c .enum-told .given .1) at (c .before .before .entry-at .ensures) }
+
+enum-known-middle : tie.Need-enum-known-middle Inv-loop μ-loop
+enum-known-middle c = search needs
+
+replay-entry-requires : tie.Need-replay-entry-requires Inv-loop μ-loop
+replay-entry-requires c κs = rw (c .before .before .middle .given .1) at (c .before .before .before .before .entry-at .ensures)
+
+counted-requires : tie.Need-counted-requires Inv-loop μ-loop
+counted-requires c κs = search needs
+
+loop-less : tie.Need-loop-less Inv-loop μ-loop
+loop-less c =
+    let entry = rw (c .before .before .before .before .before .before .middle .given .1) at (c .before .before .before .before .before .before .before .before .entry-at .ensures) in
+    omega (arith, entry .script, entry .stored, entry .within)
+
+loop-again : tie.Need-loop-again Inv-loop μ-loop
+loop-again c =
+    let entry = rw (c .before .before .before .before .before .before .middle .given .1) at (c .before .before .before .before .before .before .before .before .entry-at .ensures) in
+    let h = c .before .before .before .before .before .before .before .before .before .before .loop .inv in
+    let o = c .counted .ensures in (
+      entry .within,
+      omega (arith, entry .script, entry .stored),
+      o .agree,
+      (λ e. more (h .3 (o .all e .0)) entry (rw (o .all e .1) at (c .before .before .before .replay-entry .ensures))),
+      omega (arith, c .before .before .before .replay-entry .kept .1 .1 .1 .1 .0),
+    )
+
+same-length-2 : tie.Need-same-length-2 Inv-loop μ-loop
+same-length-2 c = search needs
+
+returns-2 : tie.Need-returns-2 Inv-loop μ-loop
+returns-2 c = search needs
+
+pub replay-spec : {M : Type 1} → statement M
+replay-spec =
+    tie.close
+    (tie.spec
+    Inv-loop
+    μ-loop
+    loop-holds
+    entry-at-requires
+    enum-told
+    same-length
+    returns
+    enum-known-middle
+    replay-entry-requires
+    counted-requires
+    loop-less
+    loop-again
+    same-length-2
+    returns-2)

@@ -1,0 +1,78 @@
+-- The stored entries: where they lie in the input, and whether the stored listings agree with those of the scripts.
+use Prim.Native.Nat.{ℕ, _+_, _-_, _≤_, _<_}
+use mathlib.Core.Path.{_≡_}
+use mathlib.Core.List.{List}
+use lib.ListN.{length, take, drop, getD}
+use Rattle.script.specs.Record.{four}
+use Rattle.script.specs.Listing.{listing}
+use Rattle.replay.specs.declared.entry.Field.{Field}
+use Rattle.replay.specs.declared.entry.Field.the-variants as Field
+use Rattle.replay.specs.declared.entry.Found.{Found}
+use Rattle.replay.specs.declared.entry.Found.the-variants as Found
+use Rattle.replay.specs.declared.entry.Outcome.{Outcome}
+use Rattle.replay.specs.declared.entry.Outcome.the-variants.{Agrees, DiffersAt, NoRoom}
+use Rattle.replay.specs.declared.entry.Tally.{Tally}
+use Rattle.replay.specs.declared.entry.Replayed.{Replayed}
+
+-- where a field ends that begins at a place: four bytes with its length, and so many bytes
+abbrev pub fieldEnd : List ℕ → ℕ → ℕ
+fieldEnd s at = at + 4 + four s at
+
+-- a field is cut where its end lies past the input
+abbrev pub FieldAt : List ℕ → ℕ → Field → Type 0
+FieldAt s at (Field.Ends e) = (e ≡ fieldEnd s at) × (e ≤ length s)
+FieldAt s at Field.Cut = length s < fieldEnd s at
+
+-- an entry is two fields, one behind the other
+pub record EntryIn (s : List ℕ) (at middle end : ℕ) : Type 0 where
+  pub script : middle ≡ fieldEnd s at
+  pub stored : end ≡ fieldEnd s middle
+  pub within : end ≤ length s
+
+abbrev pub EntryAt : List ℕ → ℕ → Found → Type 0
+EntryAt s at (Found.Whole middle end) = EntryIn s at middle end
+EntryAt s at Found.Cut = length s < fieldEnd s (fieldEnd s at)
+
+-- the bytes of a field that begins at a place and ends at another
+abbrev pub bytesOf : List ℕ → (at end : ℕ) → List ℕ
+bytesOf s at end = take (end - (at + 4)) (drop (at + 4) s)
+
+-- two lists are equal before a place, where both have an element and the elements differ, or just one of the lists ends
+pub record FirstDifference (a b : List ℕ) (i : ℕ) : Type 0 where
+  pub before : (k : ℕ) → k < i → getD a k 0 ≡ getD b k 0
+  pub inOne : i ≤ length a
+  pub inOther : i ≤ length b
+  pub differs : i < length a → i < length b → getD a i 0 ≡ getD b i 0 → ⊥
+  pub oneGoesOn : i ≡ length a → i ≡ length b → ⊥
+
+abbrev pub Compares : (a b : List ℕ) → Outcome → Type 0
+Compares a b Agrees = a ≡ b
+Compares a b (DiffersAt i) = FirstDifference a b i
+Compares a b NoRoom = ⊥
+
+-- the stored listing of an entry is that of its script
+abbrev pub Agreed : List ℕ → (at middle end : ℕ) → Type 0
+Agreed s at middle end = listing (bytesOf s at middle) ≡ bytesOf s middle end
+
+-- what an outcome says: that the stored listing is right, or where it first differs
+abbrev pub Agreement : List ℕ → (at middle end : ℕ) → Outcome → Type 0
+Agreement s at middle end Agrees = Agreed s at middle end
+Agreement s at middle end (DiffersAt i) = FirstDifference (listing (bytesOf s at middle)) (bytesOf s middle end) i
+Agreement s at middle end NoRoom = Unit {0}
+
+-- one entry more is counted
+pub record Counted (t : Tally) (o : Outcome) (r : Tally) : Type 0 where
+  pub total : r .total ≡ t .total + 1
+  pub agree : r .agree ≤ r .total
+  pub all : r .agree ≡ r .total → (t .agree ≡ t .total) × (o ≡ Agrees)
+
+-- every entry before a place agrees
+pub data AllAgree (s : List ℕ) : ℕ → Type 0 where
+  none : AllAgree s 0
+  more : {at middle end : ℕ} → AllAgree s at → EntryIn s at middle end → Agreed s at middle end → AllAgree s end
+
+-- the entries that were run end at a place; if as many agree as were run, all agree. Behind the place the input ends, or an entry is cut
+pub record AgreeTo (s : List ℕ) (r : Replayed) : Type 0 where
+  pub within : r .at ≤ length s
+  pub all : r .tally .agree ≡ r .tally .total → AllAgree s (r .at)
+  pub cut : r .at < length s → length s < fieldEnd s (fieldEnd s (r .at))
