@@ -333,3 +333,12 @@ impl Places {
         }
     }
 }
+
+// Takes the oldest packet of a table that the caller keeps.
+pub fn take_from(t: &mut Places) -> Answer
+    ensures { λ r. ⌜ (r ≡ takeOf (now (t .entry)) .answer) × (now (t .exit) ≡ takeOf (now (t .entry)) .places) ⌝ }
+{
+    let r = Places::take(*t);
+    *t = r.places;
+    r.answer
+}

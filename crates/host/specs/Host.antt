@@ -1,0 +1,22 @@
+-- A call on a pair that the host keeps: the promise of the by-value call, told of that pair. 01 "Status and answer word".
+use Prim.Native.Nat.{ℕ}
+use mathlib.Core.Path.{_≡_}
+use lib.IntN.{ℤ, pos, negℤ}
+use Rattle.status.specs.declared.Answer.{Answer}
+use Rattle.status.specs.Answer.{answerWord}
+use Rattle.endpoint.specs.declared.SignalWord.{SignalWord}
+use Rattle.endpoint.specs.declared.SignalWord.the-variants.{Closed, Word}
+use Rattle.socket.specs.declared.Pair.{Pair}
+use Rattle.socket.specs.declared.Step.{Step}
+
+-- The call leaves the pair p′ and returns the word w: w is the word of an answer, and this answer and p′ are what the by-value call
+-- promises. Each promise fixes its answer, so that nothing is left to choose.
+pub record Answered (promise : Step → Type 0) (p′ : Pair) (w : ℤ) : Type 0 where
+  pub answer : Answer
+  pub word : w ≡ answerWord answer
+  pub kept : promise (record { pair = p′; answer = answer })
+
+-- 01 "Script program": the word that an end shows; −1 for a closed end and for another handle
+unfoldable pub signalNumber : SignalWord → ℤ
+signalNumber Closed = negℤ (pos 1)
+signalNumber (Word w) = pos w

@@ -1,0 +1,114 @@
+// The calls that a kernel links, over a pair that it keeps: each takes the pair behind a reference, leaves the next one there and
+// returns the answer's word.
+use socket::Pair;
+ghost use mathlib.Core.Path.{_≡_};
+ghost use lib.ListN.{length};
+ghost use lib.Dec.{eqb};
+ghost use Rattle.socket.specs.Pair.{isOne, newPair, noPair, shownBy};
+ghost use Rattle.socket.specs.Tests.{Steps};
+ghost use Rattle.socket.specs.Create.{createAnswer};
+ghost use Rattle.socket.specs.Write.{Wrote};
+ghost use Rattle.socket.specs.Read.{Read};
+ghost use Rattle.socket.specs.Disposition.{disposeAnswer, disposed, shutdownAnswer, shut};
+ghost use Rattle.socket.specs.Threshold.{readThresholdAnswer, readThresholdSet, writeThresholdAnswer, writeThresholdSet};
+ghost use Rattle.socket.specs.Wait.{waitAnswer, waited, closeAnswer, closed};
+ghost use Rattle.syscall.specs.Control.{dispositionOf};
+ghost use Rattle.host.specs.Host.{Answered, signalNumber};
+
+mod memory;
+mod records;
+mod values;
+
+// A new pair over the rings and tables of its two ends. Where it is refused, the record left answers −1 to every call.
+#[no_mangle]
+pub extern "C" fn murgwethan_create(p: &mut Pair, kind: u32, capacity: u32, rights_one: u32, rights_two: u32, ring_one: &[u8], table_one: &[u32], ring_two: &[u8], table_two: &[u32]) -> i64
+    ensures { λ w. ⌜ Answered (Steps noPair (createAnswer kind capacity «rights_one» «rights_two» (length (now («ring_one» .entry))) (length (now («table_one» .entry))) (length (now («ring_two» .entry))) (length (now («table_two» .entry)))) (newPair (eqb kind 1) capacity «rights_one» «rights_two»)) (now (p .exit)) w ⌝ }
+{
+    let r = Pair::create(kind, capacity, rights_one, rights_two, ring_one, table_one, ring_two, table_two);
+    *p = r.pair;
+    status::word(r.answer)
+}
+
+// Writes to the peer's queue. The ring and the table are the peer's.
+#[no_mangle]
+pub extern "C" fn murgwethan_write(p: &mut Pair, handle: u32, ring: &mut [u8], table: &mut [u32], bytes: &[u8]) -> i64
+    ensures { λ w. ⌜ Answered (Wrote (now (p .entry)) handle (now (bytes .entry)) (now (ring .entry)) (now (ring .exit)) (now (table .entry)) (now (table .exit))) (now (p .exit)) w ⌝ }
+{
+    let r = Pair::write(*p, handle, ring, table, bytes);
+    *p = r.pair;
+    status::word(r.answer)
+}
+
+// Reads the front of the own queue into the buffer. The ring and the table are the reader's. A peek leaves the bytes in the queue.
+#[no_mangle]
+pub extern "C" fn murgwethan_read(p: &mut Pair, handle: u32, peek: bool, ring: &[u8], table: &[u32], buffer: &mut [u8]) -> i64
+    ensures { λ w. ⌜ Answered (Read (now (p .entry)) handle peek (now (ring .entry)) (now (table .entry)) (now (buffer .entry)) (now (buffer .exit))) (now (p .exit)) w ⌝ }
+{
+    let r = Pair::read(*p, handle, peek, ring, table, buffer);
+    *p = r.pair;
+    status::word(r.answer)
+}
+
+// Disables or enables the writing of an end and of its peer: 1 disables, 2 enables, any other number changes nothing. No right is asked.
+#[no_mangle]
+pub extern "C" fn murgwethan_set_disposition(p: &mut Pair, handle: u32, disposition: u32, peer_disposition: u32) -> i64
+    ensures { λ w. ⌜ Answered (Steps (now (p .entry)) (disposeAnswer (now (p .entry)) handle (dispositionOf disposition) (dispositionOf «peer_disposition»)) (disposed (isOne handle) (dispositionOf disposition) (dispositionOf «peer_disposition») (now (p .entry)))) (now (p .exit)) w ⌝ }
+{
+    let r = values::dispose(*p, handle, disposition, peer_disposition);
+    *p = r.pair;
+    status::word(r.answer)
+}
+
+#[no_mangle]
+pub extern "C" fn murgwethan_shutdown(p: &mut Pair, handle: u32, read: bool, write: bool) -> i64
+    ensures { λ w. ⌜ Answered (Steps (now (p .entry)) (shutdownAnswer (now (p .entry)) handle) (shut (isOne handle) read write (now (p .entry)))) (now (p .exit)) w ⌝ }
+{
+    let r = Pair::shutdown(*p, handle, read, write);
+    *p = r.pair;
+    status::word(r.answer)
+}
+
+#[no_mangle]
+pub extern "C" fn murgwethan_set_read_threshold(p: &mut Pair, handle: u32, threshold: u64) -> i64
+    ensures { λ w. ⌜ Answered (Steps (now (p .entry)) (readThresholdAnswer (now (p .entry)) handle threshold) (readThresholdSet (isOne handle) threshold (now (p .entry)))) (now (p .exit)) w ⌝ }
+{
+    let r = Pair::set_read_threshold(*p, handle, threshold);
+    *p = r.pair;
+    status::word(r.answer)
+}
+
+#[no_mangle]
+pub extern "C" fn murgwethan_set_write_threshold(p: &mut Pair, handle: u32, threshold: u64) -> i64
+    ensures { λ w. ⌜ Answered (Steps (now (p .entry)) (writeThresholdAnswer (now (p .entry)) handle threshold) (writeThresholdSet (isOne handle) threshold (now (p .entry)))) (now (p .exit)) w ⌝ }
+{
+    let r = Pair::set_write_threshold(*p, handle, threshold);
+    *p = r.pair;
+    status::word(r.answer)
+}
+
+// Registers a wait of an end: tested at once against the present word unless edge is 1.
+#[no_mangle]
+pub extern "C" fn murgwethan_wait(p: &mut Pair, handle: u32, key: u64, mask: u32, edge: u8) -> i64
+    ensures { λ w. ⌜ Answered (Steps (now (p .entry)) (waitAnswer (now (p .entry)) handle edge) (waited (isOne handle) key mask edge (now (p .entry)))) (now (p .exit)) w ⌝ }
+{
+    let r = Pair::wait(*p, handle, key, mask, edge);
+    *p = r.pair;
+    status::word(r.answer)
+}
+
+#[no_mangle]
+pub extern "C" fn murgwethan_close(p: &mut Pair, handle: u32) -> i64
+    ensures { λ w. ⌜ Answered (Steps (now (p .entry)) (closeAnswer (now (p .entry)) handle) (closed (isOne handle) (now (p .entry)))) (now (p .exit)) w ⌝ }
+{
+    let r = Pair::close(*p, handle);
+    *p = r.pair;
+    status::word(r.answer)
+}
+
+// The signal word that an end shows; −1 for a closed end and for another handle.
+#[no_mangle]
+pub extern "C" fn murgwethan_signal(p: &mut Pair, handle: u32) -> i64
+    ensures { λ w. ⌜ (w ≡ signalNumber (shownBy (now (p .entry)) handle)) × (now (p .exit) ≡ now (p .entry)) ⌝ }
+{
+    values::signal(*p, handle)
+}

@@ -1,0 +1,40 @@
+// The calls whose record goes to an array that the caller lends. A refused call leaves the array as it is.
+use crate::values;
+use socket::Pair;
+ghost use mathlib.Core.Path.{_≡_};
+ghost use mathlib.Core.List.{[]};
+ghost use Rattle.socket.specs.Pair.{isOne, own};
+ghost use Rattle.socket.specs.Tests.{lentOf};
+ghost use Rattle.socket.specs.Info.{infoAnswer};
+ghost use Rattle.socket.specs.Threshold.{thresholdsAnswer};
+ghost use Rattle.socket.specs.Wait.{takeAnswer, took};
+ghost use Rattle.host.specs.Host.{Answered};
+ghost use Rattle.host.specs.Records.{thresholdNumbers, infoNumbers, packetNumbers, Recorded};
+
+// The read and the write threshold of an end.
+#[no_mangle]
+pub extern "C" fn murgwethan_thresholds(p: &mut Pair, handle: u32, out: &mut [u64; 2]) -> i64
+    ensures { λ w. ⌜ Answered (Recorded thresholdNumbers (now (p .entry)) (thresholdsAnswer (now (p .entry)) handle) (now (p .entry)) (now (out .entry)) (now (out .exit))) (now (p .exit)) w ⌝ }
+{
+    let a = values::thresholds(*p, handle, out);
+    status::word(a)
+}
+
+// Options, capacity, queued, available, the peer's capacity and queued. The table is the own one; only datagram pairs look at it.
+#[no_mangle]
+pub extern "C" fn murgwethan_info(p: &mut Pair, handle: u32, table: &[u32], out: &mut [u64; 6]) -> i64
+    ensures { λ w. ⌜ Answered (Recorded infoNumbers (now (p .entry)) (infoAnswer (now (p .entry)) (lentOf ((now (p .entry)) .datagram) (own (isOne handle) (now (p .entry)) .queue) [] (now (table .entry))) handle) (now (p .entry)) (now (out .entry)) (now (out .exit))) (now (p .exit)) w ⌝ }
+{
+    let a = values::info(*p, handle, table, out);
+    status::word(a)
+}
+
+// Takes the oldest packet: its key, trigger, observed word, count and timestamp.
+#[no_mangle]
+pub extern "C" fn murgwethan_take(p: &mut Pair, out: &mut [u64; 5]) -> i64
+    ensures { λ w. ⌜ Answered (Recorded packetNumbers (now (p .entry)) (takeAnswer (now (p .entry))) (took (now (p .entry))) (now (out .entry)) (now (out .exit))) (now (p .exit)) w ⌝ }
+{
+    let r = values::take(*p, out);
+    *p = r.pair;
+    status::word(r.answer)
+}

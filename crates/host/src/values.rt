@@ -1,0 +1,137 @@
+// By value, what the exported calls need beside the calls of the pair: numbers for enums, and records put into a lent array.
+use endpoint::Disposition;
+use endpoint::SignalWord;
+use socket::Pair;
+use socket::Step;
+use status::Answer;
+use status::Record;
+ghost use mathlib.Core.Path.{_≡_};
+ghost use mathlib.Core.List.{[]};
+ghost use Rattle.socket.specs.Pair.{isOne, own, shownBy};
+ghost use Rattle.socket.specs.Tests.{lentOf, Steps};
+ghost use Rattle.socket.specs.Disposition.{disposeAnswer, disposed};
+ghost use Rattle.socket.specs.Info.{infoAnswer};
+ghost use Rattle.socket.specs.Threshold.{thresholdsAnswer};
+ghost use Rattle.socket.specs.Wait.{takeAnswer, took};
+ghost use Rattle.syscall.specs.Control.{dispositionOf};
+ghost use Rattle.host.specs.Host.{signalNumber};
+ghost use Rattle.host.specs.Records.{thresholdNumbers, infoNumbers, packetNumbers, arrayOf, Recorded};
+
+// What a number asks for an end's writing.
+fn disposition_of(n: u32) -> Disposition
+    ensures { λ r. ⌜ r ≡ dispositionOf n ⌝ }
+{
+    if n == 1 {
+        return Disposition::Disable;
+    }
+    if n == 2 {
+        return Disposition::Enable;
+    }
+    Disposition::Unchanged
+}
+
+// Disposition by its numbers.
+pub fn dispose(p: Pair, handle: u32, disposition: u32, peer_disposition: u32) -> Step
+    ensures { λ r. ⌜ Steps p (disposeAnswer p handle (dispositionOf disposition) (dispositionOf «peer_disposition»)) (disposed (isOne handle) (dispositionOf disposition) (dispositionOf «peer_disposition») p) r ⌝ }
+{
+    p.set_disposition(
+        handle,
+        disposition_of(disposition),
+        disposition_of(peer_disposition),
+    )
+}
+
+// The word that an end shows, as a number.
+pub fn signal(p: Pair, handle: u32) -> i64
+    ensures { λ r. ⌜ r ≡ signalNumber (shownBy p handle) ⌝ }
+{
+    let s = p.signal(handle);
+    match s {
+        SignalWord::Closed => -1,
+        SignalWord::Word(w) => w as i64,
+    }
+}
+
+// The numbers of thresholds, put into the array; of another record none.
+fn put_thresholds(a: Answer, out: &mut [u64; 2])
+    ensures { λ _. ⌜ now (out .exit) ≡ arrayOf thresholdNumbers a (now (out .entry)) ⌝ }
+{
+    match a {
+        Answer::Done(d) => match d {
+            Record::Empty => {}
+            Record::Count(_) => {}
+            Record::Info(_) => {}
+            Record::Limits(t) => {
+                *out = [t.read, t.write];
+            }
+            Record::Packet(_) => {}
+        },
+        Answer::Refused(_) => {}
+    }
+}
+
+// The numbers of an info, put into the array; of another record none.
+fn put_info(a: Answer, out: &mut [u64; 6])
+    ensures { λ _. ⌜ now (out .exit) ≡ arrayOf infoNumbers a (now (out .entry)) ⌝ }
+{
+    match a {
+        Answer::Done(d) => match d {
+            Record::Empty => {}
+            Record::Count(_) => {}
+            Record::Info(i) => {
+                *out = [i.options as u64, i.rx_buf_max, i.rx_buf_size, i.rx_buf_available, i.tx_buf_max, i.tx_buf_size];
+            }
+            Record::Limits(_) => {}
+            Record::Packet(_) => {}
+        },
+        Answer::Refused(_) => {}
+    }
+}
+
+// The numbers of a packet, put into the array; of another record none.
+fn put_packet(a: Answer, out: &mut [u64; 5])
+    ensures { λ _. ⌜ now (out .exit) ≡ arrayOf packetNumbers a (now (out .entry)) ⌝ }
+{
+    match a {
+        Answer::Done(d) => match d {
+            Record::Empty => {}
+            Record::Count(_) => {}
+            Record::Info(_) => {}
+            Record::Limits(_) => {}
+            Record::Packet(k) => {
+                *out = [k.key, k.trigger as u64, k.observed as u64, k.count, k.timestamp];
+            }
+        },
+        Answer::Refused(_) => {}
+    }
+}
+
+// The thresholds of an end, put into the array.
+pub fn thresholds(p: Pair, handle: u32, out: &mut [u64; 2]) -> Answer
+    ensures { λ a. ⌜ Recorded thresholdNumbers p (thresholdsAnswer p handle) p (now (out .entry)) (now (out .exit)) (record { pair = p; answer = a }) ⌝ }
+{
+    let s = p.get_rx_tx_threshold(handle);
+    let a = s.answer;
+    put_thresholds(a, out);
+    a
+}
+
+// The info of an end, put into the array.
+pub fn info(p: Pair, handle: u32, table: &[u32], out: &mut [u64; 6]) -> Answer
+    ensures { λ a. ⌜ Recorded infoNumbers p (infoAnswer p (lentOf (p .datagram) (own (isOne handle) p .queue) [] (now (table .entry))) handle) p (now (out .entry)) (now (out .exit)) (record { pair = p; answer = a }) ⌝ }
+{
+    let s = p.get_info(handle, table);
+    let a = s.answer;
+    put_info(a, out);
+    a
+}
+
+// Takes the oldest packet into the array.
+pub fn take(p: Pair, out: &mut [u64; 5]) -> Step
+    ensures { λ r. ⌜ Recorded packetNumbers p (takeAnswer p) (took p) (now (out .entry)) (now (out .exit)) r ⌝ }
+{
+    let s = p.take();
+    let a = s.answer;
+    put_packet(a, out);
+    s
+}

@@ -1,0 +1,89 @@
+//! Why a call is refused.
+
+use core::fmt;
+
+/// Why a call is refused. A refused call changes nothing. The numbers are Zircon's.
+#[derive(Clone, Copy, Debug, Eq, Hash, PartialEq)]
+#[repr(i64)]
+pub enum Status {
+    /// The record is one that no run leaves. A [`SocketPair`](crate::SocketPair) never answers it.
+    Internal = -1,
+    /// All places for waits and packets are used.
+    NoResources = -3,
+    /// An argument is not one of those allowed, or a range does not lie in user memory.
+    InvalidArgs = -10,
+    /// The end is closed, or the handle is neither 1 nor 2.
+    BadHandle = -11,
+    /// The datagram is larger than the capacity.
+    OutOfRange = -14,
+    /// Writing or reading is disabled, or bytes are still queued.
+    BadState = -20,
+    /// There is nothing to take, or no space to write to, at present.
+    ShouldWait = -22,
+    /// The other end is closed.
+    PeerClosed = -24,
+    /// The end lacks the right.
+    AccessDenied = -30,
+}
+
+impl Status {
+    /// Every status.
+    pub const ALL: [Status; 9] = [
+        Status::Internal,
+        Status::NoResources,
+        Status::InvalidArgs,
+        Status::BadHandle,
+        Status::OutOfRange,
+        Status::BadState,
+        Status::ShouldWait,
+        Status::PeerClosed,
+        Status::AccessDenied,
+    ];
+
+    /// The status of an answer's word, if it is one.
+    pub fn from_word(word: i64) -> Option<Status> {
+        Status::ALL.into_iter().find(|status| status.number() == word)
+    }
+
+    /// The status as a negative number.
+    pub const fn number(self) -> i64 {
+        self as i64
+    }
+
+    /// The name in document 01 and in Zircon.
+    pub const fn name(self) -> &'static str {
+        match self {
+            Status::Internal => "INTERNAL",
+            Status::NoResources => "NO_RESOURCES",
+            Status::InvalidArgs => "INVALID_ARGS",
+            Status::BadHandle => "BAD_HANDLE",
+            Status::OutOfRange => "OUT_OF_RANGE",
+            Status::BadState => "BAD_STATE",
+            Status::ShouldWait => "SHOULD_WAIT",
+            Status::PeerClosed => "PEER_CLOSED",
+            Status::AccessDenied => "ACCESS_DENIED",
+        }
+    }
+}
+
+impl fmt::Display for Status {
+    fn fmt(&self, formatter: &mut fmt::Formatter<'_>) -> fmt::Result {
+        write!(formatter, "{} ({})", self.name(), self.number())
+    }
+}
+
+impl core::error::Error for Status {}
+
+/// The count of an answer's word, or its status. The library answers no other negative number than a
+/// status; one would be taken for `Internal`.
+pub(crate) fn answer(word: i64) -> Result<usize, Status> {
+    match usize::try_from(word) {
+        Ok(count) => Ok(count),
+        Err(_) => Err(Status::from_word(word).unwrap_or(Status::Internal)),
+    }
+}
+
+/// The answer of a call without a count.
+pub(crate) fn done(word: i64) -> Result<(), Status> {
+    answer(word).map(|_| ())
+}

@@ -1,0 +1,208 @@
+//! Document 01's cases at the edges, through the types of this crate. C is 8.
+
+use murgwethan::Status::{
+    AccessDenied, BadHandle, BadState, InvalidArgs, NoResources, OutOfRange, PeerClosed, ShouldWait,
+};
+use murgwethan::{
+    Disposition, End, Kind, Rights, Signals, SocketPair, Status, Storage, Transfer, UserMemory,
+};
+
+const C: usize = 8;
+
+/// Runs a case on a new pair.
+fn with_pair(kind: Kind, rights: Rights, case: impl FnOnce(&mut SocketPair<'_>)) {
+    let (mut ring_one, mut ring_two) = ([0; C], [0; C]);
+    let (mut table_one, mut table_two) = ([0; C], [0; C]);
+    let one = Storage::datagram(&mut ring_one, &mut table_one);
+    let two = Storage::datagram(&mut ring_two, &mut table_two);
+    case(&mut SocketPair::create(kind, C as u32, [rights; 2], one, two).expect("a new pair"));
+}
+
+fn stream(case: impl FnOnce(&mut SocketPair<'_>)) {
+    with_pair(Kind::Stream, Rights::ALL, case);
+}
+
+fn datagram(case: impl FnOnce(&mut SocketPair<'_>)) {
+    with_pair(Kind::Datagram, Rights::ALL, case);
+}
+
+fn words(pair: &mut SocketPair<'_>) -> [Option<u32>; 2] {
+    [End::One, End::Two].map(|end| pair.signals(end).map(Signals::bits))
+}
+
+fn read(pair: &mut SocketPair<'_>, end: End, n: usize) -> Result<Vec<u8>, Status> {
+    let mut buffer = vec![0; n];
+    let count = pair.read(end, &mut buffer)?;
+    buffer.truncate(count);
+    Ok(buffer)
+}
+
+#[test]
+fn p1_to_p3_stream_sizes() {
+    stream(|pair| assert_eq!(pair.write(End::One, b""), Ok(0)));
+    stream(|pair| {
+        assert_eq!(pair.write(End::One, &[1; 10]), Ok(8));
+        assert_eq!(words(pair), [Some(0), Some(3)]);
+        assert_eq!(pair.write(End::One, b""), Err(ShouldWait));
+    });
+}
+
+#[test]
+fn p4_to_p7_datagrams() {
+    datagram(|pair| assert_eq!(pair.write(End::One, b""), Err(InvalidArgs)));
+    datagram(|pair| {
+        assert_eq!(pair.write(End::One, &[1; 9]), Err(OutOfRange));
+        assert_eq!(pair.write(End::One, &[1; 8]), Ok(8));
+        assert_eq!(pair.write(End::One, &[1; 9]), Err(ShouldWait));
+    });
+    datagram(|pair| {
+        assert_eq!((pair.write(End::One, b"abc"), pair.write(End::One, b"de")), (Ok(3), Ok(2)));
+        assert_eq!(read(pair, End::Two, 0), Ok(vec![]));
+        assert_eq!(read(pair, End::Two, 2), Ok(b"ab".to_vec()));
+        assert_eq!(pair.peek(End::Two, &mut [0; 5]), Ok(2));
+        assert_eq!(read(pair, End::Two, 2), Ok(b"de".to_vec()));
+    });
+}
+
+#[test]
+fn p8_and_p9_empty_queue_and_threshold() {
+    stream(|pair| {
+        assert_eq!(pair.shutdown(End::Two, true, false), Ok(()));
+        assert_eq!(read(pair, End::Two, 1), Err(BadState));
+        assert_eq!(pair.close(End::One), Ok(()));
+        assert_eq!(read(pair, End::Two, 1), Err(PeerClosed));
+        assert_eq!(pair.set_write_threshold(End::Two, 9), Err(PeerClosed));
+        assert_eq!(pair.close(End::One), Err(BadHandle));
+    });
+    stream(|pair| {
+        assert_eq!(pair.set_write_threshold(End::One, 9), Err(InvalidArgs));
+        assert_eq!(pair.set_write_threshold(End::One, 8), Ok(()));
+        assert_eq!(pair.thresholds(End::One).map(|set| (set.read, set.write)), Ok((0, 8)));
+    });
+}
+
+#[test]
+fn p10_shutdown_of_both() {
+    stream(|pair| {
+        assert_eq!(pair.user_shutdown(1, 3), Ok(()));
+        assert_eq!(words(pair), [Some(0x30), Some(0x2)]);
+    });
+    stream(|pair| {
+        assert_eq!(pair.user_shutdown(1, 0), Ok(()));
+        assert_eq!(words(pair), [Some(0x2), Some(0x30)]);
+    });
+}
+
+#[test]
+fn p11_enable_over_queued_bytes() {
+    stream(|pair| {
+        assert_eq!(pair.write(End::One, b"a"), Ok(1));
+        assert_eq!(pair.set_disposition(End::One, Disposition::Disable, Disposition::Unchanged), Ok(()));
+        assert_eq!(
+            pair.set_disposition(End::One, Disposition::Enable, Disposition::Unchanged),
+            Err(BadState)
+        );
+        assert_eq!(pair.user_set_disposition(1, 3, 0), Err(InvalidArgs));
+    });
+}
+
+#[test]
+fn p12_newest_wait_first() {
+    stream(|pair| {
+        for key in [1, 2] {
+            assert_eq!(pair.wait(End::Two, key, Signals::READABLE, false), Ok(()));
+        }
+        assert_eq!(pair.write(End::One, b"a"), Ok(1));
+        let keys = [pair.take(), pair.take(), pair.take()].map(|taken| taken.map(|packet| packet.key));
+        assert_eq!(keys, [Ok(2), Ok(1), Err(ShouldWait)]);
+    });
+}
+
+#[test]
+fn p13_disabled_writer_of_a_full_queue() {
+    stream(|pair| {
+        assert_eq!(pair.write(End::One, &[1; 8]), Ok(8));
+        assert_eq!(pair.set_disposition(End::One, Disposition::Disable, Disposition::Unchanged), Ok(()));
+        assert_eq!(read(pair, End::Two, 1), Ok(vec![1]));
+        assert_eq!(words(pair)[0], Some(0x22));
+    });
+}
+
+#[test]
+fn p14_range_of_what_a_write_takes() {
+    let asked = |address| Transfer { options: 0, address, count: 100, count_at: 0 };
+    for (address, answer) in [(4104, Ok(8)), (4105, Err(InvalidArgs))] {
+        stream(|pair| {
+            let memory = UserMemory { base: 4096, bytes: &mut [0; 16] };
+            assert_eq!(pair.user_write(1, memory, asked(address)), answer);
+        });
+    }
+}
+
+#[test]
+fn rights_are_asked_of_system_calls_only() {
+    with_pair(Kind::Stream, Rights::NONE, |pair| {
+        let asked = Transfer { options: 0, address: 4096, count: 4, count_at: 0 };
+        let bytes = &mut [0; 16];
+        assert_eq!(pair.user_write(1, UserMemory { base: 4096, bytes }, asked), Err(AccessDenied));
+        assert_eq!(pair.user_read(1, UserMemory { base: 4096, bytes }, asked), Err(AccessDenied));
+        assert_eq!(pair.user_shutdown(1, 0), Err(AccessDenied));
+        assert_eq!(pair.user_set_disposition(1, 0, 0), Err(AccessDenied));
+        assert_eq!(pair.user_shutdown(3, 0), Err(BadHandle));
+        assert_eq!(pair.write(End::One, b"a"), Ok(1));
+    });
+}
+
+#[test]
+fn user_memory_gets_bytes_and_then_their_count() {
+    stream(|pair| {
+        let bytes = &mut [9; 16];
+        assert_eq!(pair.write(End::One, b"abcd"), Ok(4));
+        let asked = Transfer { options: 8, address: 65_536, count: 16, count_at: 65_538 };
+        assert_eq!(pair.user_read(2, UserMemory { base: 65_536, bytes }, asked), Ok(4));
+        assert_eq!(bytes, b"ab\x04\0\0\0\0\0\0\0\x09\x09\x09\x09\x09\x09");
+        let info = pair.info(End::Two).expect("an open end");
+        assert_eq!((info.queued, info.available, info.peer_queued), (4, 4, 0));
+    });
+}
+
+#[test]
+fn all_places_used() {
+    stream(|pair| {
+        for key in 0..128 {
+            assert_eq!(pair.wait(End::One, key, Signals::PEER_CLOSED, false), Ok(()));
+        }
+        assert_eq!(pair.wait(End::One, 0, Signals::PEER_CLOSED, false), Err(NoResources));
+        assert_eq!(pair.close(End::Two), Ok(()));
+        let packet = pair.take().expect("a packet");
+        assert_eq!((packet.key, packet.observed, packet.count), (127, Signals::PEER_CLOSED, 1));
+        assert_eq!(pair.wait(End::One, 0, Signals::PEER_CLOSED, true), Ok(()));
+    });
+}
+
+#[test]
+fn create_refuses_what_it_cannot_keep() {
+    let create = |kind, capacity, ring: usize, table: usize| {
+        let (mut ring_one, mut ring_two) = (vec![0; ring], vec![0; C]);
+        let (mut table_one, mut table_two) = (vec![0; table], vec![0; C]);
+        let one = Storage::datagram(&mut ring_one, &mut table_one);
+        let two = Storage::datagram(&mut ring_two, &mut table_two);
+        SocketPair::create(kind, capacity, [Rights::ALL; 2], one, two).map(|_| ())
+    };
+    assert_eq!(create(Kind::Stream, 8, 8, 0), Ok(()));
+    assert_eq!(create(Kind::Datagram, 8, 8, 8), Ok(()));
+    assert_eq!(create(Kind::Datagram, 8, 8, 7), Err(InvalidArgs));
+    assert_eq!(create(Kind::Stream, 8, 7, 8), Err(InvalidArgs));
+    assert_eq!(create(Kind::Stream, 0, 8, 8), Err(InvalidArgs));
+    assert_eq!(create(Kind::Stream, murgwethan::MOST_CAPACITY + 1, 8, 8), Err(InvalidArgs));
+}
+
+#[test]
+fn statuses_have_numbers_and_names() {
+    for status in Status::ALL {
+        assert_eq!(Status::from_word(status.number()), Some(status));
+    }
+    assert_eq!((Status::from_word(0), Status::from_word(-2)), (None, None));
+    assert_eq!(PeerClosed.to_string(), "PEER_CLOSED (-24)");
+    assert_eq!((Rights::from_bits(7), Rights::from_bits(8)), (Some(Rights::ALL), None));
+}
