@@ -5,25 +5,22 @@ use mathlib.Core.Path.{_≡_, refl, sym, ap, _∙_, subst}
 use mathlib.Core.Bool.{Bool, true, false}
 use mathlib.Core.List.{List}
 use lib.ListN.{length, take, drop, length-drop}
-use lib.Seq.{take-all, drop-drop, length-take-le}
+use lib.Seq.{drop-drop, length-take-le}
 use Rattle.text.proofs.Place.{nothing, upTo, same}
 use Rattle.text.specs.Put.{Fit}
 use Rattle.socket.specs.declared.Pair.{Pair}
 use Rattle.socket.specs.declared.Step.{Step}
 use Rattle.socket.specs.Pair.{shownBy}
+use Rattle.call.proofs.Calls.{part-all}
 use Rattle.script.specs.declared.State.{State}
 use Rattle.script.specs.declared.turn.Stepped.{Stepped}
 use Rattle.script.specs.declared.turn.Turned.{Turned}
-use Rattle.script.specs.declared.record.Decoded.{Decoded}
-use Rattle.script.specs.Record.{recordOf}
-use Rattle.script.specs.Line.{LINE, lineOf}
-use Rattle.script.specs.Call.{Rings, callOf, delivered, settled, CallDone}
+use Rattle.record.specs.declared.Decoded.{Decoded}
+use Rattle.record.specs.Record.{recordOf}
+use Rattle.line.specs.Line.{LINE, lineOf}
+use Rattle.call.specs.Call.{Rings, callOf, delivered, settled, CallDone}
 use Rattle.script.specs.Machine.{Machine, machine, Move, stay, halt, go, isLast, steppedState, stepped, calledLine, stepLine}
 use Rattle.script.specs.Turn.{machineAfter, textOf, takenBy, goesOn, StepDone, StopDone, TurnDone}
-
--- the part of a list from a place to its end
-pub part-all : (from : ℕ) (l : List ℕ) → from ≤ length l → take (length l - from) (drop from l) ≡ drop from l
-part-all from l h = take-all (length l - from) (drop from l) (simp length-drop (omega arith))
 
 pub record-at : (from : ℕ) (l : List ℕ) (r q : Decoded) → from ≤ length l → r ≡ recordOf (take (length l - from) (drop from l)) → r ≡ q
     → recordOf (drop from l) ≡ q

@@ -9,9 +9,9 @@ use Rattle.text.specs.Answer.{stopOf}
 use Rattle.script.specs.declared.State.{State}
 use Rattle.script.specs.declared.turn.Stepped.{Stepped}
 use Rattle.script.specs.declared.turn.Turned.{Turned}
-use Rattle.script.specs.Record.{isBody}
-use Rattle.script.specs.Line.{LINE}
-use Rattle.script.specs.Call.{Rings}
+use Rattle.record.specs.Record.{isBody}
+use Rattle.line.specs.Line.{LINE}
+use Rattle.call.specs.Call.{Rings}
 use Rattle.script.specs.Machine.{Machine, machine, stepped, stepLine, stoppedState, Move, stay, halt, go}
 
 -- the numbers that a block may begin with are half of what 64 bits count, so that those that it ends with fit

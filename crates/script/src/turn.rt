@@ -1,10 +1,7 @@
 // One move of the machine that a script drives: a record is run and its line put out, or the script stops.
 use crate::State;
-use crate::call;
-use crate::fields;
-use crate::line;
-use crate::record;
-use crate::record::Decoded;
+use record::Decoded;
+use record::fields;
 use socket::Pair;
 use status::Answer;
 ghost use Prim.Native.Nat.{_+_, _-_, _≤_, _<_};
@@ -12,8 +9,8 @@ ghost use mathlib.Core.Path.{_≡_};
 ghost use lib.ListN.{length, take, drop};
 ghost use Rattle.text.specs.Put.{Fit};
 ghost use Rattle.socket.specs.Pair.{shownBy};
-ghost use Rattle.script.specs.Line.{LINE, lineOf};
-ghost use Rattle.script.specs.Call.{BASE, rings, deliveredCount, delivered, settled};
+ghost use Rattle.line.specs.Line.{LINE, lineOf};
+ghost use Rattle.call.specs.Call.{BASE, rings, deliveredCount, delivered, settled};
 ghost use Rattle.script.specs.Machine.{machine, isMisplaced, isLast, moveOf};
 ghost use Rattle.script.specs.Turn.{LIMIT, StepMay, StepDone, StopDone, TurnMay, TurnDone};
 

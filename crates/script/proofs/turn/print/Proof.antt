@@ -1,6 +1,6 @@
 use borrow.Author.Needs.{needs}
 use denote.Ref.{now}
-use Rattle.script.proofs.Lines.{part-small, call-line}
+use Rattle.script.proofs.Delivered.{part-small, call-line}
 use Rattle.text.proofs.Place.{same}
 use Rattle.script.proofs.turn.print.Statement.{statement}
 use Rattle.script.proofs.turn.print.Tie as tie

@@ -1,7 +1,7 @@
 use borrow.Author.Needs.{needs}
 use borrow.Author.Tests.{ne-eqb}
 use mathlib.Core.Path.{refl}
-use Rattle.script.specs.Call.{settled}
+use Rattle.call.specs.Call.{settled}
 use Rattle.status.specs.Choice.{pick}
 use Rattle.script.proofs.turn.settle.Statement.{statement}
 use Rattle.script.proofs.turn.settle.Tie as tie

@@ -3,7 +3,7 @@ use denote.Ref.{now}
 use mathlib.Core.Path.{_∙_}
 use native.Mathlib.Omega.{arith}
 use Rattle.script.proofs.Turns.{step-done}
-use Rattle.script.specs.Call.{rings}
+use Rattle.call.specs.Call.{rings}
 use Rattle.script.proofs.turn.step.Statement.{statement}
 use Rattle.script.proofs.turn.step.Tie as tie
 

@@ -4,12 +4,13 @@ use denote.Ref.{now}
 use lib.ListN.{length, take, drop, length-drop}
 use mathlib.Core.Path.{_≡_, sym, ap, _∙_}
 use native.Mathlib.Omega.{arith}
-use Rattle.script.proofs.Moves.{full, move-ended, move-cut, move-bad, move-misplaced, move-step}
+use Rattle.record.proofs.Records.{full}
+use Rattle.script.proofs.Moves.{move-ended, move-cut, move-bad, move-misplaced, move-step}
 use Rattle.script.proofs.Turns.{record-at, body-at, turn-stay, turn-stop, turn-step, body-length}
-use Rattle.script.specs.Call.{rings}
+use Rattle.call.specs.Call.{rings}
 use Rattle.script.specs.Machine.{machine, moveOf}
-use Rattle.script.specs.Record.{isBody, recordOf}
-use Rattle.script.specs.declared.record.Decoded.the-variants.{Whole, Bad, Cut}
+use Rattle.record.specs.Record.{isBody, recordOf}
+use Rattle.record.specs.declared.Decoded.the-variants.{Whole, Bad, Cut}
 use Rattle.script.proofs.turn.turn.Statement.{statement}
 use Rattle.script.proofs.turn.turn.Tie as tie
 
