@@ -1,6 +1,8 @@
 -- One line of the listing. 01 "Script program", line. 32 is a space, 10 a newline.
-use Prim.Native.Nat.{ℕ}
+use Prim.Native.Nat.{ℕ, _≤_, _<_}
+use mathlib.Core.Path.{_≡_}
 use mathlib.Core.List.{List, [], _∷_, _++_}
+use lib.ListN.{length}
 use Rattle.status.specs.declared.SocketInfo.{SocketInfo}
 use Rattle.status.specs.declared.PortPacket.{PortPacket}
 use Rattle.status.specs.declared.Record.{Record}
@@ -9,6 +11,7 @@ use Rattle.status.specs.declared.Answer.{Answer}
 use Rattle.status.specs.declared.Answer.the-variants.{Done, Refused}
 use Rattle.endpoint.specs.declared.SignalWord.{SignalWord}
 use Rattle.endpoint.specs.declared.SignalWord.the-variants.{Closed, Word}
+use Rattle.text.specs.Put.{Written}
 use Rattle.text.specs.Digits.{decimalOf, hexOf, hexBytesOf}
 use Rattle.text.specs.Answer.{wordOf}
 
@@ -69,3 +72,8 @@ signalsText one two = signalText one ++ (32 ∷ signalText two)
 
 unfoldable pub lineOf : (number : ℕ) → Answer → (one two : SignalWord) → (delivered : List ℕ) → List ℕ
 lineOf number a one two bs = frontText number a ++ (signalsText one two ++ (addedText a bs ++ (10 ∷ [])))
+
+-- what the function says that puts a line: with room for LINE bytes it puts the line, else nothing; with more than 4096 bytes delivered it puts nothing
+pub record LineDone (number : ℕ) (a : Answer) (one two : SignalWord) (bs : List ℕ) (at r : ℕ) (out out′ : List ℕ) : Type 0 where
+  pub put : length bs ≤ 4096 → Written LINE at (lineOf number a one two bs) r out out′
+  pub none : 4096 < length bs → (r ≡ at) × (out′ ≡ out)

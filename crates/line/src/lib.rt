@@ -7,7 +7,7 @@ use status::SocketInfo;
 ghost use Prim.Native.Nat.{_+_, _≤_};
 ghost use lib.ListN.{length};
 ghost use Rattle.text.specs.Put.{Fit};
-ghost use Rattle.line.specs.Line.{LINE, numberText, hexText, signalText, ownText, restText, infoText, packetText, bytesText, recordText, addedText, frontText, signalsText, lineOf};
+ghost use Rattle.line.specs.Line.{numberText, hexText, signalText, ownText, restText, infoText, packetText, bytesText, recordText, addedText, frontText, signalsText, LineDone};
 
 fn number(out: &mut [u8], at: usize, n: u64) -> usize
     ensures { λ r. ⌜ Fit 21 at (numberText n) r (now (out .entry)) (now (out .exit)) ⌝ }
@@ -117,7 +117,8 @@ fn signals(out: &mut [u8], at: usize, one: SignalWord, two: SignalWord) -> usize
     signal(out, b, two)
 }
 
-// A line: the record's number, the answer's word, both signal words, and what the call adds.
+// A line: the record's number, the answer's word, both signal words, and what the call adds. No call of a script delivers more than 4096 bytes;
+// with more, nothing is put.
 pub fn line(
     out: &mut [u8],
     at: usize,
@@ -127,11 +128,16 @@ pub fn line(
     two: SignalWord,
     delivered: &[u8],
 ) -> usize
-    requires { ⌜ length (now delivered) ≤ 4096 ⌝ }
-    ensures { λ r. ⌜ Fit LINE at (lineOf n a one two (now (delivered .entry))) r (now (out .entry)) (now (out .exit)) ⌝ }
+    ensures { λ r. ⌜ LineDone n a one two (now (delivered .entry)) at r (now (out .entry)) (now (out .exit)) ⌝ }
 {
-    let b = front(out, at, n, a);
-    let c = signals(out, b, one, two);
-    let d = added(out, c, a, delivered);
-    text::byte(out, d, b'\n')
+    if delivered.len() > 4096 {
+        return at;
+    }
+    if text::has_room(out.len(), at, 8254) {
+        let b = front(out, at, n, a);
+        let c = signals(out, b, one, two);
+        let d = added(out, c, a, delivered);
+        return text::byte(out, d, b'\n');
+    }
+    at
 }
