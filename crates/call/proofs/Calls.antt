@@ -28,7 +28,7 @@ use Rattle.text.specs.Put.{place}
 use Rattle.record.specs.declared.fields.Transfer.{Transfer}
 use Rattle.record.specs.Fields.{eight, transferOf}
 use Rattle.record.specs.Record.{isBody}
-use Rattle.call.specs.Call.{BASE, Rings, rings, ownRing, ownTable, peerRing, peerTable, withPeer, stepOf, writeAnswerOf, wroteBy, writeCall, readAnswerOf, gotBy, readCall, fillAnswer, filled, fillCall, takeStep, plainStep, plainCall, callOf, CallDone}
+use Rattle.call.specs.Call.{BASE, Rings, rings, ownRing, ownTable, peerRing, peerTable, withPeer, stepOf, writeAnswerOf, wroteBy, writeCall, readAnswerOf, gotBy, readCall, fillAnswer, filled, fillCall, takeStep, plainStep, plainCall, callOf, CallDone, CallMade}
 
 abbrev pub mk : Pair → Answer → Step
 mk p a = record { pair = p; answer = a }
@@ -230,6 +230,15 @@ pub fill-done : (memory memory′ : List ℕ) (z : Rings) (p : Pair) (address : 
     → (a ≡ fillAnswer (length memory) address (length bs)) × (memory′ ≡ filled address bs memory) → CallDone (fillCall memory z p address bs) memory′ z (mk p a)
 unfolding fillCall
 fill-done memory memory′ z p address bs a w = record { step = ap (λ (x : Answer). mk p x) (w .0); memory = w .1; lent = refl }
+
+-- a body that is right, and one that is not
+module _ {memory : List ℕ} {z : Rings} {p : Pair} {tag : ℕ} {b : List ℕ} where
+  pub made : {memory′ : List ℕ} {z′ : Rings} {r : Step} → isBody tag (length b) ≡ true → CallDone (callOf memory z p tag b) memory′ z′ r
+      → CallMade memory z p tag b memory′ z′ r
+  made e d = record { made = λ f. d; none = λ f. absurd (never (sym f ∙ e)) }
+
+  pub no-call : isBody tag (length b) ≡ false → CallMade memory z p tag b memory z (mk p (Refused InvalidArgs))
+  no-call e = record { made = λ f. absurd (never (sym e ∙ f)); none = λ f. (refl, refl, refl) }
 
 -- ---- tags, one after the other
 

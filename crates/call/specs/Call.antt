@@ -9,7 +9,7 @@ use lib.Dec.{ltb, eqb}
 use Rattle.status.specs.declared.Status.the-variants.{InvalidArgs}
 use Rattle.status.specs.declared.Record.the-variants.{Count}
 use Rattle.status.specs.declared.Answer.{Answer}
-use Rattle.status.specs.declared.Answer.the-variants.{Done}
+use Rattle.status.specs.declared.Answer.the-variants.{Done, Refused}
 use Rattle.status.specs.Choice.{pick}
 use Rattle.status.specs.Answer.{refuseUnless, _then_, countOf, isDone}
 use Rattle.endpoint.specs.Queue.{firstLength}
@@ -30,7 +30,7 @@ use Rattle.syscall.specs.Read.{isPeek, userReadAnswer, bytesLanded}
 use Rattle.syscall.specs.Control.{dispositionOf, userDisposeAnswer, shutsRead, shutsWrite, userShutdownAnswer}
 use Rattle.text.specs.Put.{place}
 use Rattle.record.specs.declared.fields.Transfer.{Transfer}
-use Rattle.record.specs.Record.{READ}
+use Rattle.record.specs.Record.{READ, isBody}
 use Rattle.record.specs.Fields.{four, eight, transferOf}
 
 -- where the memory begins
@@ -215,3 +215,8 @@ pub record CallDone (d : Called) (memory′ : List ℕ) (z′ : Rings) (r : Step
   pub step : r ≡ d .step
   pub memory : memory′ ≡ d .memory
   pub lent : z′ ≡ d .lent
+
+-- a body that is right for its tag makes the call; with any other body none is made, and nothing changes
+pub record CallMade (memory : List ℕ) (z : Rings) (p : Pair) (tag : ℕ) (b memory′ : List ℕ) (z′ : Rings) (r : Step) : Type 0 where
+  pub made : isBody tag (length b) ≡ true → CallDone (callOf memory z p tag b) memory′ z′ r
+  pub none : isBody tag (length b) ≡ false → (r ≡ record { pair = p; answer = Refused InvalidArgs }) × (memory′ ≡ memory) × (z′ ≡ z)

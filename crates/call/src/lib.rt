@@ -8,10 +8,8 @@ use status::Record;
 use status::Status;
 ghost use Prim.Native.Nat.{_≤_};
 ghost use mathlib.Core.Path.{_≡_};
-ghost use mathlib.Core.Bool.{true};
 ghost use lib.ListN.{length};
-ghost use Rattle.record.specs.Record.{isBody};
-ghost use Rattle.call.specs.Call.{rings, createStep, dispositionStep, shutdownStep, readThresholdStep, writeThresholdStep, infoBy, closeStep, waitStep, plainStep, writeCall, readCall, fillAnswer, filled, callOf, CallDone};
+ghost use Rattle.call.specs.Call.{rings, createStep, dispositionStep, shutdownStep, readThresholdStep, writeThresholdStep, infoBy, closeStep, waitStep, plainStep, writeCall, readCall, fillAnswer, filled, CallDone, CallMade};
 
 // Where the memory begins.
 const BASE: u64 = 65536;
@@ -236,7 +234,7 @@ fn fill(memory: &mut [u8], address: u64, bytes: &[u8]) -> Answer
     Answer::Refused(Status::InvalidArgs)
 }
 
-// By the tag; the count of a read does not land yet.
+// By the tag; the count of a read does not land yet. With a body that is not right for the tag no call is made.
 pub fn call(
     p: Pair,
     tag: u8,
@@ -247,9 +245,14 @@ pub fn call(
     ring_two: &mut [u8],
     table_two: &mut [u32],
 ) -> Step
-    requires { ⌜ isBody tag (length (now body)) ≡ true ⌝ }
-    ensures { λ r. ⌜ CallDone (callOf (now (memory .entry)) (rings (now («ring_one» .entry)) (now («table_one» .entry)) (now («ring_two» .entry)) (now («table_two» .entry))) p tag (now (body .entry))) (now (memory .exit)) (rings (now («ring_one» .exit)) (now («table_one» .exit)) (now («ring_two» .exit)) (now («table_two» .exit))) r ⌝ }
+    ensures { λ r. ⌜ CallMade (now (memory .entry)) (rings (now («ring_one» .entry)) (now («table_one» .entry)) (now («ring_two» .entry)) (now («table_two» .entry))) p tag (now (body .entry)) (now (memory .exit)) (rings (now («ring_one» .exit)) (now («table_one» .exit)) (now («ring_two» .exit)) (now («table_two» .exit))) r ⌝ }
 {
+    if !record::is_body(tag, body.len()) {
+        return Step {
+            pair: p,
+            answer: Answer::Refused(Status::InvalidArgs),
+        };
+    }
     match tag {
         1 => write(
             p,
