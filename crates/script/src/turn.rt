@@ -12,7 +12,7 @@ ghost use Rattle.socket.specs.Pair.{shownBy};
 ghost use Rattle.line.specs.Line.{LINE, lineOf};
 ghost use Rattle.call.specs.Call.{BASE, rings, deliveredCount, delivered, settled};
 ghost use Rattle.script.specs.Machine.{machine, isMisplaced, isLast, moveOf};
-ghost use Rattle.script.specs.Turn.{LIMIT, StepMay, StepDone, StopDone, TurnMay, TurnDone};
+ghost use Rattle.script.specs.Turn.{LIMIT, nextOf, StepMay, StepDone, StopDone, TurnMay, TurnDone};
 
 // After a step: the state, and the place in the output.
 pub struct Stepped {
@@ -175,6 +175,27 @@ fn stop(st: State, offset: u64, from: usize, out: &mut [u8], at: usize) -> Turne
     }
 }
 
+// What the bytes of the input begin with from a place on. A script that has ended waits as for a record that is cut, and a record out of its place is
+// bad.
+fn next(ended: bool, number: u64, input: &[u8], from: usize) -> Decoded
+    requires { ⌜ from ≤ length (now input) ⌝ }
+    ensures { λ r. ⌜ r ≡ nextOf ended number (drop from (now (input .entry))) ⌝ }
+{
+    if ended {
+        return Decoded::Cut;
+    }
+    match record::decode(&input[from..]) {
+        Decoded::Cut => Decoded::Cut,
+        Decoded::Bad => Decoded::Bad,
+        Decoded::Whole(tag, n) => {
+            if is_misplaced(tag, number) {
+                return Decoded::Bad;
+            }
+            Decoded::Whole(tag, n)
+        }
+    }
+}
+
 // The move that the bytes of the input make from a place on.
 pub(crate) fn turn(
     st: State,
@@ -192,15 +213,7 @@ pub(crate) fn turn(
     requires { ⌜ TurnMay st offset (now input) from (now memory) ⌝ }
     ensures { λ r. ⌜ TurnDone (machine st (now (memory .entry)) (rings (now («ring_one» .entry)) (now («table_one» .entry)) (now («ring_two» .entry)) (now («table_two» .entry)))) (moveOf (machine st (now (memory .entry)) (rings (now («ring_one» .entry)) (now («table_one» .entry)) (now («ring_two» .entry)) (now («table_two» .entry)))) (drop from (now (input .entry)))) offset from at (now (memory .exit)) (rings (now («ring_one» .exit)) (now («table_one» .exit)) (now («ring_two» .exit)) (now («table_two» .exit))) (now (out .entry)) (now (out .exit)) r ⌝ }
 {
-    if st.ended {
-        return Turned {
-            state: st,
-            from,
-            at,
-            more: false,
-        };
-    }
-    match record::decode(&input[from..]) {
+    match next(st.ended, st.number, input, from) {
         Decoded::Cut => Turned {
             state: st,
             from,
@@ -209,9 +222,6 @@ pub(crate) fn turn(
         },
         Decoded::Bad => stop(st, offset, from, out, at),
         Decoded::Whole(tag, n) => {
-            if is_misplaced(tag, st.number) {
-                return stop(st, offset, from, out, at);
-            }
             let b = from + 3;
             let e = b + n;
             let s = step(
