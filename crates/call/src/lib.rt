@@ -9,7 +9,7 @@ use status::Status;
 ghost use Prim.Native.Nat.{_≤_};
 ghost use mathlib.Core.Path.{_≡_};
 ghost use lib.ListN.{length};
-ghost use Rattle.call.specs.Call.{rings, createStep, dispositionStep, shutdownStep, readThresholdStep, writeThresholdStep, infoBy, closeStep, waitStep, plainStep, writeCall, readCall, fillAnswer, filled, CallDone, CallMade};
+ghost use Rattle.call.specs.Call.{rings, createStep, dispositionStep, shutdownStep, readThresholdStep, writeThresholdStep, infoBy, closeStep, waitStep, plainStep, writeCall, readCall, fillAnswer, filled, settled, CallDone, CallMade};
 
 // Where the memory begins.
 const BASE: u64 = 65536;
@@ -278,5 +278,17 @@ pub fn call(
             Step { pair: p, answer }
         }
         0 | 3..=10 => plain(p, tag, body, ring_one, table_one, ring_two, table_two),
+    }
+}
+
+// The count of a done read lands, behind its call.
+pub fn settle(tag: u8, body: &[u8], a: Answer, memory: &mut [u8])
+    ensures { λ _. ⌜ now (memory .exit) ≡ settled tag (now (body .entry)) a (now (memory .entry)) ⌝ }
+{
+    if tag == 2 {
+        if status::is_done(a) {
+            let count_at = fields::u64_at(body, 24);
+            syscall::land_count(memory, BASE, count_at, status::count_of(a));
+        }
     }
 }

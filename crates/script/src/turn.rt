@@ -10,7 +10,7 @@ ghost use lib.ListN.{length, take, drop};
 ghost use Rattle.text.specs.Put.{Fit};
 ghost use Rattle.socket.specs.Pair.{shownBy};
 ghost use Rattle.line.specs.Line.{LINE, lineOf};
-ghost use Rattle.call.specs.Call.{BASE, rings, deliveredCount, delivered, settled};
+ghost use Rattle.call.specs.Call.{BASE, rings, deliveredCount, delivered};
 ghost use Rattle.script.specs.Machine.{machine, isMisplaced, isLast, moveOf};
 ghost use Rattle.script.specs.Turn.{LIMIT, nextOf, StepMay, StepDone, StopDone, TurnMay, TurnDone};
 
@@ -103,18 +103,6 @@ fn print(
     line::line(out, at, number, a, one, two, bytes)
 }
 
-// The count of a done read lands.
-fn settle(tag: u8, body: &[u8], a: Answer, memory: &mut [u8])
-    ensures { λ _. ⌜ now (memory .exit) ≡ settled tag (now (body .entry)) a (now (memory .entry)) ⌝ }
-{
-    if tag == 2 {
-        if status::is_done(a) {
-            let count_at = fields::u64_at(body, 24);
-            syscall::land_count(memory, 65536, count_at, status::count_of(a));
-        }
-    }
-}
-
 // Runs a record and puts out its line.
 fn step(
     st: State,
@@ -145,7 +133,7 @@ fn step(
     let next = s.pair;
     let a = s.answer;
     let to = print(out, at, st.number, tag, body, a, next, memory);
-    settle(tag, body, a, memory);
+    call::settle(tag, body, a, memory);
     Stepped {
         state: State {
             pair: next,

@@ -1,10 +1,10 @@
 use borrow.Author.Needs.{needs}
 use borrow.Author.Tests.{ne-eqb}
 use mathlib.Core.Path.{refl}
 use Rattle.call.specs.Call.{settled}
 use Rattle.status.specs.Choice.{pick}
-use Rattle.script.proofs.turn.settle.Statement.{statement}
-use Rattle.script.proofs.turn.settle.Tie as tie
+use Rattle.call.proofs.settle.Statement.{statement}
+use Rattle.call.proofs.settle.Tie as tie
 
 is-done-requires : tie.Need-is-done-requires
 is-done-requires c κs = search needs
