@@ -2,8 +2,8 @@
 use Prim.Native.Nat.{ℕ, _+_, _-_, _≤_}
 use native.Mathlib.Nat.{zero-add}
 use native.Mathlib.Omega.{arith}
-use mathlib.Core.Path.{_≡_, refl, sym, ap, _∙_}
-use mathlib.Core.Bool.{Bool, true, false}
+use mathlib.Core.Path.{_≡_, sym, ap, _∙_}
+use mathlib.Core.Bool.{true, false}
 use mathlib.Core.List.{List, [], _++_, append-nil, append-assoc}
 use mathlib.Core.Logic.{⊎-elim}
 use lib.Dec.{leb}
@@ -13,13 +13,13 @@ use borrow.Author.Tests.{le-leb, leb-true, leb-false}
 use borrow.Rule.Slice.PartMut.{midOf, putMid, postOf}
 use Rattle.status.specs.Choice.{_and_}
 use Rattle.port.proofs.Lists.{either}
-use Rattle.text.specs.Put.{place, Put, Fit, Written}
+use Rattle.text.specs.Put.{place, Put, Written}
 use Rattle.text.proofs.Place.{place-front}
 use Rattle.script.specs.declared.State.{State}
 use Rattle.script.specs.declared.feed.Fed.{Fed}
-use Rattle.script.specs.Line.{LINE}
+use Rattle.line.specs.Line.{LINE}
 use Rattle.script.specs.Turn.{LIMIT}
-use Rattle.script.specs.Call.{Rings}
+use Rattle.call.specs.Call.{Rings}
 use Rattle.script.specs.Machine.{Machine, machine, startState, moveOf, stay}
 use Rattle.script.specs.Listing.{header, run, closing}
 use Rattle.script.specs.Feed.{isReady, FeedDone}

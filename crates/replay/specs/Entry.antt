@@ -3,7 +3,7 @@ use Prim.Native.Nat.{ℕ, _+_, _-_, _≤_, _<_}
 use mathlib.Core.Path.{_≡_}
 use mathlib.Core.List.{List}
 use lib.ListN.{length, take, drop, getD}
-use Rattle.script.specs.Record.{four}
+use Rattle.record.specs.Fields.{four}
 use Rattle.script.specs.Listing.{listing}
 use Rattle.replay.specs.declared.entry.Field.{Field}
 use Rattle.replay.specs.declared.entry.Field.the-variants as Field

@@ -3,7 +3,7 @@ use Prim.Native.Nat.{ℕ, _+_, _≤_}
 use mathlib.Core.Path.{_≡_}
 use mathlib.Core.List.{List}
 use lib.ListN.{length, take}
-use Rattle.script.specs.Line.{LINE}
+use Rattle.line.specs.Line.{LINE}
 use Rattle.script.specs.Turn.{LIMIT}
 
 -- r bytes were written to the front of a buffer, out after. They are the text where room for one more line is left behind them

@@ -3,7 +3,7 @@ use crate::listing;
 ghost use Prim.Native.Nat.{_+_, _≤_, _<_};
 ghost use mathlib.Core.Path.{_≡_};
 ghost use lib.ListN.{length};
-ghost use Rattle.script.specs.Record.{four};
+ghost use Rattle.record.specs.Fields.{four};
 ghost use Rattle.replay.specs.Entry.{FieldAt, EntryAt, EntryIn, Compares, Agreement, AgreeTo, Counted};
 
 // Where a field ends: its length and its bytes.

@@ -3,7 +3,7 @@ use script::feed;
 ghost use Prim.Native.Nat.{_≤_};
 ghost use mathlib.Core.List.{_++_};
 ghost use lib.ListN.{length};
-ghost use Rattle.script.specs.Call.{rings};
+ghost use Rattle.call.specs.Call.{rings};
 ghost use Rattle.script.specs.Machine.{machine, startState};
 ghost use Rattle.script.specs.Listing.{header, run, listing};
 ghost use Rattle.replay.specs.Ran.{Ran};

@@ -13,8 +13,8 @@ use Rattle.text.specs.Put.{place}
 use Rattle.text.proofs.Place.{place-none, place-length, place-front, place-behind}
 use Rattle.script.specs.declared.State.{State}
 use Rattle.script.specs.declared.turn.Turned.{Turned}
-use Rattle.script.specs.Line.{LINE}
-use Rattle.script.specs.Call.{Rings}
+use Rattle.line.specs.Line.{LINE}
+use Rattle.call.specs.Call.{Rings}
 use Rattle.script.specs.Machine.{Machine, machine, stoppedState, Move, stay, halt, go, moveOf}
 use Rattle.script.specs.Listing.{run}
 use Rattle.script.specs.Turn.{LIMIT, machineAfter, textOf, takenBy, goesOn, TurnDone}

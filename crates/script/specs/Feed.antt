@@ -9,8 +9,8 @@ use Rattle.status.specs.Choice.{pick, _and_}
 use Rattle.text.specs.Put.{Written}
 use Rattle.script.specs.declared.State.{State}
 use Rattle.script.specs.declared.feed.Fed.{Fed}
-use Rattle.script.specs.Line.{LINE}
-use Rattle.script.specs.Call.{Rings}
+use Rattle.line.specs.Line.{LINE}
+use Rattle.call.specs.Call.{Rings}
 use Rattle.script.specs.Machine.{Machine, machine, start, stay, moveOf}
 use Rattle.script.specs.Listing.{closing, run, header, listing}
 use Rattle.script.specs.Turn.{LIMIT}

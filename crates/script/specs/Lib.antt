@@ -1,14 +1,8 @@
--- 01 "Script program":
---   Record: what a record is, and the lengths of bodies
---   Line: one line of the listing
---   Call: the call that a record makes, on the pair and the slices lent to it
+-- 01 "Script program". What a record is stands in the crate record, one line of the listing in line, and the call that a record makes in call.
 --   Machine: one move of the machine that a script drives
 --   Listing: the listing of a whole script, from bytes to bytes
 --   Turn: what the functions say that make one move
 --   Feed: what the functions say that feed a script in blocks, and the claim that they give the listing
-pub mod Record
-pub mod Line
-pub mod Call
 pub mod Machine
 pub mod Listing
 pub mod Turn

@@ -8,12 +8,12 @@ use Rattle.status.specs.declared.Answer.{Answer}
 use Rattle.status.specs.Choice.{pick, _and_}
 use Rattle.status.specs.Answer.{isDone}
 use Rattle.socket.specs.Pair.{noPair, shownBy}
-use Rattle.script.specs.declared.record.Decoded.{Decoded}
-use Rattle.script.specs.declared.record.Decoded.the-variants.{Whole, Bad, Cut}
+use Rattle.record.specs.declared.Decoded.{Decoded}
+use Rattle.record.specs.declared.Decoded.the-variants.{Whole, Bad, Cut}
 use Rattle.script.specs.declared.State.{State}
-use Rattle.script.specs.Record.{CREATE, recordOf}
-use Rattle.script.specs.Line.{lineOf}
-use Rattle.script.specs.Call.{Rings, rings, Called, callOf, delivered, settled}
+use Rattle.record.specs.Record.{CREATE, recordOf}
+use Rattle.line.specs.Line.{lineOf}
+use Rattle.call.specs.Call.{Rings, rings, Called, callOf, delivered, settled}
 
 -- the program's state, and the memory, rings and tables that it lends. The byte offset is no part of it: only the line that stops a script shows it.
 pub record Machine : Type 0 where

@@ -4,15 +4,18 @@ use mathlib.Core.Path.{_≡_}
 use mathlib.Core.Bool.{Bool, true, false}
 use mathlib.Core.List.{List, []}
 use lib.ListN.{length}
+use Rattle.status.specs.Choice.{pick}
 use Rattle.text.specs.Put.{Fit}
 use Rattle.text.specs.Answer.{stopOf}
 use Rattle.script.specs.declared.State.{State}
 use Rattle.script.specs.declared.turn.Stepped.{Stepped}
 use Rattle.script.specs.declared.turn.Turned.{Turned}
-use Rattle.script.specs.Record.{isBody}
-use Rattle.script.specs.Line.{LINE}
-use Rattle.script.specs.Call.{Rings}
-use Rattle.script.specs.Machine.{Machine, machine, stepped, stepLine, stoppedState, Move, stay, halt, go}
+use Rattle.record.specs.declared.Decoded.{Decoded}
+use Rattle.record.specs.declared.Decoded.the-variants.{Whole, Bad, Cut}
+use Rattle.record.specs.Record.{isBody, recordOf}
+use Rattle.line.specs.Line.{LINE}
+use Rattle.call.specs.Call.{Rings}
+use Rattle.script.specs.Machine.{Machine, machine, isMisplaced, stepped, stepLine, stoppedState, Move, stay, halt, go}
 
 -- the numbers that a block may begin with are half of what 64 bits count, so that those that it ends with fit
 abbrev pub LIMIT : ℕ
@@ -36,6 +39,15 @@ pub record StopDone (st : State) (offset from at : ℕ) (out out′ : List ℕ) 
   pub next : r .from ≡ from
   pub more : r .more ≡ false
   pub text : Fit 26 at (stopOf (offset + from)) (r .at) out out′
+
+-- what bytes begin with: once the script has ended they wait as a record that is cut does, and a record out of its place is bad
+unfoldable pub placed : (number : ℕ) → Decoded → Decoded
+placed number Cut = Cut
+placed number Bad = Bad
+placed number (Whole tag n) = pick (isMisplaced tag number) Bad (Whole tag n)
+
+unfoldable pub nextOf : (ended : Bool) → (number : ℕ) → List ℕ → Decoded
+nextOf ended number s = pick ended Cut (placed number (recordOf s))
 
 -- ---- by the move
 

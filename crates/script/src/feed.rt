@@ -7,7 +7,7 @@ ghost use mathlib.Core.Path.{_≡_};
 ghost use mathlib.Core.Bool.{true};
 ghost use lib.ListN.{length};
 ghost use Rattle.text.specs.Put.{Written};
-ghost use Rattle.script.specs.Call.{rings};
+ghost use Rattle.call.specs.Call.{rings};
 ghost use Rattle.script.specs.Machine.{startState};
 ghost use Rattle.script.specs.Listing.{closing};
 ghost use Rattle.script.specs.Listing.{header as Listing·header};

@@ -1,10 +1,7 @@
 // One move of the machine that a script drives: a record is run and its line put out, or the script stops.
 use crate::State;
-use crate::call;
-use crate::fields;
-use crate::line;
-use crate::record;
-use crate::record::Decoded;
+use record::Decoded;
+use record::fields;
 use socket::Pair;
 use status::Answer;
 ghost use Prim.Native.Nat.{_+_, _-_, _≤_, _<_};
@@ -12,10 +9,10 @@ ghost use mathlib.Core.Path.{_≡_};
 ghost use lib.ListN.{length, take, drop};
 ghost use Rattle.text.specs.Put.{Fit};
 ghost use Rattle.socket.specs.Pair.{shownBy};
-ghost use Rattle.script.specs.Line.{LINE, lineOf};
-ghost use Rattle.script.specs.Call.{BASE, rings, deliveredCount, delivered, settled};
+ghost use Rattle.line.specs.Line.{LINE, lineOf};
+ghost use Rattle.call.specs.Call.{BASE, rings, deliveredCount, delivered};
 ghost use Rattle.script.specs.Machine.{machine, isMisplaced, isLast, moveOf};
-ghost use Rattle.script.specs.Turn.{LIMIT, StepMay, StepDone, StopDone, TurnMay, TurnDone};
+ghost use Rattle.script.specs.Turn.{LIMIT, nextOf, StepMay, StepDone, StopDone, TurnMay, TurnDone};
 
 // After a step: the state, and the place in the output.
 pub struct Stepped {
@@ -106,18 +103,6 @@ fn print(
     line::line(out, at, number, a, one, two, bytes)
 }
 
-// The count of a done read lands.
-fn settle(tag: u8, body: &[u8], a: Answer, memory: &mut [u8])
-    ensures { λ _. ⌜ now (memory .exit) ≡ settled tag (now (body .entry)) a (now (memory .entry)) ⌝ }
-{
-    if tag == 2 {
-        if status::is_done(a) {
-            let count_at = fields::u64_at(body, 24);
-            syscall::land_count(memory, 65536, count_at, status::count_of(a));
-        }
-    }
-}
-
 // Runs a record and puts out its line.
 fn step(
     st: State,
@@ -148,7 +133,7 @@ fn step(
     let next = s.pair;
     let a = s.answer;
     let to = print(out, at, st.number, tag, body, a, next, memory);
-    settle(tag, body, a, memory);
+    call::settle(tag, body, a, memory);
     Stepped {
         state: State {
             pair: next,
@@ -178,6 +163,27 @@ fn stop(st: State, offset: u64, from: usize, out: &mut [u8], at: usize) -> Turne
     }
 }
 
+// What the bytes of the input begin with from a place on. A script that has ended waits as for a record that is cut, and a record out of its place is
+// bad.
+fn next(ended: bool, number: u64, input: &[u8], from: usize) -> Decoded
+    requires { ⌜ from ≤ length (now input) ⌝ }
+    ensures { λ r. ⌜ r ≡ nextOf ended number (drop from (now (input .entry))) ⌝ }
+{
+    if ended {
+        return Decoded::Cut;
+    }
+    match record::decode(&input[from..]) {
+        Decoded::Cut => Decoded::Cut,
+        Decoded::Bad => Decoded::Bad,
+        Decoded::Whole(tag, n) => {
+            if is_misplaced(tag, number) {
+                return Decoded::Bad;
+            }
+            Decoded::Whole(tag, n)
+        }
+    }
+}
+
 // The move that the bytes of the input make from a place on.
 pub(crate) fn turn(
     st: State,
@@ -195,15 +201,7 @@ pub(crate) fn turn(
     requires { ⌜ TurnMay st offset (now input) from (now memory) ⌝ }
     ensures { λ r. ⌜ TurnDone (machine st (now (memory .entry)) (rings (now («ring_one» .entry)) (now («table_one» .entry)) (now («ring_two» .entry)) (now («table_two» .entry)))) (moveOf (machine st (now (memory .entry)) (rings (now («ring_one» .entry)) (now («table_one» .entry)) (now («ring_two» .entry)) (now («table_two» .entry)))) (drop from (now (input .entry)))) offset from at (now (memory .exit)) (rings (now («ring_one» .exit)) (now («table_one» .exit)) (now («ring_two» .exit)) (now («table_two» .exit))) (now (out .entry)) (now (out .exit)) r ⌝ }
 {
-    if st.ended {
-        return Turned {
-            state: st,
-            from,
-            at,
-            more: false,
-        };
-    }
-    match record::decode(&input[from..]) {
+    match next(st.ended, st.number, input, from) {
         Decoded::Cut => Turned {
             state: st,
             from,
@@ -212,9 +210,6 @@ pub(crate) fn turn(
         },
         Decoded::Bad => stop(st, offset, from, out, at),
         Decoded::Whole(tag, n) => {
-            if is_misplaced(tag, st.number) {
-                return stop(st, offset, from, out, at);
-            }
             let b = from + 3;
             let e = b + n;
             let s = step(

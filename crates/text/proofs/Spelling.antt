@@ -8,6 +8,7 @@ use mathlib.Core.List.{List, [], _∷_, _++_, append-assoc}
 use lib.ListN.{length, take, getD, set, length-append}
 use lib.Seq.{take-suc, length-take-le}
 use lib.Dec.{ltb}
+use borrow.Author.Tests.{lt-ltb, le-ltb, ltb-true, ltb-false}
 use Rattle.status.specs.Choice.{pick}
 use Rattle.text.specs.Put.{place}
 use Rattle.text.specs.Digits.{digitOf, digitsOf, widthBy, widthOf, hexBytesOf}
@@ -58,6 +59,30 @@ widthBy-most (suc k) p n = pick-most (ltb n p) 1 (1 + widthBy k (p * 10) n) (suc
 pub width-most : (n : ℕ) → widthOf n ≤ 20
 unfolding widthOf
 width-most n = widthBy-most 19 10 n
+
+-- a number that has two digits or more has one more than its tenth
+tenth-by : (p n : ℕ) (b : Bool) → ltb n (p * 10) ≡ b → b ≡ ltb (n / 10) p
+tenth-by p n true e = let h : n < p * 10 = ltb-true n (p * 10) e in sym (lt-ltb (n / 10) p (omega arith))
+tenth-by p n false e = let h : p * 10 ≤ n = ltb-false n (p * 10) e in sym (le-ltb (n / 10) p (omega arith))
+
+widthBy-tenth : (k p n : ℕ) → widthBy k (p * 10) n ≡ widthBy k p (n / 10)
+unfolding widthBy
+widthBy-tenth zero p n = refl
+widthBy-tenth (suc k) p n =
+    ap (λ (b : Bool). pick b 1 (1 + widthBy k (p * 10 * 10) n)) (tenth-by p n (ltb n (p * 10)) refl)
+    ∙ ap (λ (w : ℕ). pick (ltb (n / 10) p) 1 (1 + w)) (widthBy-tenth k (p * 10) n)
+
+pub width-more : (k n : ℕ) → 0 < k → 10 ≤ n → widthBy k 10 n ≡ 1 + widthBy (k - 1) 10 (n / 10)
+unfolding widthBy pick
+width-more zero n h g = absurd (let z : ⊥ = omega arith in z)
+width-more (suc k) n h g =
+    let e : suc k - 1 ≡ k = omega arith in
+    rw (e, le-ltb n 10 g) (ap (λ (w : ℕ). 1 + w) (widthBy-tenth k 10 n))
+
+pub width-one : (k n : ℕ) → (0 < k → n < 10) → widthBy k 10 n ≡ 1
+unfolding widthBy pick
+width-one zero n h = refl
+width-one (suc k) n h = rw (lt-ltb n 10 (h (omega arith))) refl
 
 pub hex-bytes-length : (bs : List ℕ) → length (hexBytesOf bs) ≡ 2 * length bs
 unfolding hexBytesOf

@@ -61,68 +61,17 @@ fn digit(d: u64) -> u8
     if d < 10 { 48 + d as u8 } else { 87 + d as u8 }
 }
 
-// How many decimal digits a number has.
+// How many decimal digits a number has, at most 20.
 fn width(n: u64) -> usize
     ensures { λ r. ⌜ r ≡ widthOf n ⌝ }
 {
-    if n < 10 {
-        return 1;
+    let mut k = 1;
+    let mut rest = n;
+    while k < 20 && rest >= 10 {
+        rest /= 10;
+        k += 1;
     }
-    if n < 100 {
-        return 2;
-    }
-    if n < 1000 {
-        return 3;
-    }
-    if n < 10000 {
-        return 4;
-    }
-    if n < 100000 {
-        return 5;
-    }
-    if n < 1000000 {
-        return 6;
-    }
-    if n < 10000000 {
-        return 7;
-    }
-    if n < 100000000 {
-        return 8;
-    }
-    if n < 1000000000 {
-        return 9;
-    }
-    if n < 10000000000 {
-        return 10;
-    }
-    if n < 100000000000 {
-        return 11;
-    }
-    if n < 1000000000000 {
-        return 12;
-    }
-    if n < 10000000000000 {
-        return 13;
-    }
-    if n < 100000000000000 {
-        return 14;
-    }
-    if n < 1000000000000000 {
-        return 15;
-    }
-    if n < 10000000000000000 {
-        return 16;
-    }
-    if n < 100000000000000000 {
-        return 17;
-    }
-    if n < 1000000000000000000 {
-        return 18;
-    }
-    if n < 10000000000000000000 {
-        return 19;
-    }
-    20
+    k
 }
 
 fn put_decimal(out: &mut [u8], at: usize, k: usize, n: u64)

@@ -2,7 +2,7 @@ use borrow.Author.Needs.{needs}
 use denote.Ref.{now}
 use mathlib.Core.Path.{sym, _∙_}
 use Rattle.script.proofs.Feeding.{unready}
-use Rattle.script.specs.Call.{rings}
+use Rattle.call.specs.Call.{rings}
 use Rattle.script.proofs.feed.feed.Statement.{statement}
 use Rattle.script.proofs.feed.feed.Tie as tie
 

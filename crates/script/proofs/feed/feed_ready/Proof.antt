@@ -6,8 +6,8 @@ use mathlib.Core.Bool.{Bool}
 use mathlib.Core.Path.{_≡_, refl, sym, _∙_, subst}
 use native.Mathlib.Omega.{arith}
 use Rattle.script.proofs.Feeding.{never, Ready, ready, SoFar, begins, next, left, falls}
-use Rattle.script.specs.Call.{rings}
-use Rattle.script.specs.Line.{LINE}
+use Rattle.call.specs.Call.{rings}
+use Rattle.line.specs.Line.{LINE}
 use Rattle.script.specs.Machine.{machine}
 use Rattle.script.proofs.feed.feed_ready.Statement.{statement}
 use Rattle.script.proofs.feed.feed_ready.Tie as tie

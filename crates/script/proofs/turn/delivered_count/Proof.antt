@@ -1,6 +1,6 @@
 use borrow.Author.Needs.{needs}
 use borrow.Author.Tests.{eq-eqb, ne-eqb}
-use Rattle.script.specs.Call.{deliveredCount}
+use Rattle.call.specs.Call.{deliveredCount}
 use Rattle.status.specs.Choice.{pick}
 use Rattle.script.proofs.turn.delivered_count.Statement.{statement}
 use Rattle.script.proofs.turn.delivered_count.Tie as tie

@@ -1,6 +1,6 @@
 use borrow.Author.Needs.{needs}
 use denote.Ref.{now}
-use Rattle.script.proofs.Lines.{part-none, part-over, part-whole}
+use Rattle.script.proofs.Delivered.{part-none, part-over, part-whole}
 use Rattle.script.proofs.turn.part.Statement.{statement}
 use Rattle.script.proofs.turn.part.Tie as tie
 

@@ -1,0 +1,255 @@
+-- What a call says is what its definition says. Assumes nothing.
+use Prim.Native.Nat.{ℕ, _+_, _-_, _≤_, _<_}
+use native.Mathlib.Omega.{arith}
+use mathlib.Core.Path.{_≡_, refl, sym, ap, _∙_}
+use mathlib.Core.Bool.{Bool, true, false, cond}
+use mathlib.Core.List.{List}
+use lib.ListN.{length, take, drop, length-drop}
+use lib.Seq.{take-all}
+use lib.Dec.{ltb, leb, eqb}
+use borrow.Author.Tests.{le-ltb, ltb-false, leb-true, eq-eqb, ne-eqb, le-leb, lt-leb, lt-ltb}
+use Rattle.status.specs.declared.Answer.{Answer}
+use Rattle.status.specs.declared.Answer.the-variants.{Done, Refused}
+use Rattle.status.specs.declared.Status.the-variants.{InvalidArgs}
+use Rattle.status.specs.declared.Record.the-variants.{Count}
+use Rattle.status.specs.Choice.{pick, _and_, _or_}
+use Rattle.status.specs.Answer.{countOf, isDone, refuseUnless, _then_}
+use Rattle.socket.specs.declared.Pair.{Pair}
+use Rattle.socket.specs.declared.Step.{Step}
+use Rattle.socket.specs.Pair.{isOne, own}
+use Rattle.socket.specs.Tests.{Steps}
+use Rattle.socket.specs.Write.{pairWritten, ringWritten, tableWritten}
+use Rattle.socket.specs.Read.{pairRead}
+use Rattle.endpoint.specs.Queue.{firstLength}
+use Rattle.syscall.specs.Memory.{fits, countLanded}
+use Rattle.syscall.specs.Write.{UserWrote}
+use Rattle.syscall.specs.Read.{isPeek, bytesLanded, BytesRead}
+use Rattle.text.specs.Put.{place}
+use Rattle.record.specs.declared.fields.Transfer.{Transfer}
+use Rattle.record.specs.Fields.{eight, transferOf}
+use Rattle.record.specs.Record.{isBody}
+use Rattle.call.specs.Call.{BASE, Rings, rings, ownRing, ownTable, peerRing, peerTable, withPeer, stepOf, writeAnswerOf, wroteBy, writeCall, readAnswerOf, gotBy, readCall, fillAnswer, filled, fillCall, takeStep, plainStep, plainCall, callOf, CallDone, CallMade}
+
+abbrev pub mk : Pair → Answer → Step
+mk p a = record { pair = p; answer = a }
+
+-- a step is its pair and its answer
+pub same-step : (r : Step) (p : Pair) (a : Answer) → r .pair ≡ p → r .answer ≡ a → r ≡ mk p a
+same-step r p a e f = ap (λ (x : Pair). mk x (r .answer)) e ∙ ap (λ (y : Answer). mk p y) f
+
+pub steps-are : {p q : Pair} {a : Answer} {r : Step} → Steps p a q r → r ≡ stepOf p a q
+unfolding stepOf
+steps-are {p} {q} {a} {r} s = same-step r (pick (isDone a) q p) a (s .pair) (s .answer)
+
+-- ---- write
+
+module _ (memory memory′ ring ring′ table table′ : List ℕ) (z z′ : Rings) (p : Pair) (t : Transfer) (r : Step)
+    (er : peerRing (isOne (t .handle)) z ≡ ring) (et : peerTable (isOne (t .handle)) z ≡ table) (ez : withPeer (isOne (t .handle)) ring′ table′ z ≡ z′)
+    (w : UserWrote p (t .handle) BASE (t .options) (t .address) (t .count) (t .«count_at») memory memory′ ring ring′ table table′ r) where
+  wrote-answer : r .answer ≡ writeAnswerOf memory z p t
+  unfolding writeAnswerOf
+  wrote-answer = rw (er, et) (w .answer)
+
+  pub wrote : CallDone (writeCall memory z p t) memory′ z′ r
+  unfolding writeCall wroteBy
+  wrote =
+      let h : ℕ = t .handle in
+      let a : Answer = writeAnswerOf memory z p t in
+      let e : r .answer ≡ a = wrote-answer in
+      let src : List ℕ = drop (t .address - BASE) memory in
+      record {
+        step = same-step r (pairWritten p h (countOf a)) a (w .pair ∙ ap (λ (x : Answer). pairWritten p h (countOf x)) e) e;
+        memory = w .user ∙ ap (λ (x : Answer). pick (isDone x) (countLanded BASE (t .«count_at») (countOf x) memory) memory) e;
+        lent =
+            sym ez
+            ∙ ap (λ (x : List ℕ). withPeer (isOne h) x table′ z)
+            (w .bytes ∙ ap (λ (x : Answer). ringWritten p h (countOf x) src ring) e ∙ ap (λ (y : List ℕ). ringWritten p h (countOf a) src y) (sym er))
+            ∙ ap (λ (x : List ℕ). withPeer (isOne h) (ringWritten p h (countOf a) src (peerRing (isOne h) z)) x z)
+            (w .lengths ∙ ap (λ (x : Answer). tableWritten p h (countOf x) table) e ∙ ap (λ (y : List ℕ). tableWritten p h (countOf a) y) (sym et));
+      }
+
+-- ---- read
+
+module _ (memory memory′ ring table : List ℕ) (z : Rings) (p : Pair) (t : Transfer) (r : Step)
+    (er : ownRing (isOne (t .handle)) z ≡ ring) (et : ownTable (isOne (t .handle)) z ≡ table)
+    (w : BytesRead p (t .handle) BASE (t .options) (t .address) (t .count) (t .«count_at») ring table memory memory′ r) where
+  got-answer : r .answer ≡ readAnswerOf memory z p t
+  unfolding readAnswerOf
+  got-answer = rw (er, et) (w .answer)
+
+  pub got : CallDone (readCall memory z p t) memory′ z r
+  unfolding readCall gotBy
+  got =
+      let h : ℕ = t .handle in
+      let a : Answer = readAnswerOf memory z p t in
+      let e : r .answer ≡ a = got-answer in
+      let f : List ℕ → ℕ = λ x. firstLength (p .datagram) (own (isOne h) p .queue) x in
+      record {
+        step =
+            same-step r (pairRead p h (isPeek (t .options)) (f (ownTable (isOne h) z)) (countOf a)) a
+            (w .pair ∙ ap (λ (x : Answer). pairRead p h (isPeek (t .options)) (f table) (countOf x)) e
+            ∙ ap (λ (y : List ℕ). pairRead p h (isPeek (t .options)) (f y) (countOf a)) (sym et))
+            e;
+        memory =
+            w .user ∙ ap (λ (x : Answer). bytesLanded p h BASE (t .address) (countOf x) ring memory) e
+            ∙ ap (λ (y : List ℕ). bytesLanded p h BASE (t .address) (countOf a) y memory) (sym er);
+        lent = refl;
+      }
+
+-- by the handle
+pub one-is : (h : ℕ) → h ≡ 1 → isOne h ≡ true
+one-is h e = eq-eqb h 1 e
+
+pub two-is : (h : ℕ) → (h ≡ 1 → ⊥) → isOne h ≡ false
+two-is h e = ne-eqb h 1 e
+
+module _ (z : Rings) (h : ℕ) where
+  pub peer-ring-one : h ≡ 1 → peerRing (isOne h) z ≡ z .ring2
+  unfolding peerRing
+  peer-ring-one e = ap (λ (b : Bool). peerRing b z) (one-is h e)
+
+  pub peer-ring-two : (h ≡ 1 → ⊥) → peerRing (isOne h) z ≡ z .ring1
+  unfolding peerRing
+  peer-ring-two e = ap (λ (b : Bool). peerRing b z) (two-is h e)
+
+  pub peer-table-one : h ≡ 1 → peerTable (isOne h) z ≡ z .table2
+  unfolding peerTable
+  peer-table-one e = ap (λ (b : Bool). peerTable b z) (one-is h e)
+
+  pub peer-table-two : (h ≡ 1 → ⊥) → peerTable (isOne h) z ≡ z .table1
+  unfolding peerTable
+  peer-table-two e = ap (λ (b : Bool). peerTable b z) (two-is h e)
+
+  pub own-ring-one : h ≡ 1 → ownRing (isOne h) z ≡ z .ring1
+  unfolding ownRing
+  own-ring-one e = ap (λ (b : Bool). ownRing b z) (one-is h e)
+
+  pub own-ring-two : (h ≡ 1 → ⊥) → ownRing (isOne h) z ≡ z .ring2
+  unfolding ownRing
+  own-ring-two e = ap (λ (b : Bool). ownRing b z) (two-is h e)
+
+  pub own-table-one : h ≡ 1 → ownTable (isOne h) z ≡ z .table1
+  unfolding ownTable
+  own-table-one e = ap (λ (b : Bool). ownTable b z) (one-is h e)
+
+  pub own-table-two : (h ≡ 1 → ⊥) → ownTable (isOne h) z ≡ z .table2
+  unfolding ownTable
+  own-table-two e = ap (λ (b : Bool). ownTable b z) (two-is h e)
+
+  pub with-peer-one : (ring table : List ℕ) → h ≡ 1 → withPeer (isOne h) ring table z ≡ rings (z .ring1) (z .table1) ring table
+  unfolding withPeer
+  with-peer-one ring table e = ap (λ (b : Bool). withPeer b ring table z) (one-is h e)
+
+  pub with-peer-two : (ring table : List ℕ) → (h ≡ 1 → ⊥) → withPeer (isOne h) ring table z ≡ rings ring table (z .ring2) (z .table2)
+  unfolding withPeer
+  with-peer-two ring table e = ap (λ (b : Bool). withPeer b ring table z) (two-is h e)
+
+-- ---- fill
+
+-- the part of a list from a place to its end
+pub part-all : (from : ℕ) (l : List ℕ) → from ≤ length l → take (length l - from) (drop from l) ≡ drop from l
+part-all from l h = take-all (length l - from) (drop from l) (simp length-drop (omega arith))
+
+module _ (size address n : ℕ) (some : 1 ≤ n) where
+  fits-by : (b c : Bool) → leb BASE address ≡ b → leb (address - BASE + n) size ≡ c → fits BASE size address n ≡ (b and c)
+  unfolding fits _or_
+  fits-by b c e f = let z : eqb n 0 ≡ false = ne-eqb n 0 (λ x. omega arith) in rw (z, e, f) refl
+
+  pub fits-no : address < BASE → fits BASE size address n ≡ false
+  unfolding _and_
+  fits-no h = fits-by false (leb (address - BASE + n) size) (lt-leb _ _ h) refl
+
+  pub fits-not : BASE ≤ address → size < address - BASE + n → fits BASE size address n ≡ false
+  unfolding _and_
+  fits-not g h = fits-by true false (le-leb _ _ g) (lt-leb _ _ h)
+
+  pub fits-yes : BASE ≤ address → address - BASE + n ≤ size → fits BASE size address n ≡ true
+  unfolding _and_
+  fits-yes g h = fits-by true true (le-leb _ _ g) (le-leb _ _ h)
+
+-- both facts of a fill, by whether its range fits
+pub fill-no : (address : ℕ) (bs memory : List ℕ) → fits BASE (length memory) address (length bs) ≡ false
+    → (Refused InvalidArgs ≡ fillAnswer (length memory) address (length bs)) × (memory ≡ filled address bs memory)
+unfolding fillAnswer filled pick refuseUnless _then_
+fill-no address bs memory e = (rw e refl, rw e refl)
+
+pub fill-yes : (address : ℕ) (bs memory : List ℕ) → fits BASE (length memory) address (length bs) ≡ true
+    → (Done (Count (length bs)) ≡ fillAnswer (length memory) address (length bs)) × (place (address - BASE) bs memory ≡ filled address bs memory)
+unfolding fillAnswer filled pick refuseUnless _then_
+fill-yes address bs memory e = (rw e refl, rw e refl)
+
+-- the body of a fill
+off : {X : Type 0} (x y : X) → pick false x y ≡ y
+unfolding pick
+off x y = refl
+
+never : _≡_ {A = Bool} false true → ⊥
+never e = let z : _≡_ {A = ℕ} 0 1 = ap (λ (b : Bool). cond b 1 0) e in omega arith
+
+fill-cases : (b c d : Bool) → pick b (pick c false d) false ≡ true → (c ≡ false) × (d ≡ true)
+unfolding pick
+fill-cases true true d e = absurd (let z : _≡_ {A = Bool} false true = e in never z)
+fill-cases true false d e = (refl, e)
+fill-cases false c d e = absurd (never e)
+
+pub fill-body : (tag n : ℕ) → 11 ≤ tag → isBody tag n ≡ true → (9 ≤ n) × (n ≤ 4104)
+unfolding isBody
+fill-body tag n h e =
+    let f : (ltb n 9 ≡ false) × (leb n 4104 ≡ true) =
+    fill-cases (ltb tag 12) (ltb n 9) (leb n 4104)
+    (simp (le-ltb tag 1 (omega arith), le-ltb tag 3 (omega arith), le-ltb tag 4 (omega arith), le-ltb tag 5 (omega arith), le-ltb tag 7 (omega arith), le-ltb tag 9 (omega arith), le-ltb tag 10 (omega arith), le-ltb tag 11 (omega arith), off) at e)
+    in
+    (ltb-false n 9 (f .0), leb-true n 4104 (f .1))
+
+-- ---- by the tag
+
+module _ (memory : List ℕ) (z : Rings) (p : Pair) (tag : ℕ) (b memory′ : List ℕ) (z′ : Rings) (r : Step) where
+  pub write-call : tag ≡ 1 → CallDone (writeCall memory z p (transferOf b)) memory′ z′ r → CallDone (callOf memory z p tag b) memory′ z′ r
+  unfolding callOf pick
+  write-call e d = rw e d
+
+  pub read-call : tag ≡ 2 → CallDone (readCall memory z p (transferOf b)) memory′ z′ r → CallDone (callOf memory z p tag b) memory′ z′ r
+  unfolding callOf pick
+  read-call e d = rw e d
+
+  pub fill-call : 11 ≤ tag → CallDone (fillCall memory z p (eight b 0) (drop 8 b)) memory′ z′ r → CallDone (callOf memory z p tag b) memory′ z′ r
+  unfolding callOf pick
+  fill-call h d = simp (ne-eqb tag 1 (λ e. omega arith), ne-eqb tag 2 (λ e. omega arith), lt-ltb 10 tag h) d
+
+plain-is : (memory : List ℕ) (z : Rings) (p : Pair) (tag : ℕ) (b : List ℕ) → (tag ≡ 1 → ⊥) → (tag ≡ 2 → ⊥) → tag ≤ 10
+    → callOf memory z p tag b ≡ plainCall memory z (plainStep z p tag b)
+unfolding callOf pick
+plain-is memory z p tag b f g h = simp (ne-eqb tag 1 f, ne-eqb tag 2 g, le-ltb 10 tag h)
+
+pub plain-call : (memory : List ℕ) (z : Rings) (p : Pair) (tag : ℕ) (b : List ℕ) (r : Step) → (tag ≡ 1 → ⊥) → (tag ≡ 2 → ⊥) → tag ≤ 10
+    → r ≡ plainStep z p tag b → CallDone (callOf memory z p tag b) memory z r
+plain-call memory z p tag b r f g h e = rw (plain-is memory z p tag b f g h) (record { step = e; memory = refl; lent = refl })
+
+-- a fill, from what its function says
+pub fill-done : (memory memory′ : List ℕ) (z : Rings) (p : Pair) (address : ℕ) (bs : List ℕ) (a : Answer)
+    → (a ≡ fillAnswer (length memory) address (length bs)) × (memory′ ≡ filled address bs memory) → CallDone (fillCall memory z p address bs) memory′ z (mk p a)
+unfolding fillCall
+fill-done memory memory′ z p address bs a w = record { step = ap (λ (x : Answer). mk p x) (w .0); memory = w .1; lent = refl }
+
+-- a body that is right, and one that is not
+module _ {memory : List ℕ} {z : Rings} {p : Pair} {tag : ℕ} {b : List ℕ} where
+  pub made : {memory′ : List ℕ} {z′ : Rings} {r : Step} → isBody tag (length b) ≡ true → CallDone (callOf memory z p tag b) memory′ z′ r
+      → CallMade memory z p tag b memory′ z′ r
+  made e d = record { made = λ f. d; none = λ f. absurd (never (sym f ∙ e)) }
+
+  pub no-call : isBody tag (length b) ≡ false → CallMade memory z p tag b memory z (mk p (Refused InvalidArgs))
+  no-call e = record { made = λ f. absurd (never (sym e ∙ f)); none = λ f. (refl, refl, refl) }
+
+-- ---- tags, one after the other
+
+pub up : (tag n : ℕ) → n ≤ tag → (tag ≡ n → ⊥) → n + 1 ≤ tag
+up tag n h f = omega arith
+
+pub from-ten : (tag : ℕ) → 4 ≤ tag → (tag ≡ 4 → ⊥) → (tag ≡ 5 → ⊥) → (tag ≡ 6 → ⊥) → (tag ≡ 7 → ⊥) → (tag ≡ 8 → ⊥) → (tag ≡ 9 → ⊥) → 10 ≤ tag
+from-ten tag h n4 n5 n6 n7 n8 n9 = up tag 9 (up tag 8 (up tag 7 (up tag 6 (up tag 5 (up tag 4 h n4) n5) n6) n7) n8) n9
+
+pub take-step : (z : Rings) (p : Pair) (tag : ℕ) (b : List ℕ) (r : Step) → 10 ≤ tag → r ≡ takeStep p → r ≡ plainStep z p tag b
+unfolding plainStep pick
+take-step z p tag b r h e =
+    simp (le-ltb tag 1 (omega arith), le-ltb tag 4 (omega arith), le-ltb tag 5 (omega arith), le-ltb tag 6 (omega arith), le-ltb tag 7 (omega arith), le-ltb tag 8 (omega arith), le-ltb tag 9 (omega arith), le-ltb tag 10 h)
+    e

@@ -1,0 +1,2 @@
+-- Calls: what a call says is what its definition says
+pub mod Calls

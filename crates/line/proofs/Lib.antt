@@ -1,0 +1,2 @@
+-- Lines: the bytes that a read adds to its line
+pub mod Lines

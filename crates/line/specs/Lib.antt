@@ -1,0 +1,3 @@
+-- 01 "Script program", line:
+--   Line: one line of the listing
+pub mod Line

@@ -1,0 +1,2 @@
+-- Records: what a record tells of the bytes that it was decoded from
+pub mod Records

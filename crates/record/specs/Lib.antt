@@ -1,0 +1,5 @@
+-- 01 "Script program", tag and body:
+--   Fields: numbers of a body, and the fields of a write and a read
+--   Record: what a record is, and the lengths of bodies
+pub mod Fields
+pub mod Record

@@ -1,0 +1,42 @@
+-- A record of a script: a tag of one byte, a length of two, and a body. 01 "Script program", tag and body.
+use Prim.Native.Nat.{ℕ, _-_}
+use mathlib.Core.Bool.{Bool, false}
+use mathlib.Core.List.{List}
+use lib.ListN.{length, getD}
+use lib.Dec.{ltb, leb, eqb}
+use Rattle.status.specs.Choice.{pick}
+use Rattle.record.specs.declared.Decoded.{Decoded}
+use Rattle.record.specs.declared.Decoded.the-variants.{Whole, Bad, Cut}
+use Rattle.record.specs.Fields.{two}
+
+-- the tags
+abbrev pub CREATE : ℕ
+CREATE = 0
+
+abbrev pub READ : ℕ
+READ = 2
+
+abbrev pub FILL : ℕ
+FILL = 11
+
+-- whether a body of n bytes is right for a tag: 0 create; 1 write, 2 read; 3 disposition; 4 shutdown; 5 read and 6 write threshold; 7 info,
+-- 8 close; 9 wait; 10 take; 11 fill, with 1 to 4096 bytes behind its address. No body is right for a tag of 12 or more.
+unfoldable pub isBody : (tag n : ℕ) → Bool
+isBody tag n =
+    pick (ltb tag 1) (eqb n 10)
+    (pick (ltb tag 3) (eqb n 32)
+    (pick (ltb tag 4) (eqb n 12)
+    (pick (ltb tag 5) (eqb n 8)
+    (pick (ltb tag 7) (eqb n 12)
+    (pick (ltb tag 9) (eqb n 4)
+    (pick (ltb tag 10) (eqb n 17)
+    (pick (ltb tag 11) (eqb n 0)
+    (pick (ltb tag 12) (pick (ltb n 9) false (leb n 4104)) false))))))))
+
+-- what bytes begin with: a record that is all there, one that no further bytes make good, or one that may be cut
+unfoldable pub recordOf : List ℕ → Decoded
+recordOf s =
+    pick (ltb (length s) 3) Cut
+    (pick (isBody (getD s 0 0) (two s 1))
+    (pick (ltb (length s - 3) (two s 1)) Cut (Whole (getD s 0 0) (two s 1)))
+    Bad)
