@@ -149,14 +149,11 @@ fn stop(st: State, offset: u64, from: usize, out: &mut [u8], at: usize) -> Turne
     requires { ⌜ (offset ≤ LIMIT) × (from ≤ LIMIT) ⌝ }
     ensures { λ r. ⌜ StopDone st offset from at (now (out .entry)) (now (out .exit)) r ⌝ }
 {
-    let p = st.pair;
     let to = text::stop(out, at, offset + from as u64);
+    let mut state = st;
+    state.ended = true;
     Turned {
-        state: State {
-            pair: p,
-            number: st.number,
-            ended: true,
-        },
+        state,
         from,
         at: to,
         more: false,
