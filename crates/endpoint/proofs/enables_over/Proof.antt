@@ -1,11 +1,10 @@
 use Rattle.status.proofs.Rules.{chain}
 use Rattle.endpoint.specs.Disposition.{enablesOver}
-use borrow.Author.Needs.{needs}
 use Rattle.endpoint.proofs.enables_over.Statement.{statement}
 use Rattle.endpoint.proofs.enables_over.Tie as tie
 
 enables-requires : tie.Need-enables-requires
-enables-requires c κs = search needs
+enables-requires c κs = tt
 
 returns : tie.Need-returns
 unfolding enablesOver

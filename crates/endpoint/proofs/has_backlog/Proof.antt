@@ -1,11 +1,10 @@
 use Rattle.status.proofs.Rules.{chain}
 use Rattle.endpoint.specs.Disposition.{hasBacklog}
-use borrow.Author.Needs.{needs}
 use Rattle.endpoint.proofs.has_backlog.Statement.{statement}
 use Rattle.endpoint.proofs.has_backlog.Tie as tie
 
 has-bit-requires : tie.Need-has-bit-requires
-has-bit-requires c κs = search needs
+has-bit-requires c κs = tt
 
 returns : tie.Need-returns
 unfolding hasBacklog

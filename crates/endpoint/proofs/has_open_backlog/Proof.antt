@@ -1,6 +1,5 @@
 use Rattle.status.proofs.Rules.{chain}
 use Rattle.endpoint.specs.Disposition.{hasOpenBacklog}
-use borrow.Author.Needs.{needs}
 use Rattle.endpoint.proofs.has_open_backlog.Statement.{statement}
 use Rattle.endpoint.proofs.has_open_backlog.Tie as tie
 
@@ -9,7 +8,7 @@ unfolding hasOpenBacklog
 returns c = search chain depth 12
 
 has-backlog-requires : tie.Need-has-backlog-requires
-has-backlog-requires c κs = search needs
+has-backlog-requires c κs = tt
 
 returns-2 : tie.Need-returns-2
 unfolding hasOpenBacklog

@@ -1,21 +1,20 @@
 use Rattle.status.proofs.Rules.{chain, pick-off, count-as}
 use Rattle.endpoint.specs.Read.{readSize}
-use borrow.Author.Needs.{needs}
 use Rattle.endpoint.proofs.read_size.Statement.{statement}
 use Rattle.endpoint.proofs.read_size.Tie as tie
 
 empty-answer-requires : tie.Need-empty-answer-requires
-empty-answer-requires c κs = search needs
+empty-answer-requires c κs = tt
 
 returns : tie.Need-returns
 unfolding readSize
 returns c = search chain depth 12
 
 available-requires : tie.Need-available-requires
-available-requires c κs = search needs
+available-requires c κs = tt
 
 least-requires : tie.Need-least-requires
-least-requires c κs = search needs
+least-requires c κs = tt
 
 returns-2 : tie.Need-returns-2
 unfolding readSize

@@ -1,6 +1,5 @@
 use Rattle.status.proofs.Rules.{chain}
 use Rattle.endpoint.specs.Queue.{shortSlices}
-use borrow.Author.Needs.{needs}
 use Rattle.endpoint.proofs.short_slices.Statement.{statement}
 use Rattle.endpoint.proofs.short_slices.Tie as tie
 
@@ -9,7 +8,7 @@ unfolding shortSlices
 returns c = search chain depth 12
 
 short-table-requires : tie.Need-short-table-requires
-short-table-requires c κs = search needs
+short-table-requires c κs = tt
 
 returns-2 : tie.Need-returns-2
 unfolding shortSlices

@@ -9,7 +9,7 @@ unfolding writeSize
 returns c = search chain depth 12
 
 has-bit-requires : tie.Need-has-bit-requires
-has-bit-requires c κs = search needs
+has-bit-requires c κs = tt
 
 returns-2 : tie.Need-returns-2
 unfolding writeSize
@@ -27,14 +27,14 @@ sub-space : tie.Need-sub-space
 sub-space c = search needs
 
 datagram-size-requires : tie.Need-datagram-size-requires
-datagram-size-requires c κs = search needs
+datagram-size-requires c κs = tt
 
 returns-5 : tie.Need-returns-5
 unfolding writeSize
 returns-5 c = search chain depth 12
 
 least-requires : tie.Need-least-requires
-least-requires c κs = search needs
+least-requires c κs = tt
 
 returns-6 : tie.Need-returns-6
 unfolding writeSize

@@ -1,11 +1,10 @@
 use Rattle.status.proofs.Rules.{chain}
 use Rattle.endpoint.specs.Queue.{badFirst}
-use borrow.Author.Needs.{needs}
 use Rattle.endpoint.proofs.Queue.bad_first.Statement.{statement}
 use Rattle.endpoint.proofs.Queue.bad_first.Tie as tie
 
 has-length-requires : tie.Need-has-length-requires
-has-length-requires c κs = search needs
+has-length-requires c κs = tt
 
 returns : tie.Need-returns
 unfolding badFirst

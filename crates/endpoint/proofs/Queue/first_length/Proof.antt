@@ -8,7 +8,7 @@ use Rattle.endpoint.proofs.Queue.first_length.Statement.{statement}
 use Rattle.endpoint.proofs.Queue.first_length.Tie as tie
 
 has-length-requires : tie.Need-has-length-requires
-has-length-requires c κs = search needs
+has-length-requires c κs = tt
 
 returns : tie.Need-returns
 unfolding firstLength

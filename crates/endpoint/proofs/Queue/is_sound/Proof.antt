@@ -1,6 +1,5 @@
 use Rattle.status.proofs.Rules.{chain}
 use Rattle.endpoint.specs.Queue.{soundQueue}
-use borrow.Author.Needs.{needs}
 use Rattle.endpoint.proofs.Queue.is_sound.Statement.{statement}
 use Rattle.endpoint.proofs.Queue.is_sound.Tie as tie
 
@@ -21,7 +20,7 @@ unfolding soundQueue
 returns-4 c = search chain depth 12
 
 has-sound-lengths-requires : tie.Need-has-sound-lengths-requires
-has-sound-lengths-requires c κs = search needs
+has-sound-lengths-requires c κs = tt
 
 returns-5 : tie.Need-returns-5
 unfolding soundQueue
