@@ -75,13 +75,9 @@ fn put(ring: &mut [u8], capacity: usize, at: usize, src: &[u8], n: usize)
     requires { ⌜ (at < capacity) × (n ≤ capacity) × (capacity ≤ length (now ring)) × (n ≤ length (now src)) ⌝ }
     ensures { λ _. ⌜ now (ring .exit) ≡ Ring.put capacity at n (now (src .entry)) (now (ring .entry)) ⌝ }
 {
-    let room = capacity - at;
-    if n <= room {
-        copy_at(ring, at, &src[0..n]);
-        return;
-    }
-    copy_at(ring, at, &src[0..room]);
-    copy_at(ring, 0, &src[room..n]);
+    let first = least(n, capacity - at);
+    copy_at(ring, at, &src[0..first]);
+    copy_at(ring, 0, &src[first..n]);
 }
 
 // Copies the n bytes from the place `start` on to the start of dst.
@@ -89,13 +85,9 @@ fn get(ring: &[u8], capacity: usize, start: usize, n: usize, dst: &mut [u8])
     requires { ⌜ (start < capacity) × (n ≤ capacity) × (capacity ≤ length (now ring)) × (n ≤ length (now dst)) ⌝ }
     ensures { λ _. ⌜ now (dst .exit) ≡ paste (now (dst .entry)) 0 (Ring.front capacity start n (now (ring .entry))) n ⌝ }
 {
-    let room = capacity - start;
-    if n <= room {
-        copy_at(dst, 0, &ring[start..start + n]);
-        return;
-    }
-    copy_at(dst, 0, &ring[start..capacity]);
-    copy_at(dst, room, &ring[0..n - room]);
+    let first = least(n, capacity - start);
+    copy_at(dst, 0, &ring[start..start + first]);
+    copy_at(dst, first, &ring[0..n - first]);
 }
 
 // Copies the first n bytes of src into the ring from the place `at` on. What does not fit is not copied.

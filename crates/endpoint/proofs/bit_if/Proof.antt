@@ -1,15 +1,15 @@
-use Rattle.status.proofs.Rules.{chain}
+use Rattle.status.specs.Choice.{pick}
 use Rattle.endpoint.specs.Write.{bitIf}
 use Rattle.endpoint.proofs.bit_if.Statement.{statement}
 use Rattle.endpoint.proofs.bit_if.Tie as tie
 
 returns : tie.Need-returns
-unfolding bitIf
-returns c = search chain depth 12
+unfolding bitIf pick
+returns c = rw (c .if1 .taken)
 
 returns-2 : tie.Need-returns-2
-unfolding bitIf
-returns-2 c = search chain depth 12
+unfolding bitIf pick
+returns-2 c = rw (c .if1 .left)
 
 pub bit-if-spec : {M : Type 1} → statement M
 bit-if-spec = tie.close (tie.spec returns returns-2)

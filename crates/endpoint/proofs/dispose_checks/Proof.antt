@@ -1,24 +1,23 @@
 use Rattle.status.proofs.Rules.{refuse-on, refuse-off, refuse-last, pass-last}
 use Rattle.endpoint.specs.Disposition.{disposeChecks}
-use borrow.Author.Needs.{needs}
 use Rattle.endpoint.proofs.dispose_checks.Statement.{statement}
 use Rattle.endpoint.proofs.dispose_checks.Tie as tie
 
 has-open-backlog-requires : tie.Need-has-open-backlog-requires
-has-open-backlog-requires c κs = search needs
+has-open-backlog-requires c κs = tt
 
 enables-over-requires : tie.Need-enables-over-requires
-enables-over-requires c κs = search needs
+enables-over-requires c κs = tt
 
 returns : tie.Need-returns
 unfolding disposeChecks
 returns c = refuse-on _ _ _ (rw (← c .before .before .has-open-backlog .ensures, ← c .before .enables-over .ensures) (c .if1 .taken))
 
 has-backlog-requires : tie.Need-has-backlog-requires
-has-backlog-requires c κs = search needs
+has-backlog-requires c κs = tt
 
 enables-over-requires-2 : tie.Need-enables-over-requires-2
-enables-over-requires-2 c κs = search needs
+enables-over-requires-2 c κs = tt
 
 returns-2 : tie.Need-returns-2
 unfolding disposeChecks

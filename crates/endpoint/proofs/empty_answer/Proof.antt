@@ -1,19 +1,19 @@
-use Rattle.status.proofs.Rules.{chain}
+use Rattle.status.specs.Answer.{refuseIf, _then_}
 use Rattle.endpoint.specs.Read.{emptyAnswer}
 use Rattle.endpoint.proofs.empty_answer.Statement.{statement}
 use Rattle.endpoint.proofs.empty_answer.Tie as tie
 
 returns : tie.Need-returns
-unfolding emptyAnswer
-returns c = search chain depth 12
+unfolding emptyAnswer refuseIf _then_
+returns c = rw (c .if1 .taken)
 
 returns-2 : tie.Need-returns-2
-unfolding emptyAnswer
-returns-2 c = search chain depth 12
+unfolding emptyAnswer refuseIf _then_
+returns-2 c = rw (c .before .if1 .left, c .if2 .taken)
 
 returns-3 : tie.Need-returns-3
-unfolding emptyAnswer
-returns-3 c = search chain depth 12
+unfolding emptyAnswer refuseIf _then_
+returns-3 c = rw (c .before .if1 .left, c .if2 .left)
 
 pub empty-answer-spec : {M : Type 1} → statement M
 empty-answer-spec = tie.close (tie.spec returns returns-2 returns-3)

@@ -1,19 +1,19 @@
-use Rattle.status.proofs.Rules.{chain}
+use Rattle.status.proofs.Rules.{via-not, via-not-not}
+use Rattle.status.specs.Choice.{_and_}
 use Rattle.endpoint.specs.Disposition.{enablesOver}
-use borrow.Author.Needs.{needs}
 use Rattle.endpoint.proofs.enables_over.Statement.{statement}
 use Rattle.endpoint.proofs.enables_over.Tie as tie
 
 enables-requires : tie.Need-enables-requires
-enables-requires c κs = search needs
+enables-requires c κs = tt
 
 returns : tie.Need-returns
-unfolding enablesOver
-returns c = search chain depth 12
+unfolding enablesOver _and_
+returns c = rw (via-not (c .before .enables .ensures) (c .if1 .taken))
 
 returns-2 : tie.Need-returns-2
-unfolding enablesOver
-returns-2 c = search chain depth 12
+unfolding enablesOver _and_
+returns-2 c = rw (via-not-not (c .before .enables .ensures) (c .if1 .left))
 
 pub enables-over-spec : {M : Type 1} → statement M
 enables-over-spec = tie.close (tie.spec enables-requires returns returns-2)

@@ -1,19 +1,19 @@
-use Rattle.status.proofs.Rules.{chain}
+use Rattle.status.proofs.Rules.{via-not, via-not-not}
+use Rattle.status.specs.Choice.{_and_}
 use Rattle.endpoint.specs.Disposition.{hasBacklog}
-use borrow.Author.Needs.{needs}
 use Rattle.endpoint.proofs.has_backlog.Statement.{statement}
 use Rattle.endpoint.proofs.has_backlog.Tie as tie
 
 has-bit-requires : tie.Need-has-bit-requires
-has-bit-requires c κs = search needs
+has-bit-requires c κs = tt
 
 returns : tie.Need-returns
-unfolding hasBacklog
-returns c = search chain depth 12
+unfolding hasBacklog _and_
+returns c = rw (via-not (c .before .has-bit .ensures) (c .if1 .taken))
 
 returns-2 : tie.Need-returns-2
-unfolding hasBacklog
-returns-2 c = search chain depth 12
+unfolding hasBacklog _and_
+returns-2 c = rw (via-not-not (c .before .before .has-bit .ensures) (c .before .if1 .left))
 
 pub has-backlog-spec : {M : Type 1} → statement M
 has-backlog-spec = tie.close (tie.spec has-bit-requires returns returns-2)

@@ -1,15 +1,16 @@
-use Rattle.status.proofs.Rules.{chain}
+use borrow.Author.Tests.{lt-ltb, le-ltb}
+use Rattle.status.specs.Choice.{_and_}
 use Rattle.endpoint.specs.Write.{missed}
 use Rattle.endpoint.proofs.is_missed.Statement.{statement}
 use Rattle.endpoint.proofs.is_missed.Tie as tie
 
 returns : tie.Need-returns
-unfolding missed
-returns c = search chain depth 12
+unfolding missed _and_
+returns c = rw (le-ltb _ _ (c .if1 .taken))
 
 returns-2 : tie.Need-returns-2
-unfolding missed
-returns-2 c = search chain depth 12
+unfolding missed _and_
+returns-2 c = rw (lt-ltb _ _ (c .if1 .left))
 
 pub is-missed-spec : {M : Type 1} → statement M
 is-missed-spec = tie.close (tie.spec returns returns-2)

@@ -1,25 +1,25 @@
-use Rattle.status.proofs.Rules.{chain, pick-off, count-as}
+use borrow.Author.Tests.{eq-eqb, ne-eqb}
+use Rattle.status.specs.Choice.{pick}
 use Rattle.endpoint.specs.Read.{readSize}
-use borrow.Author.Needs.{needs}
 use Rattle.endpoint.proofs.read_size.Statement.{statement}
 use Rattle.endpoint.proofs.read_size.Tie as tie
 
 empty-answer-requires : tie.Need-empty-answer-requires
-empty-answer-requires c κs = search needs
+empty-answer-requires c κs = tt
 
 returns : tie.Need-returns
-unfolding readSize
-returns c = search chain depth 12
+unfolding readSize pick
+returns c = rw (eq-eqb _ _ (c .before .if1 .taken)) (c .empty-answer .ensures)
 
 available-requires : tie.Need-available-requires
-available-requires c κs = search needs
+available-requires c κs = tt
 
 least-requires : tie.Need-least-requires
-least-requires c κs = search needs
+least-requires c κs = tt
 
 returns-2 : tie.Need-returns-2
-unfolding readSize
-returns-2 c = pick-off _ _ _ _ _ (search chain) (rw (← c .before .available .ensures) (count-as _ _ (c .least .ensures)))
+unfolding readSize pick
+returns-2 c = rw (ne-eqb _ _ (c .before .before .if1 .left), ← c .before .available .ensures, ← c .least .ensures)
 
 pub read-size-spec : {M : Type 1} → statement M
 read-size-spec =

@@ -1,15 +1,16 @@
-use Rattle.status.proofs.Rules.{chain}
+use borrow.Author.Tests.{not-true, not-false}
+use Rattle.status.specs.Choice.{_and_}
 use Rattle.endpoint.specs.Queue.{shortTable}
 use Rattle.endpoint.proofs.short_table.Statement.{statement}
 use Rattle.endpoint.proofs.short_table.Tie as tie
 
 returns : tie.Need-returns
-unfolding shortTable
-returns c = search chain depth 12
+unfolding shortTable _and_
+returns c = rw (not-true (c .before .args .datagram) (c .if1 .taken))
 
 returns-2 : tie.Need-returns-2
-unfolding shortTable
-returns-2 c = search chain depth 12
+unfolding shortTable _and_
+returns-2 c = rw (not-false (c .before .args .datagram) (c .if1 .left))
 
 pub short-table-spec : {M : Type 1} → statement M
 short-table-spec = tie.close (tie.spec returns returns-2)

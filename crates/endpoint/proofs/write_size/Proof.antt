@@ -1,44 +1,46 @@
-use Rattle.status.proofs.Rules.{chain}
+use borrow.Author.Tests.{lt-ltb, le-ltb, le-leb, lt-leb}
+use Rattle.status.specs.Choice.{pick}
+use Rattle.status.specs.Answer.{refuseIf, _then_}
 use Rattle.endpoint.specs.Write.{writeSize}
-use borrow.Author.Needs.{needs}
+use native.Mathlib.Omega.{arith}
 use Rattle.endpoint.proofs.write_size.Statement.{statement}
 use Rattle.endpoint.proofs.write_size.Tie as tie
 
 returns : tie.Need-returns
-unfolding writeSize
-returns c = search chain depth 12
+unfolding writeSize refuseIf _then_
+returns c = rw (lt-ltb _ _ (c .if1 .taken))
 
 has-bit-requires : tie.Need-has-bit-requires
-has-bit-requires c κs = search needs
+has-bit-requires c κs = tt
 
 returns-2 : tie.Need-returns-2
-unfolding writeSize
-returns-2 c = search chain depth 12
+unfolding writeSize refuseIf _then_
+returns-2 c = rw (le-ltb _ _ (c .before .before .if1 .left), ← c .before .has-bit .ensures, c .if2 .taken)
 
 returns-3 : tie.Need-returns-3
-unfolding writeSize
-returns-3 c = search chain depth 12
+unfolding writeSize refuseIf _then_
+returns-3 c = rw (le-ltb _ _ (c .before .before .before .if1 .left), ← c .before .before .has-bit .ensures, c .before .if2 .left, c .if3 .taken)
 
 returns-4 : tie.Need-returns-4
-unfolding writeSize
-returns-4 c = search chain depth 12
+unfolding writeSize refuseIf _then_
+returns-4 c = rw (le-ltb _ _ (c .before .before .before .before .before .if1 .left), ← c .before .before .before .before .has-bit .ensures, c .before .before .before .if2 .left, c .before .before .if3 .left, le-leb _ _ (c .if4 .taken))
 
 sub-space : tie.Need-sub-space
-sub-space c = search needs
+sub-space c = omega arith
 
 datagram-size-requires : tie.Need-datagram-size-requires
-datagram-size-requires c κs = search needs
+datagram-size-requires c κs = tt
 
 returns-5 : tie.Need-returns-5
-unfolding writeSize
-returns-5 c = search chain depth 12
+unfolding writeSize refuseIf _then_ pick
+returns-5 c = rw (le-ltb _ _ (c .before .before .before .before .before .before .before .before .if1 .left), ← c .before .before .before .before .before .before .before .has-bit .ensures, c .before .before .before .before .before .before .if2 .left, c .before .before .before .before .before .if3 .left, lt-leb _ _ (c .before .before .before .if4 .left), c .before .if5 .taken) (c .datagram-size .ensures)
 
 least-requires : tie.Need-least-requires
-least-requires c κs = search needs
+least-requires c κs = tt
 
 returns-6 : tie.Need-returns-6
-unfolding writeSize
-returns-6 c = search chain depth 12
+unfolding writeSize refuseIf _then_ pick
+returns-6 c = rw (le-ltb _ _ (c .before .before .before .before .before .before .before .before .if1 .left), ← c .before .before .before .before .before .before .before .has-bit .ensures, c .before .before .before .before .before .before .if2 .left, c .before .before .before .before .before .if3 .left, lt-leb _ _ (c .before .before .before .if4 .left), c .before .if5 .left, ← c .least .ensures)
 
 pub write-size-spec : {M : Type 1} → statement M
 write-size-spec =

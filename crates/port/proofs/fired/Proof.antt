@@ -36,10 +36,10 @@ element-copy-out-p : tie.Need-element-copy-out-p Inv-loop μ-loop
 element-copy-out-p c = search needs
 
 is-fired-requires : tie.Need-is-fired-requires Inv-loop μ-loop
-is-fired-requires c κs = search needs
+is-fired-requires c κs = tt
 
 observed-at-requires : tie.Need-observed-at-requires Inv-loop μ-loop
-observed-at-requires c κs = search needs
+observed-at-requires c κs = tt
 
 mul-q : tie.Need-mul-q Inv-loop μ-loop
 mul-q c = search needs

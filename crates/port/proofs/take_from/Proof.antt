@@ -1,5 +1,5 @@
 -- `port::take_from` meets its contract: a walk of its MIR, by hand. The borrow is opened, the table is copied out and passed to `take`, and the borrow is closed at the table that `take` returned.
--- Assumes nothing.
+-- The answer stands behind the table, whose size is 3088 bytes. Assumes nothing.
 use mathlib.Core.Path.{_≡_, refl, ap}
 use Prim.Native.Nat.{ℕ, _<_, _^_}
 use mathlib.Core.List.{[], _∷_, List}
@@ -117,8 +117,8 @@ module _ {M : Type 1} (𝓤 : URA M) (H : Heap 𝓤) (A : Atoms 𝓤) (W : Given
         let parts = LL.owed K.the-type K′.the-laws r (v ∷ []) is in
         land ! (from ! (stop !)) (init ! 7 refl (LL.lawful K.the-type K′.the-laws 𝓤 H A W .typed r _ is .0)) $
         rewrite ! 7 (λ (u : Val). ‵ (fat fullShare K′.mir l₂ 0 u)) (ap only (LL.tells K.the-type K′.the-laws r (v ∷ []) is)) refl $
-        assigns ! (of-opd ! (load ! (from ! (fld ! refl (stop !))) (look-in ! 7 (sub ! 0 refl (whole !))))) (from ! (hop ! (look ! 9 refl) (stop !))) (store-raw ! 1 refl (LL.lawful T.the-type T′.the-laws 𝓤 H A W .typed (r .places) _ (parts .0) .0)) $
-        assigns ! (of-opd ! (load ! (from ! (fld ! refl (stop !))) (look-in ! 7 (sub ! 1 refl (whole !))))) (from ! (stop !)) (init ! 11 refl (EL.lawful N.the-type N′.the-laws 𝓤 H A W tt .typed (r .answer) _ (parts .1 .0) .0)) $
+        assigns ! (of-opd ! (load ! (from ! (fld ! {τ = T′.mir} {d = 0} refl (stop !))) (look-in ! 7 (sub ! 0 {τ = T′.mir} {d = 0} refl (whole !))))) (from ! (hop ! (look ! 9 refl) (stop !))) (store-raw ! 1 refl (LL.lawful T.the-type T′.the-laws 𝓤 H A W .typed (r .places) _ (parts .0) .0)) $
+        assigns ! (of-opd ! (load ! (from ! (fld ! {τ = N′.mir} {d = 3088} refl (stop !))) (look-in ! 7 (sub ! 1 {τ = N′.mir} {d = 3088} refl (whole !))))) (from ! (stop !)) (init ! 11 refl (EL.lawful N.the-type N′.the-laws 𝓤 H A W tt .typed (r .answer) _ (parts .1 .0) .0)) $
         drop ! $ owned ! T.the-row (Is T.the-row) ((LL.makes T.the-type T′.the-plain) 𝓤 H A) (r .places) _ (parts .0) $ move ! (1 ∷ 0 ∷ []) $ closes ! tt T.the-row (r .places) (vals (r .places)) b o $
         -- [obs; the borrow; the token; _3; …; _2; …; _1; …; _0; …]
         returns ! (look ! 9 refl) $ forget ! 3 refl $ forget ! 5 refl $ forget ! 7 refl $ forget ! 9 refl $ move ! (9 ∷ 10 ∷ []) $ free1 ! $ move ! (7 ∷ 8 ∷ []) $ free1 ! $ move ! (5 ∷ 6 ∷ []) $ free1 ! $ move ! (3 ∷ 4 ∷ []) $ free1 ! $ free0 ! $

@@ -22,7 +22,7 @@ sub-least : tie.Need-sub-least Inv-loop μ-loop
 sub-least c = search needs
 
 least-requires : tie.Need-least-requires Inv-loop μ-loop
-least-requires c κs = search needs
+least-requires c κs = tt
 
 add-to : tie.Need-add-to Inv-loop μ-loop
 add-to c = search needs

@@ -11,7 +11,7 @@ use Rattle.ring.proofs.copy_in.Statement.{statement}
 use Rattle.ring.proofs.copy_in.Tie as tie
 
 fits-requires : tie.Need-fits-requires
-fits-requires c κs = search needs
+fits-requires c κs = tt
 
 returns : tie.Need-returns
 unfolding copiedIn

@@ -11,7 +11,7 @@ use Rattle.ring.proofs.copy_out.Statement.{statement}
 use Rattle.ring.proofs.copy_out.Tie as tie
 
 fits-requires : tie.Need-fits-requires
-fits-requires c κs = search needs
+fits-requires c κs = tt
 
 returns : tie.Need-returns
 unfolding copiedOut

@@ -1,14 +1,13 @@
 use Rattle.endpoint.specs.Endpoint.{closedEnd}
-use borrow.Author.Needs.{needs}
 use Rattle.endpoint.proofs.Endpoint.into_closed.Statement.{statement}
 use Rattle.endpoint.proofs.Endpoint.into_closed.Tie as tie
 
 new-requires : tie.Need-new-requires
-new-requires c κs = search needs
+new-requires c κs = tt
 
 returns : tie.Need-returns
 unfolding closedEnd
-returns c = cc
+returns c = rw (c .new .ensures)
 
 pub into-closed-spec : {M : Type 1} → statement M
 into-closed-spec = tie.close (tie.spec new-requires returns)

@@ -1,25 +1,25 @@
 use denote.Ref.{now}
-use mathlib.Core.Path.{sym}
 use lib.ListN.{List·getD-eq-default}
-use Rattle.status.proofs.Rules.{chain, pick-on}
+use Rattle.status.specs.Choice.{pick}
+use Rattle.status.proofs.Rules.{via-not, via-not-not}
 use Rattle.endpoint.specs.Queue.{firstLength}
 use borrow.Author.Needs.{needs}
 use Rattle.endpoint.proofs.Queue.first_length.Statement.{statement}
 use Rattle.endpoint.proofs.Queue.first_length.Tie as tie
 
 has-length-requires : tie.Need-has-length-requires
-has-length-requires c κs = search needs
+has-length-requires c κs = tt
 
 returns : tie.Need-returns
-unfolding firstLength
-returns c = search chain depth 12
+unfolding firstLength pick
+returns c = rw (via-not (c .before .has-length .ensures) (c .if1 .taken))
 
 cast-at : tie.Need-cast-at
 cast-at c = search needs
 
 returns-2 : tie.Need-returns-2
-unfolding firstLength
-returns-2 c = pick-on _ _ _ _ _ (search chain) (sym (List·getD-eq-default (now (c .before .before .before .before .before .args .table)) 0 (c .if2 .taken)))
+unfolding firstLength pick
+returns-2 c = rw (via-not-not (c .before .before .before .has-length .ensures) (c .before .before .if1 .left), List·getD-eq-default (now (c .before .before .before .before .before .args .table)) 0 (c .if2 .taken))
 
 mul-result : tie.Need-mul-result
 mul-result c = search needs
@@ -28,8 +28,8 @@ shared-slice-read-result : tie.Need-shared-slice-read-result
 shared-slice-read-result c = search needs
 
 returns-3 : tie.Need-returns-3
-unfolding firstLength
-returns-3 c = search chain depth 12
+unfolding firstLength pick
+returns-3 c = rw (via-not-not (c .before .before .before .before .has-length .ensures) (c .before .before .before .if1 .left))
 
 pub first-length-spec : {M : Type 1} → statement M
 first-length-spec =

@@ -1,31 +1,31 @@
-use Rattle.status.proofs.Rules.{chain}
+use borrow.Author.Tests.{lt-ltb, le-ltb, le-leb, lt-leb, not-true, not-false}
+use Rattle.status.specs.Choice.{pick, _and_}
 use Rattle.endpoint.specs.Queue.{soundQueue}
-use borrow.Author.Needs.{needs}
 use Rattle.endpoint.proofs.Queue.is_sound.Statement.{statement}
 use Rattle.endpoint.proofs.Queue.is_sound.Tie as tie
 
 returns : tie.Need-returns
-unfolding soundQueue
-returns c = search chain depth 12
+unfolding soundQueue pick _and_
+returns c = rw (le-ltb _ _ (c .if1 .taken))
 
 returns-2 : tie.Need-returns-2
-unfolding soundQueue
-returns-2 c = search chain depth 12
+unfolding soundQueue pick _and_
+returns-2 c = rw (lt-ltb _ _ (c .before .before .if1 .left), le-ltb _ _ (c .if2 .taken))
 
 returns-3 : tie.Need-returns-3
-unfolding soundQueue
-returns-3 c = search chain depth 12
+unfolding soundQueue pick _and_
+returns-3 c = rw (lt-ltb _ _ (c .before .before .before .before .if1 .left), lt-ltb _ _ (c .before .before .if2 .left), lt-leb _ _ (c .if3 .taken))
 
 returns-4 : tie.Need-returns-4
-unfolding soundQueue
-returns-4 c = search chain depth 12
+unfolding soundQueue pick _and_
+returns-4 c = rw (lt-ltb _ _ (c .before .before .before .before .before .if1 .left), lt-ltb _ _ (c .before .before .before .if2 .left), le-leb _ _ (c .before .if3 .left), not-true (c .before .before .before .before .before .before .before .args .datagram) (c .if4 .taken))
 
 has-sound-lengths-requires : tie.Need-has-sound-lengths-requires
-has-sound-lengths-requires c κs = search needs
+has-sound-lengths-requires c κs = tt
 
 returns-5 : tie.Need-returns-5
-unfolding soundQueue
-returns-5 c = search chain depth 12
+unfolding soundQueue pick _and_
+returns-5 c = rw (lt-ltb _ _ (c .before .before .before .before .before .before .if1 .left), lt-ltb _ _ (c .before .before .before .before .if2 .left), le-leb _ _ (c .before .before .if3 .left), not-false (c .before .before .before .before .before .before .before .before .args .datagram) (c .before .if4 .left)) (c .has-sound-lengths .ensures)
 
 pub is-sound-spec : {M : Type 1} → statement M
 is-sound-spec =
