@@ -11,27 +11,76 @@ ghost use Rattle.host.specs.Host.{Answered};
 
 // Writes the bytes of user memory to the peer's queue, and lands the count of those taken. The ring and the table are the peer's.
 #[no_mangle]
-pub extern "C" fn murgwethan_user_write(p: &mut Pair, handle: u32, options: u32, base: u64, memory: &mut [u8], address: u64, count: u64, count_at: u64, ring: &mut [u8], table: &mut [u32]) -> i64
+pub extern "C" fn murgwethan_user_write(
+    p: &mut Pair,
+    handle: u32,
+    options: u32,
+    base: u64,
+    memory: &mut [u8],
+    address: u64,
+    count: u64,
+    count_at: u64,
+    ring: &mut [u8],
+    table: &mut [u32],
+) -> i64
     ensures { λ w. ⌜ Answered (UserWrote (now (p .entry)) handle base options address count «count_at» (now (memory .entry)) (now (memory .exit)) (now (ring .entry)) (now (ring .exit)) (now (table .entry)) (now (table .exit))) (now (p .exit)) w ⌝ }
 {
-    let r = syscall::write(*p, handle, options, base, memory, address, count, count_at, ring, table);
+    let r = syscall::write(
+        *p,
+        handle,
+        options,
+        base,
+        memory,
+        address,
+        count,
+        count_at,
+        ring,
+        table,
+    );
     *p = r.pair;
     status::word(r.answer)
 }
 
 // Reads the front of the own queue into user memory, then lands the count over the bytes. Option 8 is a peek.
 #[no_mangle]
-pub extern "C" fn murgwethan_user_read(p: &mut Pair, handle: u32, options: u32, base: u64, memory: &mut [u8], address: u64, count: u64, count_at: u64, ring: &[u8], table: &[u32]) -> i64
+pub extern "C" fn murgwethan_user_read(
+    p: &mut Pair,
+    handle: u32,
+    options: u32,
+    base: u64,
+    memory: &mut [u8],
+    address: u64,
+    count: u64,
+    count_at: u64,
+    ring: &[u8],
+    table: &[u32],
+) -> i64
     ensures { λ w. ⌜ Answered (UserRead (now (p .entry)) handle base options address count «count_at» (now (ring .entry)) (now (table .entry)) (now (memory .entry)) (now (memory .exit))) (now (p .exit)) w ⌝ }
 {
-    let r = syscall::read(*p, handle, options, base, memory, address, count, count_at, ring, table);
+    let r = syscall::read(
+        *p,
+        handle,
+        options,
+        base,
+        memory,
+        address,
+        count,
+        count_at,
+        ring,
+        table,
+    );
     *p = r.pair;
     status::word(r.answer)
 }
 
 // Disables or enables the writing of an end and of its peer, by numbers from 0 to 2.
 #[no_mangle]
-pub extern "C" fn murgwethan_user_set_disposition(p: &mut Pair, handle: u32, disposition: u32, peer_disposition: u32) -> i64
+pub extern "C" fn murgwethan_user_set_disposition(
+    p: &mut Pair,
+    handle: u32,
+    disposition: u32,
+    peer_disposition: u32,
+) -> i64
     ensures { λ w. ⌜ Answered (Steps (now (p .entry)) (userDisposeAnswer (now (p .entry)) handle disposition «peer_disposition») (disposed (isOne handle) (dispositionOf disposition) (dispositionOf «peer_disposition») (now (p .entry)))) (now (p .exit)) w ⌝ }
 {
     let r = syscall::set_disposition(*p, handle, disposition, peer_disposition);

@@ -1,4 +1,6 @@
 pub mod Steps
 pub mod Sound
 pub mod Moved
-pub mod Calls
+pub mod Same
+pub mod Visiting
+pub mod Settled

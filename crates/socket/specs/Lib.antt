@@ -5,6 +5,7 @@
 --   Info record               Info
 --   Script program            Pair: shownBy, the word that a line shows
 --   Calls over user memory    the crate syscall
+-- Deferred: a write whose visit of the waits is left for later.
 pub mod Pair
 pub mod Tests
 pub mod Create
@@ -14,3 +15,4 @@ pub mod Threshold
 pub mod Disposition
 pub mod Info
 pub mod Wait
+pub mod Deferred

@@ -3,6 +3,7 @@
 -- An end is named by a Bool throughout: true is end 1, false is end 2. `own t p` is that end, `peer t p` the other.
 use Prim.Native.Nat.{ℕ}
 use mathlib.Core.Bool.{Bool, true, false, not}
+use mathlib.Core.List.{[]}
 use lib.Dec.{eqb}
 use Rattle.status.specs.Choice.{pick, _or_}
 use Rattle.port.specs.declared.Places.{Places}
@@ -15,6 +16,7 @@ use Rattle.endpoint.specs.declared.SignalWord.the-variants.{Closed}
 use Rattle.endpoint.specs.Endpoint.{newEnd, noEnd, withSignals, withReadDisabled, shown}
 use Rattle.endpoint.specs.Write.{bitIf}
 use Rattle.socket.specs.declared.Pair.{Pair}
+use Rattle.socket.specs.declared.ends.Ends.{Ends}
 
 -- handle 1 is end 1
 abbrev pub isOne : ℕ → Bool
@@ -31,6 +33,29 @@ own false p = p .two
 abbrev pub peer : Bool → Pair → Endpoint
 peer true p = p .two
 peer false p = p .one
+
+-- the pair without its table of places, of which every answer is made
+abbrev pub endsOf : Pair → Ends
+endsOf p =
+    record {
+      datagram = p .datagram;
+      capacity = p .capacity;
+      packets = p .places .packets;
+      waits = p .places .waits;
+      one = p .one;
+      two = p .two;
+    }
+
+-- a pair of these ends; no answer looks at its table
+abbrev pub pairOf : Ends → Pair
+pairOf e =
+    record {
+      datagram = e .datagram;
+      capacity = e .capacity;
+      one = e .one;
+      two = e .two;
+      places = record { packets = e .packets; waits = e .waits; table = [] };
+    }
 
 -- the pair with one end put anew
 unfoldable pub withEnd : Bool → Endpoint → Pair → Pair

@@ -5,7 +5,56 @@ use endpoint::SignalWord;
 use endpoint::bit_if;
 use port::Places;
 ghost use mathlib.Core.Path.{_≡_};
-ghost use Rattle.socket.specs.Pair.{isHandle, own, peer, putBit, shownBy, signalChange, switchReading, withEnd, withPlaces};
+ghost use Rattle.socket.specs.Pair.{isHandle, own, peer, endsOf, pairOf, putBit, shownBy, signalChange, switchReading, withEnd, withPlaces};
+
+// The pair without its table of places: what every answer is made of. It is small, so that it is passed on at little cost.
+pub struct Ends {
+    pub datagram: bool,
+    pub capacity: u32,
+    pub packets: usize,
+    pub waits: usize,
+    pub one: Endpoint,
+    pub two: Endpoint,
+}
+
+pub fn ends_of(p: Pair) -> Ends
+    ensures { λ r. ⌜ r ≡ endsOf p ⌝ }
+{
+    let one = p.one;
+    let two = p.two;
+    Ends {
+        datagram: p.datagram,
+        capacity: p.capacity,
+        packets: p.places.packets,
+        waits: p.places.waits,
+        one,
+        two,
+    }
+}
+
+impl Ends {
+    pub fn own(self, one: bool) -> Endpoint
+        ensures { λ r. ⌜ r ≡ own one (pairOf self) ⌝ }
+    {
+        if one {
+            let e = self.one;
+            return e;
+        }
+        let e = self.two;
+        e
+    }
+
+    pub fn peer(self, one: bool) -> Endpoint
+        ensures { λ r. ⌜ r ≡ peer one (pairOf self) ⌝ }
+    {
+        if one {
+            let e = self.two;
+            return e;
+        }
+        let e = self.one;
+        e
+    }
+}
 
 pub fn own(p: Pair, one: bool) -> Endpoint
     ensures { λ r. ⌜ r ≡ own one p ⌝ }

@@ -2,24 +2,25 @@
 use crate::Pair;
 use crate::Step;
 use crate::ends;
+use crate::ends::Ends;
 use crate::tests;
 use endpoint::get_info;
 use status::Answer;
 use status::Record;
 ghost use mathlib.Core.Path.{_≡_};
 ghost use mathlib.Core.List.{[]};
-ghost use Rattle.socket.specs.Pair.{isOne, own};
+ghost use Rattle.socket.specs.Pair.{isOne, own, pairOf};
 ghost use Rattle.socket.specs.Tests.{lentOf, Steps};
 ghost use Rattle.socket.specs.Info.{infoAnswer};
 
-fn info_answer(p: Pair, handle: u32, table: &[u32]) -> Answer
-    ensures { λ r. ⌜ r ≡ infoAnswer p (lentOf (p .datagram) (own (isOne handle) p .queue) [] (now (table .entry))) handle ⌝ }
+fn info_answer(p: Ends, handle: u32, table: &[u32]) -> Answer
+    ensures { λ r. ⌜ r ≡ infoAnswer (pairOf p) (lentOf (p .datagram) (own (isOne handle) (pairOf p) .queue) [] (now (table .entry))) handle ⌝ }
 {
     let sound = tests::sound_test(p);
     if !status::is_done(sound) {
         return sound;
     }
-    let own = ends::own(p, handle == 1);
+    let own = p.own(handle == 1);
     let q = own.queue;
     let lent = tests::table_test(p.datagram, p.capacity, handle, q, table);
     if !status::is_done(lent) {
@@ -34,7 +35,7 @@ fn info_answer(p: Pair, handle: u32, table: &[u32]) -> Answer
         p.datagram,
         p.capacity,
         own,
-        ends::peer(p, handle == 1),
+        p.peer(handle == 1),
         first,
     )))
 }
@@ -46,7 +47,7 @@ impl Pair {
     {
         Step {
             pair: self,
-            answer: info_answer(self, handle, table),
+            answer: info_answer(ends::ends_of(self), handle, table),
         }
     }
 }

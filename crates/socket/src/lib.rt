@@ -7,6 +7,7 @@ use status::Answer;
 
 mod close;
 mod create;
+mod deferred;
 mod disposition;
 mod ends;
 mod info;
@@ -17,8 +18,17 @@ mod threshold;
 mod wait;
 mod write;
 
-pub use ends::own;
-pub use ends::peer;
+pub use deferred::Deferred;
+pub use deferred::Outcome;
+pub use deferred::Pending;
+pub use deferred::Visits;
+pub use deferred::read_ends;
+pub use deferred::settle;
+pub use deferred::visit;
+pub use deferred::with_outcome;
+pub use deferred::write_ends;
+pub use ends::Ends;
+pub use ends::ends_of;
 pub use tests::handle_test;
 pub use tests::slices_test;
 pub use tests::sound_test;

@@ -1,18 +1,20 @@
 // The tests that come before a call's own: the record, the slices lent, the handle. Each answers done, with no record, where it passes.
 use crate::Pair;
+use crate::ends;
+use crate::ends::Ends;
 use crate::ends::is_handle;
-use crate::ends::own;
 use endpoint::Queue;
 use status::Answer;
 use status::Record;
 use status::Status;
 ghost use mathlib.Core.Path.{_≡_};
 ghost use mathlib.Core.List.{[]};
+ghost use Rattle.socket.specs.Pair.{pairOf};
 ghost use Rattle.socket.specs.Tests.{soundPair, soundTest, lentOf, slicesTest, tableTest, isOpen, handleTest, openingTest};
 
 // Whether the record is not INTERNAL.
-fn is_sound(p: Pair) -> bool
-    ensures { λ r. ⌜ r ≡ soundPair p ⌝ }
+fn is_sound(p: Ends) -> bool
+    ensures { λ r. ⌜ r ≡ soundPair (pairOf p) ⌝ }
 {
     if p.capacity <= 0 {
         return false;
@@ -20,7 +22,7 @@ fn is_sound(p: Pair) -> bool
     if p.capacity > 262144 {
         return false;
     }
-    if !port::is_sound(p.places.packets, p.places.waits) {
+    if !port::is_sound(p.packets, p.waits) {
         return false;
     }
     let one = p.one.queue;
@@ -31,8 +33,8 @@ fn is_sound(p: Pair) -> bool
     two.is_sound(p.datagram, p.capacity)
 }
 
-pub fn sound_test(p: Pair) -> Answer
-    ensures { λ r. ⌜ r ≡ soundTest p ⌝ }
+pub fn sound_test(p: Ends) -> Answer
+    ensures { λ r. ⌜ r ≡ soundTest (pairOf p) ⌝ }
 {
     if !is_sound(p) {
         return Answer::Refused(Status::Internal);
@@ -79,18 +81,18 @@ pub fn table_test(datagram: bool, capacity: u32, handle: u32, q: Queue, table: &
     Answer::Done(Record::Empty)
 }
 
-fn is_open(p: Pair, handle: u32) -> bool
-    ensures { λ r. ⌜ r ≡ isOpen p handle ⌝ }
+fn is_open(p: Ends, handle: u32) -> bool
+    ensures { λ r. ⌜ r ≡ isOpen (pairOf p) handle ⌝ }
 {
     if !is_handle(handle) {
         return false;
     }
-    let e = own(p, handle == 1);
+    let e = p.own(handle == 1);
     !e.closed
 }
 
-pub fn handle_test(p: Pair, handle: u32) -> Answer
-    ensures { λ r. ⌜ r ≡ handleTest p handle ⌝ }
+pub fn handle_test(p: Ends, handle: u32) -> Answer
+    ensures { λ r. ⌜ r ≡ handleTest (pairOf p) handle ⌝ }
 {
     if !is_open(p, handle) {
         return Answer::Refused(Status::BadHandle);
@@ -102,9 +104,10 @@ pub fn handle_test(p: Pair, handle: u32) -> Answer
 pub fn opening_test(p: Pair, handle: u32) -> Answer
     ensures { λ r. ⌜ r ≡ openingTest p handle ⌝ }
 {
-    let a = sound_test(p);
+    let e = ends::ends_of(p);
+    let a = sound_test(e);
     if !status::is_done(a) {
         return a;
     }
-    handle_test(p, handle)
+    handle_test(e, handle)
 }

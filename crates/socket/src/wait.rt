@@ -60,7 +60,7 @@ impl Pair {
     pub fn take(self) -> Step
         ensures { λ r. ⌜ Steps self (takeAnswer self) (took self) r ⌝ }
     {
-        let a = tests::sound_test(self);
+        let a = tests::sound_test(ends::ends_of(self));
         if !status::is_done(a) {
             return Step {
                 pair: self,

@@ -1,8 +1,12 @@
-use Rattle.status.proofs.Rules.{chain}
+use Rattle.status.proofs.Rules.{via-not, via-not-not, then-stop, then-go}
 use Rattle.socket.specs.Tests.{openingTest}
+use Rattle.socket.proofs.Same.{told-sound, told-handle}
 use borrow.Author.Needs.{needs}
 use Rattle.socket.proofs.tests.opening_test.Statement.{statement}
 use Rattle.socket.proofs.tests.opening_test.Tie as tie
+
+ends-of-requires : tie.Need-ends-of-requires
+ends-of-requires c κs = search needs
 
 sound-test-requires : tie.Need-sound-test-requires
 sound-test-requires c κs = search needs
@@ -12,16 +16,14 @@ is-done-requires c κs = search needs
 
 returns : tie.Need-returns
 unfolding openingTest
-returns c = search chain depth 12
+returns c = then-stop _ _ _ (told-sound _ _ _ (c .before .before .before .ends-of .ensures) (c .before .before .sound-test .ensures)) (via-not (c .before .is-done .ensures) (c .if1 .taken))
 
 handle-test-requires : tie.Need-handle-test-requires
 handle-test-requires c κs = search needs
 
 returns-2 : tie.Need-returns-2
 unfolding openingTest
-returns-2 c = search chain depth 12
+returns-2 c = then-go _ _ _ _ (told-sound _ _ _ (c .before .before .before .before .ends-of .ensures) (c .before .before .before .sound-test .ensures)) (via-not-not (c .before .before .is-done .ensures) (c .before .if1 .left)) (told-handle _ _ _ _ (c .before .before .before .before .ends-of .ensures) (c .handle-test .ensures))
 
 pub opening-test-spec : {M : Type 1} → statement M
-opening-test-spec =
-    tie.close
-    (tie.spec sound-test-requires is-done-requires returns handle-test-requires returns-2)
+opening-test-spec = tie.close (tie.spec ends-of-requires sound-test-requires is-done-requires returns handle-test-requires returns-2)

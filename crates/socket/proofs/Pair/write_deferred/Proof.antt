@@ -1,0 +1,28 @@
+use denote.Ref.{now}
+use Rattle.socket.proofs.Visiting.{places-128}
+use Rattle.socket.proofs.Settled.{wrote-whole}
+use borrow.Author.Needs.{needs}
+use Rattle.socket.proofs.Pair.write_deferred.Statement.{statement}
+use Rattle.socket.proofs.Pair.write_deferred.Tie as tie
+
+ends-of-requires : tie.Need-ends-of-requires
+ends-of-requires c κs = search needs
+
+write-ends-requires : tie.Need-write-ends-requires
+write-ends-requires c κs = search needs
+
+with-outcome-requires : tie.Need-with-outcome-requires
+with-outcome-requires c κs = search needs
+
+same-length : tie.Need-same-length
+same-length c = search needs
+
+same-length-2 : tie.Need-same-length-2
+same-length-2 c = search needs
+
+returns : tie.Need-returns
+returns c = let a = c .before .before .before .before .before .before .before .before .before .before .before .before .args in
+    wrote-whole (a .self) (a .handle) (now (a .bytes)) (now (a .ring)) _ (now (a .table)) _ _ _ _ (places-128 (a .self) _ (c .before .before .before .before .before .before .before .before .before .before .before .before .good .0)) (c .before .before .before .before .before .before .before .before .ends-of .ensures) (c .before .before .before .before .before .write-ends .ensures) (c .with-outcome .ensures)
+
+pub write-deferred-spec : {M : Type 1} → statement M
+write-deferred-spec = tie.close (tie.spec ends-of-requires write-ends-requires with-outcome-requires same-length same-length-2 returns)
