@@ -1,70 +1,34 @@
--- A write and a read whose waits are visited later, put together from their parts. Assumes nothing.
+-- A write and a read whose waits are visited later: the whole pair, once they are. Assumes nothing.
 use Prim.Native.Nat.{ℕ}
 use mathlib.Core.Path.{_≡_, refl, sym, ap, subst, _∙_}
 use mathlib.Core.Bool.{Bool, true, false}
 use mathlib.Core.List.{List}
 use lib.ListN.{length}
 use lib.Dec.{eqb}
-use lib.Seq.{paste}
 use borrow.Author.Tests.{eqb-false}
 use Rattle.status.specs.declared.Answer.{Answer}
 use Rattle.status.specs.Choice.{pick, _or_}
 use Rattle.status.specs.Answer.{countOf}
 use Rattle.status.proofs.Chains.{counted, neither}
-use Rattle.ring.specs.Ring.{front}
 use Rattle.port.specs.Table.{sound}
-use Rattle.endpoint.specs.declared.Endpoint.{Endpoint}
 use Rattle.endpoint.specs.Queue.{firstLength}
+use Rattle.ends.specs.declared.Ends.{Ends}
+use Rattle.ends.specs.declared.Outcome.{Outcome}
+use Rattle.ends.specs.Tests.{lentOf}
+use Rattle.ends.specs.Outcome.{keptEnds}
+use Rattle.ends.specs.Write.{fedEnds, wroteEnds, EndsWrote}
+use Rattle.ends.specs.Write as W
+use Rattle.ends.specs.Read.{leaving, drainedEnds, readEnds, EndsRead}
+use Rattle.ends.specs.Read as R
+use Rattle.ends.proofs.Sound.{passed}
 use Rattle.socket.specs.declared.Pair.{Pair}
 use Rattle.socket.specs.declared.Step.{Step}
-use Rattle.socket.specs.declared.ends.Ends.{Ends}
-use Rattle.socket.specs.declared.deferred.Moved.{Moved}
-use Rattle.socket.specs.declared.deferred.Outcome.{Outcome}
 use Rattle.socket.specs.declared.deferred.Deferred.{Deferred}
-use Rattle.socket.specs.Pair.{isOne, own, peer, endsOf, pairOf}
-use Rattle.socket.specs.Tests.{lentOf}
-use Rattle.socket.specs.Write.{writeAnswer, wrote, pairWritten, ringFed, ringWritten, tableFed, tableWritten, Wrote}
-use Rattle.socket.specs.Read.{readAnswer, leaving, consumed, pairRead, bufferRead, Read}
-use Rattle.socket.specs.Deferred.{settled, withOutcome, outcomeOf, keptEnds, fedEnds, drainedEnds, wroteEnds, readEnds, EndsWrote, EndsRead}
-use Rattle.socket.proofs.Sound.{passed}
-use Rattle.socket.proofs.Same.{same-own, same-peer, same-write, same-read, same-ring, same-table, same-buffer}
+use Rattle.socket.specs.Pair.{isOne, own, peer, endsOf}
+use Rattle.socket.specs.Write.{wrote, pairWritten, Wrote}
+use Rattle.socket.specs.Read.{consumed, pairRead, Read}
+use Rattle.socket.specs.Deferred.{settled, withOutcome}
 use Rattle.socket.proofs.Visiting.{movedPair, kept-visited, fed-visited, drained-visited, settled-moved}
-
--- ---- the ends after a call, from its parts
-
-pub ends-wrote : (e : Ends) (h : ℕ) (src ring ring′ table table′ : List ℕ) (x : Answer) (m : ℕ) (o t : Endpoint) (d : Moved) (r : Outcome)
-    → x ≡ writeAnswer (pairOf e) (lentOf (e .datagram) (peer (isOne h) (pairOf e) .queue) ring table) h (length src) → m ≡ countOf x
-    → o ≡ own (isOne h) (pairOf e) → t ≡ peer (isOne h) (pairOf e)
-    → d ≡ pick (eqb m 0) (keptEnds o t) (fedEnds (e .datagram) (e .capacity) (isOne h) o t m)
-    → ring′ ≡ pick (eqb m 0) ring (ringFed (e .capacity) (t .queue) m src ring)
-    → table′ ≡ pick (eqb m 0) table (tableFed (e .datagram) (e .capacity) (t .queue) m table)
-    → r ≡ outcomeOf (e .waits) (isOne h) x d → EndsWrote e h src ring ring′ table table′ r
-unfolding outcomeOf wroteEnds ringWritten tableWritten
-ends-wrote e h src ring ring′ table table′ x m o t d r fx fm fo ft fd fr fl f =
-    let a : r .answer ≡ x = ap (λ (k : Outcome). k .answer) f in
-    record {
-      answer = a ∙ fx;
-      next = f ∙ rw (a, ← fm, ← fo, ← ft, ← fd) refl;
-      bytes = rw (a, ← fm, ← ft) fr;
-      lengths = rw (a, ← fm, ← ft) fl;
-    }
-
-pub ends-read : (e : Ends) (h : ℕ) (peek : Bool) (ring table buffer buffer′ : List ℕ) (x : Answer) (k : ℕ) (o t : Endpoint) (first : ℕ) (d : Moved) (r : Outcome)
-    → x ≡ readAnswer (pairOf e) (lentOf (e .datagram) (own (isOne h) (pairOf e) .queue) ring table) h (length buffer) → k ≡ countOf x
-    → o ≡ own (isOne h) (pairOf e) → t ≡ peer (isOne h) (pairOf e) → first ≡ firstLength (e .datagram) (o .queue) table
-    → buffer′ ≡ pick (eqb k 0) buffer (paste buffer 0 (front (e .capacity) (o .queue .bytes .start) k ring) k)
-    → d ≡ pick (peek or eqb k 0) (keptEnds o t) (drainedEnds (e .datagram) (e .capacity) (isOne h) o t (leaving (e .datagram) first k))
-    → r ≡ outcomeOf (e .waits) (isOne h) x d → EndsRead e h peek ring table buffer buffer′ r
-unfolding outcomeOf readEnds bufferRead
-ends-read e h peek ring table buffer buffer′ x k o t first d r fx fk fo ft fl fb fd f =
-    let a : r .answer ≡ x = ap (λ (z : Outcome). z .answer) f in
-    record {
-      answer = a ∙ fx;
-      next = f ∙ rw (a, ← fk, ← fo, ← ft, ← fl, ← fd) refl;
-      bytes = rw (a, ← fk, ← fo) fb;
-    }
-
--- ---- the whole pair, once the waits are visited
 
 moved-wrote : (b t : Bool) (m : ℕ) (p : Pair) → (b ≡ false → sound (p .places) ≡ true)
     → movedPair t (pick b (keptEnds (own t p) (peer t p)) (fedEnds (p .datagram) (p .capacity) t (own t p) (peer t p) m)) p ≡ pick b p (wrote t m p)
@@ -83,7 +47,7 @@ module _ (p : Pair) (h : ℕ) (a : Answer) (r : Outcome) (l : length (p .places 
   pub wrote-settled : r ≡ wroteEnds (endsOf p) h a → settled (withOutcome r p) ≡ record { pair = pairWritten p h (countOf a); answer = a }
   unfolding wroteEnds pairWritten
   wrote-settled e =
-      ap (λ (k : Outcome). settled (withOutcome k p)) (rw (← same-own (isOne h) p, ← same-peer (isOne h) p) e)
+      ap (λ (k : Outcome). settled (withOutcome k p)) e
       ∙ settled-moved p (isOne h) a _ l
       ∙ ap (λ (q : Pair). record { pair = q; answer = a }) (moved-wrote (eqb (countOf a) 0) (isOne h) (countOf a) p (λ z. s (eqb-false _ _ z)))
 
@@ -91,38 +55,30 @@ module _ (p : Pair) (h : ℕ) (a : Answer) (r : Outcome) (l : length (p .places 
       → settled (withOutcome r p) ≡ record { pair = pairRead p h peek first (countOf a); answer = a }
   unfolding readEnds pairRead
   read-settled peek first e =
-      ap (λ (k : Outcome). settled (withOutcome k p)) (rw (← same-own (isOne h) p, ← same-peer (isOne h) p) e)
+      ap (λ (k : Outcome). settled (withOutcome k p)) e
       ∙ settled-moved p (isOne h) a _ l
       ∙ ap (λ (q : Pair). record { pair = q; answer = a })
       (moved-read (peek or eqb (countOf a) 0) (isOne h) (leaving (p .datagram) first (countOf a)) p (λ z. s (eqb-false _ _ (neither _ _ z .1))))
 
 pub wrote-whole : (p : Pair) (h : ℕ) (src ring ring′ table table′ : List ℕ) (e : Ends) (r : Outcome) (d : Deferred) → length (p .places .table) ≡ 128
     → e ≡ endsOf p → EndsWrote e h src ring ring′ table table′ r → d ≡ withOutcome r p → Wrote p h src ring ring′ table table′ (settled d)
-unfolding writeAnswer
+unfolding W.writeAnswer
 wrote-whole p h src ring ring′ table table′ e r d l f v g =
     let w = subst (λ (k : Ends). EndsWrote k h src ring ring′ table table′ r) f v in
-    let x = w .answer ∙ same-write p h ring table (length src) in
     let z = lentOf (p .datagram) (peer (isOne h) p .queue) ring table in
     let s : (countOf (r .answer) ≡ 0 → ⊥) → sound (p .places) ≡ true
-    = λ (n : countOf (r .answer) ≡ 0 → ⊥). passed p h (peer (isOne h) p .queue) z _ (r .answer) x (counted (r .answer) n) .sound .places in
+    = λ (n : countOf (r .answer) ≡ 0 → ⊥). passed (endsOf p) h (peer (isOne h) p .queue) z _ (r .answer) (w .answer) (counted (r .answer) n) .sound .places in
     subst (λ (k : Step). Wrote p h src ring ring′ table table′ k) (sym (ap settled g ∙ wrote-settled p h (r .answer) r l s (w .next)))
-    (record {
-      answer = x;
-      pair = refl;
-      bytes = w .bytes ∙ same-ring p h (countOf (r .answer)) src ring;
-      lengths = w .lengths ∙ same-table p h (countOf (r .answer)) table;
-    })
+    (record { answer = w .answer; pair = refl; bytes = w .bytes; lengths = w .lengths })
 
 pub read-whole : (p : Pair) (h : ℕ) (peek : Bool) (ring table buffer buffer′ : List ℕ) (e : Ends) (r : Outcome) (d : Deferred) → length (p .places .table) ≡ 128
     → e ≡ endsOf p → EndsRead e h peek ring table buffer buffer′ r → d ≡ withOutcome r p → Read p h peek ring table buffer buffer′ (settled d)
-unfolding readAnswer
+unfolding R.readAnswer
 read-whole p h peek ring table buffer buffer′ e r d l f v g =
     let w = subst (λ (k : Ends). EndsRead k h peek ring table buffer buffer′ r) f v in
-    let x = w .answer ∙ same-read p h ring table (length buffer) in
     let z = lentOf (p .datagram) (own (isOne h) p .queue) ring table in
     let s : (countOf (r .answer) ≡ 0 → ⊥) → sound (p .places) ≡ true
-    = λ (n : countOf (r .answer) ≡ 0 → ⊥). passed p h (own (isOne h) p .queue) z _ (r .answer) x (counted (r .answer) n) .sound .places in
+    = λ (n : countOf (r .answer) ≡ 0 → ⊥). passed (endsOf p) h (own (isOne h) p .queue) z _ (r .answer) (w .answer) (counted (r .answer) n) .sound .places in
     let first = firstLength (p .datagram) (own (isOne h) p .queue) table in
-    let n : r ≡ readEnds (endsOf p) h peek first (r .answer) = rw (← same-own (isOne h) p) (w .next) in
-    subst (λ (k : Step). Read p h peek ring table buffer buffer′ k) (sym (ap settled g ∙ read-settled p h (r .answer) r l s peek first n))
-    (record { answer = x; pair = refl; bytes = w .bytes ∙ same-buffer p h (countOf (r .answer)) ring buffer })
+    subst (λ (k : Step). Read p h peek ring table buffer buffer′ k) (sym (ap settled g ∙ read-settled p h (r .answer) r l s peek first (w .next)))
+    (record { answer = w .answer; pair = refl; bytes = w .bytes })

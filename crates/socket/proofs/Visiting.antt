@@ -25,18 +25,21 @@ use Rattle.port.proofs.Idle.{idle, no-waits}
 use Rattle.port.proofs.Sound.{sound-change}
 use Rattle.endpoint.specs.declared.Endpoint.{Endpoint}
 use Rattle.endpoint.specs.Endpoint.{withQueue, withSignals}
+use Rattle.ends.specs.declared.Pending.{Pending}
+use Rattle.ends.specs.declared.Visits.{Visits}
+use Rattle.ends.specs.declared.change.Moved.{Moved}
+use Rattle.ends.specs.Outcome.{noVisit, keepsWord, canFire, outcomeOf, keptEnds}
+use Rattle.ends.specs.Write.{fedQueue, fedEnds}
+use Rattle.ends.specs.Read.{drainedQueue, drainedEnds}
 use Rattle.socket.specs.declared.Pair.{Pair}
-use Rattle.socket.specs.declared.deferred.Pending.{Pending}
-use Rattle.socket.specs.declared.deferred.Visits.{Visits}
 use Rattle.socket.specs.declared.Step.{Step}
 use Rattle.socket.specs.declared.deferred.Deferred.{Deferred}
-use Rattle.socket.specs.declared.deferred.Moved.{Moved}
 use Rattle.socket.proofs.Pair as T
 use Rattle.socket.proofs.Pair.Laws as T′
 use Rattle.socket.specs.Pair.{own, peer, withEnd, withPlaces, withChange, signalChange}
-use Rattle.socket.specs.Write.{fedQueue, wrote}
-use Rattle.socket.specs.Read.{drainedQueue, consumed}
-use Rattle.socket.specs.Deferred.{noVisit, visited, visitedPair, settled, keepsWord, canFire, withEnds, withOutcome, outcomeOf, keptEnds, fedEnds, drainedEnds}
+use Rattle.socket.specs.Write.{wrote}
+use Rattle.socket.specs.Read.{consumed}
+use Rattle.socket.specs.Deferred.{visited, visitedPair, settled, withEnds, withOutcome}
 
 -- ---- a change that fires nothing
 

@@ -3,9 +3,7 @@
 -- An end is named by a Bool throughout: true is end 1, false is end 2. `own t p` is that end, `peer t p` the other.
 use Prim.Native.Nat.{ℕ}
 use mathlib.Core.Bool.{Bool, true, false, not}
-use mathlib.Core.List.{[]}
-use lib.Dec.{eqb}
-use Rattle.status.specs.Choice.{pick, _or_}
+use Rattle.status.specs.Choice.{pick}
 use Rattle.port.specs.declared.Places.{Places}
 use Rattle.port.specs.declared.Change.{Change}
 use Rattle.port.specs.Table.{newPlaces}
@@ -15,24 +13,11 @@ use Rattle.endpoint.specs.declared.SignalWord.{SignalWord}
 use Rattle.endpoint.specs.declared.SignalWord.the-variants.{Closed}
 use Rattle.endpoint.specs.Endpoint.{newEnd, noEnd, withSignals, withReadDisabled, shown}
 use Rattle.endpoint.specs.Write.{bitIf}
+use Rattle.ends.specs.declared.Ends.{Ends}
+use Rattle.ends.specs.Ends as E
 use Rattle.socket.specs.declared.Pair.{Pair}
-use Rattle.socket.specs.declared.ends.Ends.{Ends}
-
--- handle 1 is end 1
-abbrev pub isOne : ℕ → Bool
-isOne h = eqb h 1
-
--- 01 "Status and answer word": other handles name no end
-unfoldable pub isHandle : ℕ → Bool
-isHandle h = eqb h 1 or eqb h 2
-
-abbrev pub own : Bool → Pair → Endpoint
-own true p = p .one
-own false p = p .two
-
-abbrev pub peer : Bool → Pair → Endpoint
-peer true p = p .two
-peer false p = p .one
+pub use Rattle.ends.specs.Ends.{isOne}
+unfoldable pub use Rattle.ends.specs.Ends.{isHandle}
 
 -- the pair without its table of places, of which every answer is made
 abbrev pub endsOf : Pair → Ends
@@ -46,16 +31,11 @@ endsOf p =
       two = p .two;
     }
 
--- a pair of these ends; no answer looks at its table
-abbrev pub pairOf : Ends → Pair
-pairOf e =
-    record {
-      datagram = e .datagram;
-      capacity = e .capacity;
-      one = e .one;
-      two = e .two;
-      places = record { packets = e .packets; waits = e .waits; table = [] };
-    }
+abbrev pub own : Bool → Pair → Endpoint
+own t p = E.own t (endsOf p)
+
+abbrev pub peer : Bool → Pair → Endpoint
+peer t p = E.peer t (endsOf p)
 
 -- the pair with one end put anew
 unfoldable pub withEnd : Bool → Endpoint → Pair → Pair

@@ -9,29 +9,19 @@ mod close;
 mod create;
 mod deferred;
 mod disposition;
-mod ends;
 mod info;
+mod parts;
 mod read;
 mod shutdown;
-mod tests;
 mod threshold;
 mod wait;
 mod write;
 
 pub use deferred::Deferred;
-pub use deferred::Outcome;
-pub use deferred::Pending;
-pub use deferred::Visits;
-pub use deferred::read_ends;
 pub use deferred::settle;
 pub use deferred::visit;
 pub use deferred::with_outcome;
-pub use deferred::write_ends;
-pub use ends::Ends;
-pub use ends::ends_of;
-pub use tests::handle_test;
-pub use tests::slices_test;
-pub use tests::sound_test;
+pub use parts::ends_of;
 
 // Both ends of a pair, and the places of its waits and packets. It holds no byte that was written.
 #[repr(C)]
