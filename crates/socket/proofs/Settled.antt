@@ -1,17 +1,19 @@
 -- A write and a read whose waits are visited later, put together from their parts. Assumes nothing.
 use Prim.Native.Nat.{ℕ}
 use mathlib.Core.Path.{_≡_, refl, sym, ap, subst, _∙_}
-use mathlib.Core.Bool.{Bool, true, false}
+use mathlib.Core.Bool.{Bool, true, false, not}
 use mathlib.Core.List.{List}
 use lib.ListN.{length}
 use lib.Dec.{eqb}
 use lib.Seq.{paste}
-use borrow.Author.Tests.{eqb-false}
+use borrow.Author.Tests.{eqb-false, eq-eqb}
 use Rattle.status.specs.declared.Answer.{Answer}
 use Rattle.status.specs.Choice.{pick, _or_}
 use Rattle.status.specs.Answer.{countOf}
 use Rattle.status.proofs.Chains.{counted, neither}
+use Rattle.status.proofs.Rules.{pick-on, or-on, or-off}
 use Rattle.ring.specs.Ring.{front}
+use Rattle.port.specs.Signal.{changedWord}
 use Rattle.port.specs.Table.{sound}
 use Rattle.endpoint.specs.declared.Endpoint.{Endpoint}
 use Rattle.endpoint.specs.Queue.{firstLength}
@@ -25,7 +27,7 @@ use Rattle.socket.specs.Pair.{isOne, own, peer, endsOf, pairOf}
 use Rattle.socket.specs.Tests.{lentOf}
 use Rattle.socket.specs.Write.{writeAnswer, wrote, pairWritten, ringFed, ringWritten, tableFed, tableWritten, Wrote}
 use Rattle.socket.specs.Read.{readAnswer, leaving, consumed, pairRead, bufferRead, Read}
-use Rattle.socket.specs.Deferred.{settled, withOutcome, outcomeOf, keptEnds, fedEnds, drainedEnds, wroteEnds, readEnds, EndsWrote, EndsRead}
+use Rattle.socket.specs.Deferred.{noVisit, keepsWord, canFire, settled, withOutcome, outcomeOf, unchangedEnds, keptEnds, fedEnds, drainedEnds, wroteEnds, readEnds, EndsWrote, EndsRead}
 use Rattle.socket.proofs.Sound.{passed}
 use Rattle.socket.proofs.Same.{same-own, same-peer, same-write, same-read, same-ring, same-table, same-buffer}
 use Rattle.socket.proofs.Visiting.{movedPair, kept-visited, fed-visited, drained-visited, settled-moved}
@@ -63,6 +65,38 @@ ends-read e h peek ring table buffer buffer′ x k o t first d r fx fk fo ft fl 
       next = f ∙ rw (a, ← fk, ← fo, ← ft, ← fl, ← fd) refl;
       bytes = rw (a, ← fk, ← fo) fb;
     }
+
+-- a call that moves nothing
+
+no-fire : (b : Bool) → pick b false (pick true (not true) true) ≡ false
+unfolding pick
+no-fire true = refl
+no-fire false = refl
+
+kept-unchanged : (e : Ends) (t : Bool) (a : Answer)
+    → unchangedEnds e a ≡ outcomeOf (e .waits) t a (keptEnds (own t (pairOf e)) (peer t (pairOf e)))
+unfolding unchangedEnds outcomeOf keptEnds canFire keepsWord changedWord pick
+kept-unchanged e true a =
+    ap (λ (f : Bool). record { one = e .one; two = e .two; answer = a; fires = f; visits = record { first = noVisit; second = noVisit } })
+    (sym (no-fire (eqb (e .waits) 0)))
+kept-unchanged e false a =
+    ap (λ (f : Bool). record { one = e .one; two = e .two; answer = a; fires = f; visits = record { first = noVisit; second = noVisit } })
+    (sym (no-fire (eqb (e .waits) 0)))
+
+pub unchanged-wrote : (e : Ends) (h : ℕ) (a : Answer) → countOf a ≡ 0 → unchangedEnds e a ≡ wroteEnds e h a
+unfolding wroteEnds
+unchanged-wrote e h a z =
+    kept-unchanged e (isOne h) a ∙ ap (outcomeOf (e .waits) (isOne h) a) (pick-on _ _ _ _ _ (eq-eqb (countOf a) 0 z) refl)
+
+pub unchanged-read : (e : Ends) (h : ℕ) (peek : Bool) (first : ℕ) (a : Answer) → countOf a ≡ 0 → unchangedEnds e a ≡ readEnds e h peek first a
+unfolding readEnds
+unchanged-read e h peek first a z =
+    kept-unchanged e (isOne h) a
+    ∙ ap (outcomeOf (e .waits) (isOne h) a) (pick-on _ _ _ _ _ (either-on peek (eqb (countOf a) 0) (eq-eqb (countOf a) 0 z)) refl)
+  where
+    either-on : (b c : Bool) → c ≡ true → (b or c) ≡ true
+    either-on true c w = sym (or-on true c refl)
+    either-on false c w = sym (or-off false c true refl (sym w))
 
 -- ---- the whole pair, once the waits are visited
 

@@ -27,8 +27,8 @@ use Rattle.socket.specs.declared.deferred.Moved.{Moved}
 use Rattle.socket.specs.declared.ends.Ends.{Ends}
 use Rattle.socket.specs.Pair.{isOne, own, peer, pairOf, withPlaces}
 use Rattle.socket.specs.Tests.{lentOf}
-use Rattle.socket.specs.Write.{writeAnswer, fedQueue, ringWritten, tableWritten}
-use Rattle.socket.specs.Read.{readAnswer, leaving, drainedQueue, bufferRead}
+use Rattle.socket.specs.Write.{writeAnswer, fedQueue, pairWritten, ringWritten, tableWritten}
+use Rattle.socket.specs.Read.{readAnswer, leaving, drainedQueue, pairRead, bufferRead}
 
 -- no change of a word
 abbrev pub noVisit : Pending
@@ -77,6 +77,11 @@ outcomeOf waits t a d =
 unfoldable pub keptEnds : (own peer : Endpoint) → Moved
 keptEnds a b = record { own = a; peer = b; visits = record { first = noVisit; second = noVisit } }
 
+-- its outcome
+unfoldable pub unchangedEnds : Ends → Answer → Outcome
+unchangedEnds e a =
+    record { one = e .one; two = e .two; answer = a; fires = false; visits = record { first = noVisit; second = noVisit } }
+
 -- 01 "Delivered bytes", write: the ends after m bytes, more than 0, went in from end t; the peer's change, then the writer's
 unfoldable pub fedEnds : (datagram : Bool) → (C : ℕ) → Bool → (own peer : Endpoint) → (m : ℕ) → Moved
 fedEnds datagram C t a b m =
@@ -122,6 +127,13 @@ readEnds e h peek first a =
     outcomeOf (e .waits) (isOne h) a
     (pick (peek or eqb (countOf a) 0) (keptEnds o t)
     (drainedEnds (e .datagram) (e .capacity) (isOne h) o t (leaving (e .datagram) first (countOf a))))
+
+-- the step of a write or a read on a pair of these ends, by the answer
+abbrev pub wroteStep : Ends → (h : ℕ) → Answer → Step
+wroteStep e h a = record { pair = pairWritten (pairOf e) h (countOf a); answer = a }
+
+abbrev pub readStep : Ends → (h : ℕ) → (peek : Bool) → (first : ℕ) → Answer → Step
+readStep e h peek first a = record { pair = pairRead (pairOf e) h peek first (countOf a); answer = a }
 
 -- A write of src by the end of handle h, but for the visit of the waits; ring and table are the peer's.
 pub record EndsWrote (e : Ends) (h : ℕ) (src ring ring′ table table′ : List ℕ) (r : Outcome) : Type 0 where

@@ -23,7 +23,7 @@ ghost use Rattle.ring.specs.Ring.{front};
 ghost use lib.Seq.{paste};
 ghost use Rattle.socket.specs.Write.{ringFed, tableFed, Feed, Wrote};
 ghost use Rattle.socket.specs.Read.{leaving, Drain, Read};
-ghost use Rattle.socket.specs.Deferred.{keepsWord, canFire, visitedPair, settled, keptEnds, fedEnds, drainedEnds, outcomeOf, withOutcome, EndsWrote, EndsRead};
+ghost use Rattle.socket.specs.Deferred.{keepsWord, canFire, visitedPair, settled, keptEnds, fedEnds, drainedEnds, outcomeOf, withOutcome, unchangedEnds, EndsWrote, EndsRead};
 
 // A change of an end's word, from `word`, whose waits are not visited yet.
 pub struct Pending {
@@ -162,6 +162,23 @@ pub fn with_outcome(mut p: Pair, r: Outcome) -> Deferred
         answer,
         fires: r.fires,
         visits,
+    }
+}
+
+// The outcome of a call that changes nothing.
+pub fn unchanged(p: Ends, answer: Answer) -> Outcome
+    ensures { λ r. ⌜ r ≡ unchangedEnds p answer ⌝ }
+{
+    let one = p.one;
+    let two = p.two;
+    let first = NO_VISIT;
+    let second = NO_VISIT;
+    Outcome {
+        one,
+        two,
+        answer,
+        fires: false,
+        visits: Visits { first, second },
     }
 }
 
@@ -316,23 +333,11 @@ fn deliver(capacity: u32, start: u32, k: u32, ring: &[u8], buffer: &mut [u8])
     if k == 0 {
         return;
     }
-    ring::copy_out(
-        ring,
-        capacity as usize,
-        start as usize,
-        k as usize,
-        buffer,
-    );
+    ring::copy_out(ring, capacity as usize, start as usize, k as usize, buffer);
 }
 
 // A write by the end of a handle, but for the visit of the waits. The ring and the table are the peer's.
-pub fn write_ends(
-    p: Ends,
-    handle: u32,
-    ring: &mut [u8],
-    table: &mut [u32],
-    bytes: &[u8],
-) -> Outcome
+pub fn write_ends(p: Ends, handle: u32, ring: &mut [u8], table: &mut [u32], bytes: &[u8]) -> Outcome
     ensures { λ r. ⌜ EndsWrote p handle (now (bytes .entry)) (now (ring .entry)) (now (ring .exit)) (now (table .entry)) (now (table .exit)) r ⌝ }
 {
     let a = write::write_answer(p, handle, ring, table, bytes.len());
@@ -341,7 +346,15 @@ pub fn write_ends(
     let own = p.own(one);
     let peer = p.peer(one);
     let moved = feed_ends(
-        p.datagram, p.capacity, one, own, peer, m, bytes, ring, table,
+        p.datagram,
+        p.capacity,
+        one,
+        own,
+        peer,
+        m,
+        bytes,
+        ring,
+        table,
     );
     put_back(p.waits, one, a, moved)
 }
@@ -365,9 +378,7 @@ pub fn read_ends(
     let q = own.queue;
     let first = q.first_length(p.datagram, table);
     deliver(p.capacity, q.bytes.start, k, ring, buffer);
-    let moved = consumed_ends(
-        p.datagram, p.capacity, one, own, peer, peek, first, k,
-    );
+    let moved = consumed_ends(p.datagram, p.capacity, one, own, peer, peek, first, k);
     put_back(p.waits, one, a, moved)
 }
 

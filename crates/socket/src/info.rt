@@ -31,13 +31,7 @@ fn info_answer(p: Ends, handle: u32, table: &[u32]) -> Answer
         return opened;
     }
     let first = q.first_length(p.datagram, table);
-    Answer::Done(Record::Info(get_info(
-        p.datagram,
-        p.capacity,
-        own,
-        p.peer(handle == 1),
-        first,
-    )))
+    Answer::Done(Record::Info(get_info(p.datagram, p.capacity, own, p.peer(handle == 1), first)))
 }
 
 impl Pair {

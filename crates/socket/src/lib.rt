@@ -24,6 +24,7 @@ pub use deferred::Pending;
 pub use deferred::Visits;
 pub use deferred::read_ends;
 pub use deferred::settle;
+pub use deferred::unchanged;
 pub use deferred::visit;
 pub use deferred::with_outcome;
 pub use deferred::write_ends;
