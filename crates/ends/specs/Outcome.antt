@@ -7,6 +7,7 @@ use Rattle.status.specs.declared.Answer.{Answer}
 use Rattle.status.specs.Choice.{pick}
 use Rattle.port.specs.Signal.{changedWord}
 use Rattle.endpoint.specs.declared.Endpoint.{Endpoint}
+use Rattle.ends.specs.declared.Ends.{Ends}
 use Rattle.ends.specs.declared.Pending.{Pending}
 use Rattle.ends.specs.declared.Visits.{Visits}
 use Rattle.ends.specs.declared.Outcome.{Outcome}
@@ -38,3 +39,8 @@ outcomeOf waits t a d =
 -- a call that changes nothing
 unfoldable pub keptEnds : (own peer : Endpoint) → Moved
 keptEnds a b = record { own = a; peer = b; visits = record { first = noVisit; second = noVisit } }
+
+-- its outcome
+unfoldable pub unchangedEnds : Ends → Answer → Outcome
+unchangedEnds e a =
+    record { one = e .one; two = e .two; answer = a; fires = false; visits = record { first = noVisit; second = noVisit } }

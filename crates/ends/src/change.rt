@@ -1,4 +1,5 @@
 // The outcome of a call on the two ends, and whether a wait can fire.
+use crate::Ends;
 use crate::Outcome;
 use crate::Pending;
 use crate::Visits;
@@ -7,7 +8,7 @@ use port::changed;
 use status::Answer;
 ghost use mathlib.Core.Path.{_≡_};
 ghost use Rattle.status.specs.Choice.{pick};
-ghost use Rattle.ends.specs.Outcome.{keepsWord, canFire, keptEnds, outcomeOf};
+ghost use Rattle.ends.specs.Outcome.{keepsWord, canFire, outcomeOf, keptEnds, unchangedEnds};
 
 // The caller's end and its peer after a call, and the changes of their words.
 pub struct Moved {
@@ -80,6 +81,23 @@ pub fn kept_ends(own: Endpoint, peer: Endpoint) -> Moved
     Moved {
         own,
         peer,
+        visits: Visits { first, second },
+    }
+}
+
+// The outcome of a call that changes nothing.
+pub fn unchanged(p: Ends, answer: Answer) -> Outcome
+    ensures { λ r. ⌜ r ≡ unchangedEnds p answer ⌝ }
+{
+    let one = p.one;
+    let two = p.two;
+    let first = NO_VISIT;
+    let second = NO_VISIT;
+    Outcome {
+        one,
+        two,
+        answer,
+        fires: false,
         visits: Visits { first, second },
     }
 }

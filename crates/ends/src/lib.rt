@@ -15,6 +15,7 @@ mod threshold;
 mod wait;
 mod write;
 
+pub use change::unchanged;
 pub use create::create_answer;
 pub use disposition::dispose_answer;
 pub use info::info_answer;

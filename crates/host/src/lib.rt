@@ -4,9 +4,9 @@ use socket::Pair;
 ghost use mathlib.Core.Path.{_≡_};
 ghost use lib.ListN.{length};
 ghost use lib.Dec.{eqb};
+ghost use Rattle.ends.specs.Create.{createAnswer};
 ghost use Rattle.socket.specs.Pair.{isOne, newPair, noPair, shownBy};
 ghost use Rattle.socket.specs.Tests.{Steps};
-ghost use Rattle.socket.specs.Create.{createAnswer};
 ghost use Rattle.socket.specs.Write.{Wrote};
 ghost use Rattle.socket.specs.Read.{Read};
 ghost use Rattle.socket.specs.Disposition.{disposeAnswer, disposed, shutdownAnswer, shut};
@@ -80,9 +80,13 @@ pub extern "C" fn murgwethan_read(
 ) -> i64
     ensures { λ w. ⌜ Answered (Read (now (p .entry)) handle peek (now (ring .entry)) (now (table .entry)) (now (buffer .entry)) (now (buffer .exit))) (now (p .exit)) w ⌝ }
 {
-    let r = Pair::read(*p, handle, peek, ring, table, buffer);
+    let r = Pair::read_deferred(*p, handle, peek, ring, table, buffer);
     *p = r.pair;
-    status::word(r.answer)
+    let w = status::word(r.answer);
+    if r.fires {
+        *p = socket::visit(*p, r.visits);
+    }
+    w
 }
 
 // Disables or enables the writing of an end and of its peer: 1 disables, 2 enables, any other number changes nothing. No right is asked.

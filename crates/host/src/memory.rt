@@ -25,7 +25,7 @@ pub extern "C" fn murgwethan_user_write(
 ) -> i64
     ensures { λ w. ⌜ Answered (UserWrote (now (p .entry)) handle base options address count «count_at» (now (memory .entry)) (now (memory .exit)) (now (ring .entry)) (now (ring .exit)) (now (table .entry)) (now (table .exit))) (now (p .exit)) w ⌝ }
 {
-    let r = syscall::write(
+    let r = syscall::write_deferred(
         *p,
         handle,
         options,
@@ -38,7 +38,11 @@ pub extern "C" fn murgwethan_user_write(
         table,
     );
     *p = r.pair;
-    status::word(r.answer)
+    let w = status::word(r.answer);
+    if r.fires {
+        *p = socket::visit(*p, r.visits);
+    }
+    w
 }
 
 // Reads the front of the own queue into user memory, then lands the count over the bytes. Option 8 is a peek.
@@ -57,7 +61,7 @@ pub extern "C" fn murgwethan_user_read(
 ) -> i64
     ensures { λ w. ⌜ Answered (UserRead (now (p .entry)) handle base options address count «count_at» (now (ring .entry)) (now (table .entry)) (now (memory .entry)) (now (memory .exit))) (now (p .exit)) w ⌝ }
 {
-    let r = syscall::read(
+    let r = syscall::read_deferred(
         *p,
         handle,
         options,
@@ -70,7 +74,11 @@ pub extern "C" fn murgwethan_user_read(
         table,
     );
     *p = r.pair;
-    status::word(r.answer)
+    let w = status::word(r.answer);
+    if r.fires {
+        *p = socket::visit(*p, r.visits);
+    }
+    w
 }
 
 // Disables or enables the writing of an end and of its peer, by numbers from 0 to 2.

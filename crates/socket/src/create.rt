@@ -6,9 +6,9 @@ use port::Places;
 ghost use mathlib.Core.Path.{_≡_};
 ghost use lib.ListN.{length};
 ghost use lib.Dec.{eqb};
+ghost use Rattle.ends.specs.Create.{createAnswer};
 ghost use Rattle.socket.specs.Pair.{newPair, noPair};
 ghost use Rattle.socket.specs.Tests.{Steps};
-ghost use Rattle.ends.specs.Create.{createAnswer};
 
 fn new_pair(datagram: bool, capacity: u32, rights_one: u32, rights_two: u32) -> Pair
     ensures { λ r. ⌜ r ≡ newPair datagram capacity «rights_one» «rights_two» ⌝ }

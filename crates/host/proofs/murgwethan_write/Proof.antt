@@ -55,19 +55,17 @@ use types.Kit.{atRet}
 use types.Run.{assigns-last, first, branches, skips, exec}
 use mathlib.Core.Path.{subst}
 use mir.Syntax.{tyBool}
-use Rattle.socket.specs.declared.Step.{Step}
 use Rattle.socket.specs.declared.deferred.Deferred.{Deferred}
-use Rattle.socket.specs.declared.deferred.Visits.{Visits}
 use Rattle.socket.specs.Deferred.{visitedPair, settled}
 use Rattle.socket.proofs.visit as fire
 use Rattle.socket.proofs.visit.Symbol as fire-def
 use Rattle.socket.proofs.visit.Symbol.{name as #fire}
 use Rattle.socket.proofs.visit.Met as fire-thm
-use Rattle.host.proofs.Settle.{settled-on, settled-off}
+use Rattle.host.proofs.Settle.{settled-on, settled-off, Word, worded, to-word, goes-word, Fire, visited-of, to-fire, goes-fire}
 use Rattle.socket.proofs.deferred.Deferred as K
 use Rattle.socket.proofs.deferred.Deferred.Laws as K′
-use Rattle.socket.proofs.deferred.Visits as U
-use Rattle.socket.proofs.deferred.Visits.Laws as U′
+use Rattle.ends.proofs.Visits.Laws as U′
+use Rattle.socket.specs.declared.Step.{Step}
 use Rattle.status.proofs.Answer as N
 use Rattle.status.proofs.Answer.Laws as N′
 use Rattle.status.proofs.word as word
@@ -91,21 +89,9 @@ abbrev stayed : Stays (f.ended .signature .params) (f.ended .kept)
 stayed = (stay-ref (0 ∷ []) tt (plain (λ _. T.the-row)), (stay-dropped (plain (λ _. u32)) yes, (gave-slice (1 ∷ []) tt (plain (λ _. u8)), (gave-slice (2 ∷ []) tt (plain (λ _. u32)), (stay-dropped (shrSliceOf (3 ∷ []) tt (plain (λ _. u8))) yes, tt)))))
 
 module _ {M : Type 1} (𝓤 : URA M) (H : Heap 𝓤) (A : Atoms 𝓤) (at-mem : Memory → SProp 𝓤) (run : Routine → Fun 𝓤) where
-  -- the contracts of the callees
+  -- the contract of the call by value
   abbrev Called : Contract 𝓤
   Called = tripleOf 𝓤 H A step.signature (step.spec 𝓤 H A at-mem run)
-
-  abbrev Word : Contract 𝓤
-  Word = tripleOf 𝓤 H A word.signature (word.spec 𝓤 H A at-mem run)
-
-  worded : (a : Answer) (z : ℤ) → ent 𝓤 (ensured 𝓤 H A word.ended (word.clauses 𝓤 H A at-mem run) tt (a, tt) tt z) (fact 𝓤 (z ≡ answerWord a))
-  worded a z = exE 𝓤 _ (λ ws. snd∗ 𝓤 (sem 𝓤 H A (lasts word.ended tt (a, tt) ws)) (fact 𝓤 (z ≡ answerWord a)))
-
-  abbrev Fire : Contract 𝓤
-  Fire = tripleOf 𝓤 H A fire.signature (fire.spec 𝓤 H A at-mem run)
-
-  visited-of : (p : Pair) (u : Visits) (r : Pair) → ent 𝓤 (ensured 𝓤 H A fire.ended (fire.clauses 𝓤 H A at-mem run) tt (p, (u, tt)) tt r) (fact 𝓤 (r ≡ visitedPair u p))
-  visited-of p u r = exE 𝓤 _ (λ ws. snd∗ 𝓤 (sem 𝓤 H A (lasts fire.ended tt (p, (u, tt)) ws)) (fact 𝓤 (r ≡ visitedPair u p)))
 
 module _ {M : Type 1} (𝓤 : URA M) (H : Heap 𝓤) (A : Atoms 𝓤) (W : Given 𝓤 H A) (at-mem : Memory → SProp 𝓤) (run : Routine → Fun 𝓤) (κ κ₁ κ₂ κ₃ : Lft) (q q₁ q₂ q₃ : Share) (b o : ℕ) (γ : GName) (h : Pair) (x₁ : ℕ) (b₂ o₂ : ℕ) (γ₂ : GName) (ys₂ : List ℕ) (b₃ o₃ : ℕ) (γ₃ : GName) (ys₃ : List ℕ) (x₄ : RefT (List ℕ)) where
   abbrev r₂ : RefT (List ℕ)
@@ -160,19 +146,6 @@ module _ {M : Type 1} (𝓤 : URA M) (H : Heap 𝓤) (A : Atoms 𝓤) (W : Given
   goes-step : x₁ < 2 ^ 32 → ent 𝓤 (⋆ 𝓤 H A (((((‵ (T.the-row .own h (vals h)) ⊛ (‵ (flft κ₁ q₁) ⊛ ‵ (flft κ₂ q₂) ⊛ ‵ (flft κ₃ q₃) ⊛ ‵ ftrue)) ⊛ ‵ Own₂) ⊛ ‵ Own₃) ⊛ ‵ Own₄) ∷ [])) (Called 𝓤 H A at-mem run .pre to-step)
   goes-step f₁ = qed W (((((‵ (T.the-row .own h (vals h)) ⊛ (‵ (flft κ₁ q₁) ⊛ ‵ (flft κ₂ q₂) ⊛ ‵ (flft κ₃ q₃) ⊛ ‵ ftrue)) ⊛ ‵ Own₂) ⊛ ‵ Own₃) ⊛ ‵ Own₄) ∷ []) ∵ split ! $ split ! $ split ! $ split ! $ nothing ! $ move ! (5 ∷ 0 ∷ []) $ join ! $ move ! (4 ∷ 0 ∷ []) $ join ! $ move ! (3 ∷ 0 ∷ []) $ join ! $ owned ! u32 (Is u32) (uint-makes 𝓤 H A W w32) x₁ _ (refl, f₁) $ join ! $ move ! (1 ∷ 0 ∷ []) $ join ! $ move ! (1 ∷ 0 ∷ []) $ join ! $ frame ! $ done !
 
-  abbrev to-word : Answer → List Val → Word 𝓤 H A at-mem run .Ghost
-  to-word a vs = ((tt, tt, tt, (a, tt), (vs, tt)), tt)
-
-  goes-word : (a : Answer) (vs : List Val) → ent 𝓤 (sem 𝓤 H A (N.the-row .own a vs)) (Word 𝓤 H A at-mem run .pre (to-word a vs))
-  goes-word a vs = qed W (‵ (N.the-row .own a vs) ∷ []) ∵ nothing ! $ move ! (1 ∷ 0 ∷ []) $ join ! $ nothing ! $ join ! $ frame ! $ done !
-
-  abbrev to-fire : Pair → Visits → List Val → Fire 𝓤 H A at-mem run .Ghost
-  to-fire p u vs = ((tt, tt, tt, (p, (u, tt)), (vals p, (vs, tt))), tt)
-
-  goes-fire : (p : Pair) (u : Visits) (vs : List Val) → Is U.the-row u vs → ent 𝓤 (sem 𝓤 H A (T.the-row .own p (vals p))) (Fire 𝓤 H A at-mem run .pre (to-fire p u vs))
-  goes-fire p u vs is = qed W (‵ (T.the-row .own p (vals p)) ∷ []) ∵ nothing ! $ owned ! U.the-row (Is U.the-row) ((LL.makes U.the-type U′.the-plain) 𝓤 H A) u vs is $ join ! $
-      move ! (1 ∷ 0 ∷ []) $ join ! $ nothing ! $ join ! $ frame ! $ done !
-
   module _ (C : Calls 𝓤 H) (Λ : Loops 𝓤 H) (fm : FmC 𝓤 H (W .laws) C) (known-step : Triple 𝓤 (C #step) (Called 𝓤 H A at-mem run)) (known-word : Triple 𝓤 (C #word) (Word 𝓤 H A at-mem run)) (known-fire : Triple 𝓤 (C #fire) (Fire 𝓤 H A at-mem run)) where
     walk : Room u8 (length ys₂) → Room u32 (length ys₃) → Room u8 (length (x₄ .now)) → ent 𝓤 (onEntry 𝓤 H A f.signature bound (q, (q₁, (q₂, (q₃, tt)))) x at) (WpFn 𝓤 H C Λ code.function (vptr b o ∷ vint w32 x₁ ∷ s₂ ∷ s₃ ∷ s₄ ∷ []) Post)
     walk room₂ room₃ room₄ =
@@ -183,36 +156,32 @@ module _ {M : Type 1} (𝓤 : URA M) (H : Heap 𝓤) (A : Atoms 𝓤) (W : Given
         pass1 ! (init ! 28 refl (tt, tt)) $ pass1 ! (init ! 26 refl (tt, record { fits = g₁ .1 })) $ pass1 ! (init ! 24 refl (tt, (tt, (record { fits = room₂ .0 }, tt)))) $ pass1 ! (init ! 22 refl (tt, (tt, (record { fits = room₃ .0 }, tt)))) $ pass1 ! (init ! 20 refl (tt, (tt, (record { fits = room₄ .0 }, tt)))) $ pass0 ! $
         move ! (32 ∷ 33 ∷ 34 ∷ []) $ opens ! tt T.the-row {h = h} b o (λ vs. spelt ! T.the-row (Is T.the-row) (shows 𝓤 H A T.the-row) (LL.vals T.the-type T′.the-laws) (LL.tells T.the-type T′.the-laws) fullShare h vs b o $
         move ! (1 ∷ []) $ peeks ! T.the-row (Is T.the-row) (shows 𝓤 H A T.the-row) h (vals h) (λ was. move ! (1 ∷ 0 ∷ []) $
-        -- [cell; ownh; open; obs; auth; _15; d_15; _14; d_14; _13; d_13; _12; d_12; _11; …]
         assigns ! (of-opd ! (load ! (from ! (hop ! (look ! 33 refl) (stop !))) (look-raw ! 0 refl))) (from ! (stop !)) (init ! 19 refl (LL.lawful T.the-type T′.the-laws 𝓤 H A W .typed h _ was .0)) $
         assigns ! (addr ! (from ! (fld ! refl (hop ! (look-in ! 29 (sub ! 0 refl (whole !))) (stop !))))) (from ! (stop !)) (init ! 17 refl (tt, tt)) $
         assigns ! (agg ! (and-then ! (load ! (from ! (stop !)) (look ! 17 refl)) (and-then ! (load ! (from ! (fld ! refl (stop !))) (look-in ! 29 (sub ! 1 refl (whole !)))) (no-more !)))) (from ! (stop !)) (init ! 15 refl (tt, (tt, (record { fits = room₂ .0 }, tt)))) $
         assigns ! (addr ! (from ! (fld ! refl (hop ! (look-in ! 27 (sub ! 0 refl (whole !))) (stop !))))) (from ! (stop !)) (init ! 13 refl (tt, tt)) $
         assigns ! (agg ! (and-then ! (load ! (from ! (stop !)) (look ! 13 refl)) (and-then ! (load ! (from ! (fld ! refl (stop !))) (look-in ! 27 (sub ! 1 refl (whole !)))) (no-more !)))) (from ! (stop !)) (init ! 11 refl (tt, (tt, (record { fits = room₃ .0 }, tt)))) $
         move ! (1 ∷ 42 ∷ 40 ∷ 39 ∷ 37 ∷ []) $ join ! $ join ! $ join ! $ join ! $ use1 W (raw (Called 𝓤 H A at-mem run .pre to-step)) (goes-step (g₁ .1)) $
-        -- [pre; cell; open; obs; auth; _15; d_15; _14; d_14; _13; d_13; _12; d_12; _11; …]
         calls-at ! fm (Called 𝓤 H A at-mem run) known-step to-step (and-then ! (load ! (from ! (stop !)) (look ! 19 refl)) (and-then ! (load ! (from ! (stop !)) (look ! 31 refl)) (and-then ! (load ! (from ! (stop !)) (look ! 15 refl)) (and-then ! (load ! (from ! (stop !)) (look ! 11 refl)) (and-then ! (load ! (from ! (stop !)) (look ! 25 refl)) (no-more !)))))) (λ v.
         use1 W (later (some (λ (r : Deferred). ((‵ (flft κ₁ q₁) ⊛ ‵ (flft κ₂ q₂) ⊛ ‵ (flft κ₃ q₃) ⊛ ‵ ftrue) ⊛ ‵ (K.the-row .own r (v ∷ []))) ⊛ raw (ensured 𝓤 H A step.ended (step.clauses 𝓤 H A at-mem run) (κ₁, (κ₂, (κ₃, tt))) (h, (x₁, (r₂, (r₃, (x₄, tt))))) tt r)))) (id⊢ 𝓤 _) $ await ! tt $ pick ! (λ r. split ! $ move ! (1 ∷ []) $
         use1 W (some (λ (zs : (Unit {0} × (Unit {0} × (List ℕ × (List ℕ × (Unit {0} × Unit {0})))))). ‵ (lasts step.ended (κ₁, (κ₂, (κ₃, tt))) (h, (x₁, (r₂, (r₃, (x₄, tt))))) zs) ⊛ raw (fact 𝓤 (Wrote h x₁ (x₄ .now) ys₂ (zs .1 .1 .0) ys₃ (zs .1 .1 .1 .0) (settled r))))) (id⊢ 𝓤 _) $ pick ! (λ zs. split ! $ move ! (1 ∷ []) $
         heard ! (Wrote h x₁ (x₄ .now) ys₂ (zs .1 .1 .0) ys₃ (zs .1 .1 .1 .0) (settled r)) (λ e. fsplit ! $ move ! (1 ∷ []) $ fsplit ! $ move ! (1 ∷ []) $ fsplit ! $ fsplit ! $ move ! (1 ∷ []) $ feqL ! (λ l₂. move ! (1 ∷ []) $ fsplit ! $ fsplit ! $ move ! (1 ∷ []) $ feqL ! (λ l₃. move ! (5 ∷ []) $ split ! $ move ! (1 ∷ []) $
-        -- [r; toks; fintable; rest; finring; L1; L0; cell; open; obs; auth; _15; d_15; _14; …]
         peeks ! K.the-row (Is K.the-row) (shows 𝓤 H A K.the-row) r (v ∷ []) (λ is.
         let parts = LL.owed K.the-type K′.the-laws r (v ∷ []) is in
         land ! (from ! (stop !)) (init ! 29 refl (LL.lawful K.the-type K′.the-laws 𝓤 H A W .typed r _ is .0)) $
         rewrite ! 29 (λ (u : Val). ‵ (fat fullShare K′.mir l₆ 0 u)) (ap only (LL.tells K.the-type K′.the-laws r (v ∷ []) is)) refl $
         assigns ! (of-opd ! (load ! (from ! (fld ! {τ = T′.mir} {d = 0} refl (stop !))) (look-in ! 29 {τ = T′.mir} (sub ! {τs = tcons T′.mir (tcons N′.mir (tcons tyBool (tcons U′.mir tnil)))} 0 {τ = T′.mir} {d = 0} refl (whole !))))) (from ! (hop ! (look ! 39 refl) (stop !))) (store-raw ! 7 refl (LL.lawful T.the-type T′.the-laws 𝓤 H A W .typed (r .pair) _ (parts .0) .0)) $
-        drop ! $ owned ! N.the-row (Is N.the-row) (EL.makes N.the-type N′.the-plain 𝓤 H A) (r .answer) _ (parts .1 .0) $ use1 W (raw (Word 𝓤 H A at-mem run .pre (to-word (r .answer) _))) (goes-word (r .answer) _) $
-        calls-at ! fm (Word 𝓤 H A at-mem run) known-word (to-word (r .answer) _) (and-then ! (load ! (from ! (fld ! {τ = N′.mir} {d = 3192} refl (stop !))) (look-in ! 29 {τ = N′.mir} (sub ! {τs = tcons T′.mir (tcons N′.mir (tcons tyBool (tcons U′.mir tnil)))} 1 {τ = N′.mir} {d = 3192} refl (whole !)))) (no-more !)) (λ v′.
+        drop ! $ owned ! N.the-row (Is N.the-row) (EL.makes N.the-type N′.the-plain 𝓤 H A) (r .answer) _ (parts .1 .0) $ use1 W (raw (Word 𝓤 H A at-mem run .pre (to-word 𝓤 H A at-mem run (r .answer) _))) (goes-word 𝓤 H A at-mem run W (r .answer) _) $
+        calls-at ! fm (Word 𝓤 H A at-mem run) known-word (to-word 𝓤 H A at-mem run (r .answer) _) (and-then ! (load ! (from ! (fld ! {τ = N′.mir} {d = 3192} refl (stop !))) (look-in ! 29 {τ = N′.mir} (sub ! {τs = tcons T′.mir (tcons N′.mir (tcons tyBool (tcons U′.mir tnil)))} 1 {τ = N′.mir} {d = 3192} refl (whole !)))) (no-more !)) (λ v′.
         use1 W (later (some (λ (z : ℤ). (‵ ftrue ⊛ ‵ (i64 .own z (v′ ∷ []))) ⊛ raw (ensured 𝓤 H A word.ended (word.clauses 𝓤 H A at-mem run) tt (r .answer, tt) tt z)))) (id⊢ 𝓤 _) $ await ! tt $ pick ! (λ z.
         split ! $ move ! (1 ∷ []) $ use1 W (raw (fact 𝓤 (z ≡ answerWord (r .answer)))) (worded 𝓤 H A at-mem run (r .answer) z) $ heard ! (z ≡ answerWord (r .answer)) (λ d. split ! $ drop ! $
         peeks ! i64 (Is i64) (shows 𝓤 H A i64) z (v′ ∷ []) (λ is′. land ! (from ! (stop !)) (init ! 27 refl (sint-lawful 𝓤 H A W w64 .typed z _ is′ .0)) $
         assigns ! (of-opd ! (load ! (from ! (fld ! {τ = tyBool} {d = 3256} refl (stop !))) (look-in ! 29 {τ = tyBool} (sub ! {τs = tcons T′.mir (tcons N′.mir (tcons tyBool (tcons U′.mir tnil)))} 2 {τ = tyBool} {d = 3256} refl (whole !))))) (from ! (stop !)) (init ! 15 refl (tt, tt)) $
-        -- [z; toks; fintable; rest; finring; L1; L0; cell; open; obs; auth; _15; d_15; _14; …]
         first ! $ branches ! (load ! (from ! (stop !)) (look ! 15 refl))
         (λ on.
         assigns ! (of-opd ! (load ! (from ! (hop ! (look ! 39 refl) (stop !))) (look-raw ! 7 refl))) (from ! (stop !)) (init ! 11 refl (LL.lawful T.the-type T′.the-laws 𝓤 H A W .typed (r .pair) _ (parts .0) .0)) $
-        owned ! T.the-row (Is T.the-row) ((LL.makes T.the-type T′.the-plain) 𝓤 H A) (r .pair) _ (parts .0) $ use1 W (raw (Fire 𝓤 H A at-mem run .pre (to-fire (r .pair) (r .visits) _))) (goes-fire (r .pair) (r .visits) _ (parts .1 .1 .1 .0)) $
-        calls-at ! fm (Fire 𝓤 H A at-mem run) known-fire (to-fire (r .pair) (r .visits) _) (and-then ! (load ! (from ! (stop !)) (look ! 12 refl)) (and-then ! (load ! (from ! (fld ! {τ = U′.mir} {d = 3260} refl (stop !))) (look-in ! 30 {τ = U′.mir} (sub ! {τs = tcons T′.mir (tcons N′.mir (tcons tyBool (tcons U′.mir tnil)))} 3 {τ = U′.mir} {d = 3260} refl (whole !)))) (no-more !))) (λ v₂.
+        owned ! T.the-row (Is T.the-row) ((LL.makes T.the-type T′.the-plain) 𝓤 H A) (r .pair) _ (parts .0) $ use1 W (raw (Fire 𝓤 H A at-mem run .pre (to-fire 𝓤 H A at-mem run (r .pair) (r .visits) _))) (goes-fire 𝓤 H A at-mem run W (r .pair) (r .visits) _ (parts .1 .1 .1 .0)) $
+        calls-at ! fm (Fire 𝓤 H A at-mem run) known-fire (to-fire 𝓤 H A at-mem run (r .pair) (r .visits) _) (and-then ! (load ! (from ! (stop !)) (look ! 12 refl)) (and-then ! (load ! (from ! (fld ! {τ = U′.mir} {d = 3260} refl (stop !))) (look-in ! 30 {τ = U′.mir} (sub ! {τs = tcons T′.mir (tcons N′.mir (tcons tyBool (tcons U′.mir tnil)))} 3 {τ = U′.mir} {d = 3260} refl (whole !)))) (no-more !))) (λ v₂.
         use1 W (later (some (λ (p′ : Pair). (‵ ftrue ⊛ ‵ (T.the-row .own p′ (v₂ ∷ []))) ⊛ raw (ensured 𝓤 H A fire.ended (fire.clauses 𝓤 H A at-mem run) tt (r .pair, (r .visits, tt)) tt p′)))) (id⊢ 𝓤 _) $ await ! tt $ pick ! (λ p′.
         split ! $ move ! (1 ∷ []) $ use1 W (raw (fact 𝓤 (p′ ≡ visitedPair (r .visits) (r .pair)))) (visited-of 𝓤 H A at-mem run (r .pair) (r .visits) p′) $ heard ! (p′ ≡ visitedPair (r .visits) (r .pair)) (λ e₂. split ! $ drop ! $
         peeks ! T.the-row (Is T.the-row) (shows 𝓤 H A T.the-row) p′ (v₂ ∷ []) (λ is₂.

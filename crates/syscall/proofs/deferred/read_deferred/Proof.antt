@@ -1,0 +1,25 @@
+use denote.Ref.{now}
+use Rattle.socket.proofs.Visiting.{places-128}
+use Rattle.syscall.proofs.Settled.{read-whole}
+use borrow.Author.Needs.{needs}
+use Rattle.syscall.proofs.deferred.read_deferred.Statement.{statement}
+use Rattle.syscall.proofs.deferred.read_deferred.Tie as tie
+
+ends-of-requires : tie.Need-ends-of-requires
+ends-of-requires c κs = search needs
+
+read-ends-requires : tie.Need-read-ends-requires
+read-ends-requires c κs = search needs
+
+with-outcome-requires : tie.Need-with-outcome-requires
+with-outcome-requires c κs = search needs
+
+same-length : tie.Need-same-length
+same-length c = search needs
+
+returns : tie.Need-returns
+returns c = let a = c .before .before .before .before .before .before .before .before .before .args in
+    read-whole (a .p) (a .handle) (a .base) (a .options) (a .address) (a .count) (a .count-at) _ _ _ (places-128 (a .p) _ (c .before .before .before .before .before .before .before .before .before .good .0)) (c .before .before .before .before .before .ends-of .ensures) (c .with-outcome .ensures) (now (a .ring)) (now (a .table)) (now (a .memory)) _ (c .before .before .before .read-ends .ensures .0) (c .before .before .before .read-ends .ensures .1)
+
+pub read-deferred-spec : {M : Type 1} → statement M
+read-deferred-spec = tie.close (tie.spec ends-of-requires read-ends-requires with-outcome-requires same-length returns)

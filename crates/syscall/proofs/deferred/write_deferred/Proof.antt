@@ -1,0 +1,31 @@
+use denote.Ref.{now}
+use Rattle.socket.proofs.Visiting.{places-128}
+use Rattle.syscall.proofs.Settled.{wrote-whole}
+use borrow.Author.Needs.{needs}
+use Rattle.syscall.proofs.deferred.write_deferred.Statement.{statement}
+use Rattle.syscall.proofs.deferred.write_deferred.Tie as tie
+
+ends-of-requires : tie.Need-ends-of-requires
+ends-of-requires c κs = search needs
+
+write-ends-requires : tie.Need-write-ends-requires
+write-ends-requires c κs = search needs
+
+with-outcome-requires : tie.Need-with-outcome-requires
+with-outcome-requires c κs = search needs
+
+same-length : tie.Need-same-length
+same-length c = search needs
+
+same-length-2 : tie.Need-same-length-2
+same-length-2 c = search needs
+
+same-length-3 : tie.Need-same-length-3
+same-length-3 c = search needs
+
+returns : tie.Need-returns
+returns c = let a = c .before .before .before .before .before .before .before .before .before .before .before .before .before .before .before .args in
+    wrote-whole (a .p) (a .handle) (a .base) (a .options) (a .address) (a .count) (a .count-at) _ _ _ (places-128 (a .p) _ (c .before .before .before .before .before .before .before .before .before .before .before .before .before .before .before .good .0)) (c .before .before .before .before .before .before .before .before .before .before .before .ends-of .ensures) (c .with-outcome .ensures) (now (a .memory)) _ (now (a .ring)) _ (now (a .table)) _ (c .before .before .before .before .before .before .before .write-ends .ensures .0) (c .before .before .before .before .before .before .before .write-ends .ensures .1)
+
+pub write-deferred-spec : {M : Type 1} → statement M
+write-deferred-spec = tie.close (tie.spec ends-of-requires write-ends-requires with-outcome-requires same-length same-length-2 same-length-3 returns)
