@@ -21,7 +21,6 @@ use Rattle.socket.specs.declared.Pair.{Pair}
 use Rattle.socket.specs.declared.Step.{Step}
 use Rattle.socket.specs.declared.deferred.Pending.{Pending}
 use Rattle.socket.specs.declared.deferred.Visits.{Visits}
-use Rattle.socket.specs.declared.deferred.Deferred.{Deferred}
 use Rattle.socket.specs.declared.deferred.Outcome.{Outcome}
 use Rattle.socket.specs.declared.deferred.Moved.{Moved}
 use Rattle.socket.specs.declared.ends.Ends.{Ends}
@@ -41,10 +40,6 @@ visited a t = changeOf (a .one) (a .word) (a .clear) (a .set) t .places
 unfoldable pub visitedPair : Visits → Pair → Pair
 visitedPair v p = withPlaces (visited (v .second) (visited (v .first) (p .places))) p
 
--- the step of a call, once the waits are visited where one can fire
-unfoldable pub settled : Deferred → Step
-settled r = record { pair = pick (r .fires) (visitedPair (r .visits) (r .pair)) (r .pair); answer = r .answer }
-
 -- whether a change leaves the word as it is
 unfoldable pub keepsWord : Pending → Bool
 keepsWord a = eqb (changedWord (a .clear) (a .set) (a .word)) (a .word)
@@ -57,10 +52,13 @@ canFire waits v = pick (eqb waits 0) false (pick (keepsWord (v .first)) (not (ke
 unfoldable pub withEnds : (one two : Endpoint) → Pair → Pair
 withEnds a b p = record { datagram = p .datagram; capacity = p .capacity; one = a; two = b; places = p .places }
 
--- a call's outcome, put back into the pair
-unfoldable pub withOutcome : Outcome → Pair → Deferred
-withOutcome r p =
-    record { pair = withEnds (r .one) (r .two) p; answer = r .answer; fires = r .fires; visits = r .visits }
+-- the pair with the ends of an outcome
+abbrev pub withOutcome : Outcome → Pair → Pair
+withOutcome r p = withEnds (r .one) (r .two) p
+
+-- the step of a call with this outcome, once the waits are visited where one can fire
+unfoldable pub settled : Outcome → Pair → Step
+settled r p = record { pair = pick (r .fires) (visitedPair (r .visits) (withOutcome r p)) (withOutcome r p); answer = r .answer }
 
 -- the outcome of a call by end t: its own end and its peer, put back by the handle
 unfoldable pub outcomeOf : (waits : ℕ) → Bool → Answer → Moved → Outcome

@@ -1,5 +1,5 @@
-// A write and a read that change the two ends and leave the visit of the waits for later. A caller that keeps the pair in place so
-// rebuilds the table of places only where a wait can fire.
+// A write and a read that change the two ends and leave the visit of the waits for later: the table of places is touched only where a
+// wait can fire.
 use crate::Pair;
 use crate::Step;
 use crate::ends;
@@ -21,8 +21,8 @@ ghost use lib.Dec.{eqb};
 ghost use Rattle.status.specs.Choice.{pick, _or_};
 ghost use Rattle.ring.specs.Ring.{front};
 ghost use lib.Seq.{paste};
-ghost use Rattle.socket.specs.Write.{ringFed, tableFed, Feed, Wrote};
-ghost use Rattle.socket.specs.Read.{leaving, Drain, Read};
+ghost use Rattle.socket.specs.Write.{ringFed, tableFed, Feed};
+ghost use Rattle.socket.specs.Read.{leaving, Drain};
 ghost use Rattle.socket.specs.Deferred.{keepsWord, canFire, visitedPair, settled, keptEnds, fedEnds, drainedEnds, outcomeOf, withOutcome, unchangedEnds, EndsWrote, EndsRead};
 
 // A change of an end's word, from `word`, whose waits are not visited yet.
@@ -39,15 +39,7 @@ pub struct Visits {
     pub second: Pending,
 }
 
-// The next pair but for its waits, the answer, and whether a wait can fire.
-pub struct Deferred {
-    pub pair: Pair,
-    pub answer: Answer,
-    pub fires: bool,
-    pub visits: Visits,
-}
-
-// The same without the pair: its two ends alone.
+// The two ends after a call, its answer, whether a wait can fire, and the changes whose waits are then to be visited.
 pub struct Outcome {
     pub one: Endpoint,
     pub two: Endpoint,
@@ -84,14 +76,25 @@ pub fn visit(p: Pair, v: Visits) -> Pair
     ends::with_places(p, two.places)
 }
 
-// The step of a deferred call: the waits are visited where one can fire.
-pub fn settle(d: Deferred) -> Step
-    ensures { λ r. ⌜ r ≡ settled d ⌝ }
+// The pair with both ends put anew.
+pub fn with_outcome(mut p: Pair, r: Outcome) -> Pair
+    ensures { λ q. ⌜ q ≡ withOutcome r p ⌝ }
 {
-    let pair = d.pair;
-    let answer = d.answer;
-    if d.fires {
-        let visits = d.visits;
+    let one = r.one;
+    let two = r.two;
+    p.one = one;
+    p.two = two;
+    p
+}
+
+// The step of a call with this outcome: the waits are visited where one can fire.
+pub fn settle(p: Pair, r: Outcome) -> Step
+    ensures { λ s. ⌜ s ≡ settled r p ⌝ }
+{
+    let pair = with_outcome(p, r);
+    let answer = r.answer;
+    if r.fires {
+        let visits = r.visits;
         return Step {
             pair: visit(pair, visits),
             answer,
@@ -143,24 +146,6 @@ fn put_back(waits: usize, one: bool, answer: Answer, moved: Moved) -> Outcome
         two: chosen(one, peer, own),
         answer,
         fires: can_fire(waits, visits),
-        visits,
-    }
-}
-
-// The pair with both ends put anew, on one path.
-pub fn with_outcome(mut p: Pair, r: Outcome) -> Deferred
-    ensures { λ d. ⌜ d ≡ withOutcome r p ⌝ }
-{
-    let one = r.one;
-    let two = r.two;
-    let answer = r.answer;
-    let visits = r.visits;
-    p.one = one;
-    p.two = two;
-    Deferred {
-        pair: p,
-        answer,
-        fires: r.fires,
         visits,
     }
 }
@@ -380,36 +365,4 @@ pub fn read_ends(
     deliver(p.capacity, q.bytes.start, k, ring, buffer);
     let moved = consumed_ends(p.datagram, p.capacity, one, own, peer, peek, first, k);
     put_back(p.waits, one, a, moved)
-}
-
-impl Pair {
-    // Writes to the peer's queue, and leaves the visit of the waits for later. The ring and the table are the peer's.
-    pub fn write_deferred(
-        self,
-        handle: u32,
-        ring: &mut [u8],
-        table: &mut [u32],
-        bytes: &[u8],
-    ) -> Deferred
-        ensures { λ r. ⌜ Wrote self handle (now (bytes .entry)) (now (ring .entry)) (now (ring .exit)) (now (table .entry)) (now (table .exit)) (settled r) ⌝ }
-    {
-        let r = write_ends(ends::ends_of(self), handle, ring, table, bytes);
-        with_outcome(self, r)
-    }
-
-    // Reads the front of the own queue into the buffer, and leaves the visit of the waits for later. The ring and the table are the
-    // reader's. A peek leaves the bytes in the queue.
-    pub fn read_deferred(
-        self,
-        handle: u32,
-        peek: bool,
-        ring: &[u8],
-        table: &[u32],
-        buffer: &mut [u8],
-    ) -> Deferred
-        ensures { λ r. ⌜ Read self handle peek (now (ring .entry)) (now (table .entry)) (now (buffer .entry)) (now (buffer .exit)) (settled r) ⌝ }
-    {
-        let r = read_ends(ends::ends_of(self), handle, peek, ring, table, buffer);
-        with_outcome(self, r)
-    }
 }

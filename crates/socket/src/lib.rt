@@ -18,7 +18,6 @@ mod threshold;
 mod wait;
 mod write;
 
-pub use deferred::Deferred;
 pub use deferred::Outcome;
 pub use deferred::Pending;
 pub use deferred::Visits;

@@ -2,6 +2,7 @@
 use crate::Pair;
 use crate::Step;
 use crate::deferred;
+use crate::ends;
 use crate::ends::Ends;
 use crate::tests;
 use endpoint::Queue;
@@ -86,6 +87,7 @@ impl Pair {
     ) -> Step
         ensures { λ r. ⌜ Read self handle peek (now (ring .entry)) (now (table .entry)) (now (buffer .entry)) (now (buffer .exit)) r ⌝ }
     {
-        deferred::settle(self.read_deferred(handle, peek, ring, table, buffer))
+        let r = deferred::read_ends(ends::ends_of(self), handle, peek, ring, table, buffer);
+        deferred::settle(self, r)
     }
 }

@@ -2,6 +2,7 @@
 use crate::Pair;
 use crate::Step;
 use crate::deferred;
+use crate::ends;
 use crate::ends::Ends;
 use crate::tests;
 use endpoint::Queue;
@@ -94,6 +95,7 @@ impl Pair {
     pub fn write(self, handle: u32, ring: &mut [u8], table: &mut [u32], bytes: &[u8]) -> Step
         ensures { λ r. ⌜ Wrote self handle (now (bytes .entry)) (now (ring .entry)) (now (ring .exit)) (now (table .entry)) (now (table .exit)) r ⌝ }
     {
-        deferred::settle(self.write_deferred(handle, ring, table, bytes))
+        let r = deferred::write_ends(ends::ends_of(self), handle, ring, table, bytes);
+        deferred::settle(self, r)
     }
 }

@@ -3,13 +3,9 @@ use crate::memory::land_count;
 use crate::tests;
 use crate::tests::Buffer;
 use crate::tests::SOCKET_PEEK;
-use socket::Deferred;
 use socket::Ends;
 use socket::Outcome;
-use socket::Pair;
-use socket::ends_of;
 use socket::unchanged;
-use socket::with_outcome;
 use status::Answer;
 ghost use mathlib.Core.Path.{_≡_};
 ghost use Prim.Native.Nat.{_-_};
@@ -19,7 +15,7 @@ ghost use Rattle.endpoint.specs.Queue.{firstLength};
 ghost use Rattle.socket.specs.Pair.{isOne, own, peer, pairOf};
 ghost use Rattle.socket.specs.Tests.{lentOf};
 ghost use Rattle.socket.specs.Write.{ringWritten, tableWritten};
-ghost use Rattle.socket.specs.Deferred.{settled, wroteEnds, readEnds, wroteStep, readStep};
+ghost use Rattle.socket.specs.Deferred.{wroteEnds, readEnds, wroteStep, readStep};
 ghost use Rattle.syscall.specs.Write.{Taking, UserWrote};
 ghost use Rattle.syscall.specs.Read.{isPeek, BytesRead, UserRead};
 
@@ -46,8 +42,8 @@ fn write_bytes(
     socket::write_ends(p, handle, ring, table, &memory[from..to])
 }
 
-// A write, but for the visit of the waits.
-fn write_ends(
+// Writes the bytes of user memory to the peer's queue and lands the count of those taken, but leaves the visit of the waits for later.
+pub fn write_ends(
     p: Ends,
     handle: u32,
     options: u32,
@@ -117,8 +113,8 @@ pub fn bytes_ends(
     )
 }
 
-// A read, but for the visit of the waits. The count lands over the bytes.
-fn read_ends(
+// Reads the front of the own queue into user memory and lands the count over the bytes, but leaves the visit of the waits for later.
+pub fn read_ends(
     p: Ends,
     handle: u32,
     options: u32,
@@ -151,64 +147,4 @@ fn read_ends(
         return r;
     }
     r
-}
-
-// Writes the bytes of user memory to the peer's queue, lands the count of those taken, and leaves the visit of the waits for later.
-pub fn write_deferred(
-    p: Pair,
-    handle: u32,
-    options: u32,
-    base: u64,
-    memory: &mut [u8],
-    address: u64,
-    count: u64,
-    count_at: u64,
-    ring: &mut [u8],
-    table: &mut [u32],
-) -> Deferred
-    ensures { λ r. ⌜ UserWrote p handle base options address count «count_at» (now (memory .entry)) (now (memory .exit)) (now (ring .entry)) (now (ring .exit)) (now (table .entry)) (now (table .exit)) (settled r) ⌝ }
-{
-    let r = write_ends(
-        ends_of(p),
-        handle,
-        options,
-        base,
-        memory,
-        address,
-        count,
-        count_at,
-        ring,
-        table,
-    );
-    with_outcome(p, r)
-}
-
-// Reads the front of the own queue into user memory, lands the count over the bytes, and leaves the visit of the waits for later.
-pub fn read_deferred(
-    p: Pair,
-    handle: u32,
-    options: u32,
-    base: u64,
-    memory: &mut [u8],
-    address: u64,
-    count: u64,
-    count_at: u64,
-    ring: &[u8],
-    table: &[u32],
-) -> Deferred
-    ensures { λ r. ⌜ UserRead p handle base options address count «count_at» (now (ring .entry)) (now (table .entry)) (now (memory .entry)) (now (memory .exit)) (settled r) ⌝ }
-{
-    let r = read_ends(
-        ends_of(p),
-        handle,
-        options,
-        base,
-        memory,
-        address,
-        count,
-        count_at,
-        ring,
-        table,
-    );
-    with_outcome(p, r)
 }
