@@ -55,7 +55,7 @@ pub struct Visits {
     pub second: Pending,
 }
 
-// Both ends after a call, its answer, and whether a wait can fire.
+// The two ends after a call, its answer, whether a wait can fire, and the changes whose waits are then to be visited.
 pub struct Outcome {
     pub one: Endpoint,
     pub two: Endpoint,

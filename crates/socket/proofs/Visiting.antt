@@ -27,13 +27,13 @@ use Rattle.endpoint.specs.declared.Endpoint.{Endpoint}
 use Rattle.endpoint.specs.Endpoint.{withQueue, withSignals}
 use Rattle.ends.specs.declared.Pending.{Pending}
 use Rattle.ends.specs.declared.Visits.{Visits}
+use Rattle.ends.specs.declared.Outcome.{Outcome}
 use Rattle.ends.specs.declared.change.Moved.{Moved}
 use Rattle.ends.specs.Outcome.{noVisit, keepsWord, canFire, outcomeOf, keptEnds}
 use Rattle.ends.specs.Write.{fedQueue, fedEnds}
 use Rattle.ends.specs.Read.{drainedQueue, drainedEnds}
 use Rattle.socket.specs.declared.Pair.{Pair}
 use Rattle.socket.specs.declared.Step.{Step}
-use Rattle.socket.specs.declared.deferred.Deferred.{Deferred}
 use Rattle.socket.proofs.Pair as T
 use Rattle.socket.proofs.Pair.Laws as T′
 use Rattle.socket.specs.Pair.{own, peer, withEnd, withPlaces, withChange, signalChange}
@@ -197,18 +197,20 @@ unfolding pick
 settled-pair true p q g = refl
 settled-pair false p q g = sym (g refl)
 
--- a deferred call that is settled
-pub settled-on : (d : Deferred) (p : Pair) → d .fires ≡ true → p ≡ visitedPair (d .visits) (d .pair) → record { pair = p; answer = d .answer } ≡ settled d
+-- a call that is settled
+pub settled-on : (r : Outcome) (p q q′ : Pair) → r .fires ≡ true → q ≡ withOutcome r p → q′ ≡ visitedPair (r .visits) q
+    → record { pair = q′; answer = r .answer } ≡ settled r p
 unfolding settled
-settled-on d p f e = ap (λ (k : Pair). record { pair = k; answer = d .answer }) (pick-on _ _ _ _ _ f e)
+settled-on r p q q′ f e g =
+    ap (λ (k : Pair). record { pair = k; answer = r .answer }) (pick-on _ _ _ _ _ f (g ∙ ap (visitedPair (r .visits)) e))
 
-pub settled-off : (d : Deferred) → d .fires ≡ false → record { pair = d .pair; answer = d .answer } ≡ settled d
+pub settled-off : (r : Outcome) (p q : Pair) → r .fires ≡ false → q ≡ withOutcome r p → record { pair = q; answer = r .answer } ≡ settled r p
 unfolding settled
-settled-off d f = ap (λ (k : Pair). record { pair = k; answer = d .answer }) (pick-off _ _ _ _ _ f refl)
+settled-off r p q f e = ap (λ (k : Pair). record { pair = k; answer = r .answer }) (pick-off _ _ _ _ _ f e)
 
 pub settled-moved : (p : Pair) (t : Bool) (a : Answer) (d : Moved) → length (p .places .table) ≡ 128
-    → settled (withOutcome (outcomeOf (p .places .waits) t a d) p) ≡ record { pair = movedPair t d p; answer = a }
-unfolding settled withOutcome outcomeOf withEnds
+    → settled (outcomeOf (p .places .waits) t a d) p ≡ record { pair = movedPair t d p; answer = a }
+unfolding settled outcomeOf withEnds
 settled-moved p t a d l =
     let q = withEnds (pick t (d .own) (d .peer)) (pick t (d .peer) (d .own)) p in
     ap (λ (k : Pair). record { pair = k; answer = a })

@@ -9,7 +9,6 @@ use Rattle.ends.specs.declared.Visits.{Visits}
 use Rattle.ends.specs.declared.Outcome.{Outcome}
 use Rattle.socket.specs.declared.Pair.{Pair}
 use Rattle.socket.specs.declared.Step.{Step}
-use Rattle.socket.specs.declared.deferred.Deferred.{Deferred}
 use Rattle.socket.specs.Pair.{withPlaces}
 
 -- the table after the waits of a change are visited
@@ -19,15 +18,14 @@ visited a t = changeOf (a .one) (a .word) (a .clear) (a .set) t .places
 unfoldable pub visitedPair : Visits → Pair → Pair
 visitedPair v p = withPlaces (visited (v .second) (visited (v .first) (p .places))) p
 
--- the step of a call, once the waits are visited where one can fire
-unfoldable pub settled : Deferred → Step
-settled r = record { pair = pick (r .fires) (visitedPair (r .visits) (r .pair)) (r .pair); answer = r .answer }
-
 -- the pair with both ends put anew
 unfoldable pub withEnds : (one two : Endpoint) → Pair → Pair
 withEnds a b p = record { datagram = p .datagram; capacity = p .capacity; one = a; two = b; places = p .places }
 
--- a call's outcome, put back into the pair
-unfoldable pub withOutcome : Outcome → Pair → Deferred
-withOutcome r p =
-    record { pair = withEnds (r .one) (r .two) p; answer = r .answer; fires = r .fires; visits = r .visits }
+-- the pair with the ends of an outcome
+abbrev pub withOutcome : Outcome → Pair → Pair
+withOutcome r p = withEnds (r .one) (r .two) p
+
+-- the step of a call with this outcome, once the waits are visited where one can fire
+unfoldable pub settled : Outcome → Pair → Step
+settled r p = record { pair = pick (r .fires) (visitedPair (r .visits) (withOutcome r p)) (withOutcome r p); answer = r .answer }

@@ -5,17 +5,8 @@ use crate::Step;
 use crate::parts;
 use ends::Outcome;
 use ends::Visits;
-use status::Answer;
 ghost use mathlib.Core.Path.{_≡_};
 ghost use Rattle.socket.specs.Deferred.{visitedPair, settled, withOutcome};
-
-// The next pair but for its waits, the answer, and whether a wait can fire.
-pub struct Deferred {
-    pub pair: Pair,
-    pub answer: Answer,
-    pub fires: bool,
-    pub visits: Visits,
-}
 
 // Visits the waits of both changes.
 pub fn visit(p: Pair, v: Visits) -> Pair
@@ -30,36 +21,29 @@ pub fn visit(p: Pair, v: Visits) -> Pair
     parts::with_places(p, two.places)
 }
 
-// The step of a deferred call: the waits are visited where one can fire.
-pub fn settle(d: Deferred) -> Step
-    ensures { λ r. ⌜ r ≡ settled d ⌝ }
+// The pair with both ends put anew.
+pub fn with_outcome(mut p: Pair, r: Outcome) -> Pair
+    ensures { λ q. ⌜ q ≡ withOutcome r p ⌝ }
 {
-    let pair = d.pair;
-    let answer = d.answer;
-    if d.fires {
-        let visits = d.visits;
+    let one = r.one;
+    let two = r.two;
+    p.one = one;
+    p.two = two;
+    p
+}
+
+// The step of a call with this outcome: the waits are visited where one can fire.
+pub fn settle(p: Pair, r: Outcome) -> Step
+    ensures { λ s. ⌜ s ≡ settled r p ⌝ }
+{
+    let pair = with_outcome(p, r);
+    let answer = r.answer;
+    if r.fires {
+        let visits = r.visits;
         return Step {
             pair: visit(pair, visits),
             answer,
         };
     }
     Step { pair, answer }
-}
-
-// The pair with both ends put anew, on one path.
-pub fn with_outcome(mut p: Pair, r: Outcome) -> Deferred
-    ensures { λ d. ⌜ d ≡ withOutcome r p ⌝ }
-{
-    let one = r.one;
-    let two = r.two;
-    let answer = r.answer;
-    let visits = r.visits;
-    p.one = one;
-    p.two = two;
-    Deferred {
-        pair: p,
-        answer,
-        fires: r.fires,
-        visits,
-    }
 }

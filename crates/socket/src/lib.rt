@@ -17,7 +17,6 @@ mod threshold;
 mod wait;
 mod write;
 
-pub use deferred::Deferred;
 pub use deferred::settle;
 pub use deferred::visit;
 pub use deferred::with_outcome;

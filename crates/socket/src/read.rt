@@ -1,29 +1,11 @@
 // Read and peek.
-use crate::Deferred;
 use crate::Pair;
 use crate::Step;
 use crate::deferred;
 use crate::parts;
 ghost use Rattle.socket.specs.Read.{Read};
-ghost use Rattle.socket.specs.Deferred.{settled};
 
 impl Pair {
-    // Reads the front of the own queue into the buffer, and leaves the visit of the waits for later. The ring and the table are the
-    // reader's. A peek leaves the bytes in the queue.
-    pub fn read_deferred(
-        self,
-        handle: u32,
-        peek: bool,
-        ring: &[u8],
-        table: &[u32],
-        buffer: &mut [u8],
-    ) -> Deferred
-        ensures { λ r. ⌜ Read self handle peek (now (ring .entry)) (now (table .entry)) (now (buffer .entry)) (now (buffer .exit)) (settled r) ⌝ }
-    {
-        let r = ends::read_ends(parts::ends_of(self), handle, peek, ring, table, buffer);
-        deferred::with_outcome(self, r)
-    }
-
     // Reads the front of the own queue into the buffer. The ring and the table are the reader's. A peek leaves the bytes in the queue.
     pub fn read(
         self,
@@ -35,6 +17,7 @@ impl Pair {
     ) -> Step
         ensures { λ r. ⌜ Read self handle peek (now (ring .entry)) (now (table .entry)) (now (buffer .entry)) (now (buffer .exit)) r ⌝ }
     {
-        deferred::settle(self.read_deferred(handle, peek, ring, table, buffer))
+        let r = ends::read_ends(parts::ends_of(self), handle, peek, ring, table, buffer);
+        deferred::settle(self, r)
     }
 }

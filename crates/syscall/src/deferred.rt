@@ -6,10 +6,6 @@ use crate::tests::SOCKET_PEEK;
 use ends::Ends;
 use ends::Outcome;
 use ends::unchanged;
-use socket::Deferred;
-use socket::Pair;
-use socket::ends_of;
-use socket::with_outcome;
 use status::Answer;
 ghost use mathlib.Core.Path.{_≡_};
 ghost use Prim.Native.Nat.{_-_};
@@ -21,7 +17,6 @@ ghost use Rattle.ends.specs.Write.{wroteEnds};
 ghost use Rattle.socket.specs.Pair.{isOne, own, peer};
 ghost use Rattle.socket.specs.Tests.{lentOf};
 ghost use Rattle.socket.specs.Write.{ringWritten, tableWritten};
-ghost use Rattle.socket.specs.Deferred.{settled};
 ghost use Rattle.syscall.specs.Ends.{pairOf, wroteStep, readStep};
 ghost use Rattle.syscall.specs.Write.{Taking, UserWrote};
 ghost use Rattle.syscall.specs.Read.{isPeek, BytesRead, UserRead};
@@ -49,8 +44,8 @@ fn write_bytes(
     ends::write_ends(p, handle, ring, table, &memory[from..to])
 }
 
-// A write, but for the visit of the waits.
-fn write_ends(
+// Writes the bytes of user memory to the peer's queue and lands the count of those taken, but leaves the visit of the waits for later.
+pub fn write_ends(
     p: Ends,
     handle: u32,
     options: u32,
@@ -120,8 +115,8 @@ pub fn bytes_ends(
     )
 }
 
-// A read, but for the visit of the waits. The count lands over the bytes.
-fn read_ends(
+// Reads the front of the own queue into user memory and lands the count over the bytes, but leaves the visit of the waits for later.
+pub fn read_ends(
     p: Ends,
     handle: u32,
     options: u32,
@@ -154,64 +149,4 @@ fn read_ends(
         return r;
     }
     r
-}
-
-// Writes the bytes of user memory to the peer's queue, lands the count of those taken, and leaves the visit of the waits for later.
-pub fn write_deferred(
-    p: Pair,
-    handle: u32,
-    options: u32,
-    base: u64,
-    memory: &mut [u8],
-    address: u64,
-    count: u64,
-    count_at: u64,
-    ring: &mut [u8],
-    table: &mut [u32],
-) -> Deferred
-    ensures { λ r. ⌜ UserWrote p handle base options address count «count_at» (now (memory .entry)) (now (memory .exit)) (now (ring .entry)) (now (ring .exit)) (now (table .entry)) (now (table .exit)) (settled r) ⌝ }
-{
-    let r = write_ends(
-        ends_of(p),
-        handle,
-        options,
-        base,
-        memory,
-        address,
-        count,
-        count_at,
-        ring,
-        table,
-    );
-    with_outcome(p, r)
-}
-
-// Reads the front of the own queue into user memory, lands the count over the bytes, and leaves the visit of the waits for later.
-pub fn read_deferred(
-    p: Pair,
-    handle: u32,
-    options: u32,
-    base: u64,
-    memory: &mut [u8],
-    address: u64,
-    count: u64,
-    count_at: u64,
-    ring: &[u8],
-    table: &[u32],
-) -> Deferred
-    ensures { λ r. ⌜ UserRead p handle base options address count «count_at» (now (ring .entry)) (now (table .entry)) (now (memory .entry)) (now (memory .exit)) (settled r) ⌝ }
-{
-    let r = read_ends(
-        ends_of(p),
-        handle,
-        options,
-        base,
-        memory,
-        address,
-        count,
-        count_at,
-        ring,
-        table,
-    );
-    with_outcome(p, r)
 }

@@ -3,7 +3,6 @@ use socket::Pair;
 use socket::Step;
 use socket::ends_of;
 use socket::settle;
-use socket::with_outcome;
 ghost use mathlib.Core.Path.{_≡_};
 ghost use Rattle.socket.specs.Pair.{isOne};
 ghost use Rattle.socket.specs.Tests.{Steps};
@@ -16,8 +15,8 @@ mod deferred;
 mod memory;
 mod tests;
 
-pub use deferred::read_deferred;
-pub use deferred::write_deferred;
+pub use deferred::read_ends;
+pub use deferred::write_ends;
 pub use memory::land_count;
 
 // The bits of a shutdown's options; others are ignored.
@@ -40,8 +39,8 @@ pub fn write(
 ) -> Step
     ensures { λ r. ⌜ UserWrote p handle base options address count «count_at» (now (memory .entry)) (now (memory .exit)) (now (ring .entry)) (now (ring .exit)) (now (table .entry)) (now (table .exit)) r ⌝ }
 {
-    settle(write_deferred(
-        p,
+    let r = write_ends(
+        ends_of(p),
         handle,
         options,
         base,
@@ -51,7 +50,8 @@ pub fn write(
         count_at,
         ring,
         table,
-    ))
+    );
+    settle(p, r)
 }
 
 // Reads the front of the own queue into user memory, all but the count. The ring and the table are the reader's.
@@ -81,7 +81,7 @@ pub fn read_bytes(
         ring,
         table,
     );
-    settle(with_outcome(p, r))
+    settle(p, r)
 }
 
 // Reads the front of the own queue into user memory, then lands the count over the bytes.
@@ -99,8 +99,8 @@ pub fn read(
 ) -> Step
     ensures { λ r. ⌜ UserRead p handle base options address count «count_at» (now (ring .entry)) (now (table .entry)) (now (memory .entry)) (now (memory .exit)) r ⌝ }
 {
-    settle(read_deferred(
-        p,
+    let r = read_ends(
+        ends_of(p),
         handle,
         options,
         base,
@@ -110,7 +110,8 @@ pub fn read(
         count_at,
         ring,
         table,
-    ))
+    );
+    settle(p, r)
 }
 
 // Disables or enables the writing of an end and of its peer, by numbers.
