@@ -57,8 +57,7 @@ pub fn write_ends(
     ring: &mut [u8],
     table: &mut [u32],
 ) -> Outcome
-    ensures { λ r. ⌜ UserWrote (pairOf p) handle base options address count «count_at» (now (memory .entry)) (now (memory .exit)) (now (ring .entry)) (now (ring .exit)) (now (table .entry)) (now (table .exit)) (wroteStep p handle (r .answer)) ⌝ }
-    ensures { λ r. ⌜ r ≡ wroteEnds p handle (r .answer) ⌝ }
+    ensures { λ r. ⌜ (UserWrote (pairOf p) handle base options address count «count_at» (now (memory .entry)) (now (memory .exit)) (now (ring .entry)) (now (ring .exit)) (now (table .entry)) (now (table .exit)) (wroteStep p handle (r .answer))) × (r ≡ wroteEnds p handle (r .answer)) ⌝ }
 {
     let b = Buffer {
         base,
@@ -89,8 +88,7 @@ pub fn bytes_ends(
     ring: &[u8],
     table: &[u32],
 ) -> Outcome
-    ensures { λ r. ⌜ BytesRead (pairOf p) handle base options address count «count_at» (now (ring .entry)) (now (table .entry)) (now (memory .entry)) (now (memory .exit)) (readStep p handle (isPeek options) (firstLength (p .datagram) (own (isOne handle) (pairOf p) .queue) (now (table .entry))) (r .answer)) ⌝ }
-    ensures { λ r. ⌜ r ≡ readEnds p handle (isPeek options) (firstLength (p .datagram) (own (isOne handle) (pairOf p) .queue) (now (table .entry))) (r .answer) ⌝ }
+    ensures { λ r. ⌜ (BytesRead (pairOf p) handle base options address count «count_at» (now (ring .entry)) (now (table .entry)) (now (memory .entry)) (now (memory .exit)) (readStep p handle (isPeek options) (firstLength (p .datagram) (own (isOne handle) (pairOf p) .queue) (now (table .entry))) (r .answer))) × (r ≡ readEnds p handle (isPeek options) (firstLength (p .datagram) (own (isOne handle) (pairOf p) .queue) (now (table .entry))) (r .answer)) ⌝ }
 {
     let b = Buffer {
         base,
@@ -128,8 +126,7 @@ pub fn read_ends(
     ring: &[u8],
     table: &[u32],
 ) -> Outcome
-    ensures { λ r. ⌜ UserRead (pairOf p) handle base options address count «count_at» (now (ring .entry)) (now (table .entry)) (now (memory .entry)) (now (memory .exit)) (readStep p handle (isPeek options) (firstLength (p .datagram) (own (isOne handle) (pairOf p) .queue) (now (table .entry))) (r .answer)) ⌝ }
-    ensures { λ r. ⌜ r ≡ readEnds p handle (isPeek options) (firstLength (p .datagram) (own (isOne handle) (pairOf p) .queue) (now (table .entry))) (r .answer) ⌝ }
+    ensures { λ r. ⌜ (UserRead (pairOf p) handle base options address count «count_at» (now (ring .entry)) (now (table .entry)) (now (memory .entry)) (now (memory .exit)) (readStep p handle (isPeek options) (firstLength (p .datagram) (own (isOne handle) (pairOf p) .queue) (now (table .entry))) (r .answer))) × (r ≡ readEnds p handle (isPeek options) (firstLength (p .datagram) (own (isOne handle) (pairOf p) .queue) (now (table .entry))) (r .answer)) ⌝ }
 {
     let r = bytes_ends(
         p,

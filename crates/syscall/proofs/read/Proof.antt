@@ -1,9 +1,15 @@
+use denote.Ref.{now}
+use Rattle.socket.proofs.Visiting.{places-128}
+use Rattle.syscall.proofs.Settled.{read-whole}
 use borrow.Author.Needs.{needs}
 use Rattle.syscall.proofs.read.Statement.{statement}
 use Rattle.syscall.proofs.read.Tie as tie
 
-read-deferred-requires : tie.Need-read-deferred-requires
-read-deferred-requires c κs = search needs
+ends-of-requires : tie.Need-ends-of-requires
+ends-of-requires c κs = search needs
+
+read-ends-requires : tie.Need-read-ends-requires
+read-ends-requires c κs = search needs
 
 settle-requires : tie.Need-settle-requires
 settle-requires c κs = search needs
@@ -12,7 +18,9 @@ same-length : tie.Need-same-length
 same-length c = search needs
 
 returns : tie.Need-returns
-returns c = rw (c .settle .ensures) (c .before .before .before .read-deferred .ensures)
+returns c = let a = c .before .before .before .before .before .before .before .before .before .args in
+    rw (c .settle .ensures)
+    (read-whole (a .p) (a .handle) (a .base) (a .options) (a .address) (a .count) (a .count-at) _ _ (places-128 (a .p) _ (c .before .before .before .before .before .before .before .before .before .good .0)) (c .before .before .before .before .before .ends-of .ensures) (now (a .ring)) (now (a .table)) (now (a .memory)) _ (c .before .before .before .read-ends .ensures .0) (c .before .before .before .read-ends .ensures .1))
 
 pub read-spec : {M : Type 1} → statement M
-read-spec = tie.close (tie.spec read-deferred-requires settle-requires same-length returns)
+read-spec = tie.close (tie.spec ends-of-requires read-ends-requires settle-requires same-length returns)

@@ -11,9 +11,6 @@ ends-of-requires c κs = search needs
 bytes-ends-requires : tie.Need-bytes-ends-requires
 bytes-ends-requires c κs = search needs
 
-with-outcome-requires : tie.Need-with-outcome-requires
-with-outcome-requires c κs = search needs
-
 settle-requires : tie.Need-settle-requires
 settle-requires c κs = search needs
 
@@ -21,9 +18,9 @@ same-length : tie.Need-same-length
 same-length c = search needs
 
 returns : tie.Need-returns
-returns c = let a = c .before .before .before .before .before .before .before .before .before .before .args in
+returns c = let a = c .before .before .before .before .before .before .before .before .before .args in
     rw (c .settle .ensures)
-    (bytes-whole (a .p) (a .handle) (a .base) (a .options) (a .address) (a .count) (a .count-at) _ _ _ (places-128 (a .p) _ (c .before .before .before .before .before .before .before .before .before .before .good .0)) (c .before .before .before .before .before .before .ends-of .ensures) (c .before .with-outcome .ensures) (now (a .ring)) (now (a .table)) (now (a .memory)) _ (c .before .before .before .before .bytes-ends .ensures .0) (c .before .before .before .before .bytes-ends .ensures .1))
+    (bytes-whole (a .p) (a .handle) (a .base) (a .options) (a .address) (a .count) (a .count-at) _ _ (places-128 (a .p) _ (c .before .before .before .before .before .before .before .before .before .good .0)) (c .before .before .before .before .before .ends-of .ensures) (now (a .ring)) (now (a .table)) (now (a .memory)) _ (c .before .before .before .bytes-ends .ensures .0) (c .before .before .before .bytes-ends .ensures .1))
 
 pub read-bytes-spec : {M : Type 1} → statement M
-read-bytes-spec = tie.close (tie.spec ends-of-requires bytes-ends-requires with-outcome-requires settle-requires same-length returns)
+read-bytes-spec = tie.close (tie.spec ends-of-requires bytes-ends-requires settle-requires same-length returns)

@@ -1,9 +1,15 @@
+use denote.Ref.{now}
+use Rattle.socket.proofs.Visiting.{places-128}
+use Rattle.syscall.proofs.Settled.{wrote-whole}
 use borrow.Author.Needs.{needs}
 use Rattle.syscall.proofs.write.Statement.{statement}
 use Rattle.syscall.proofs.write.Tie as tie
 
-write-deferred-requires : tie.Need-write-deferred-requires
-write-deferred-requires c κs = search needs
+ends-of-requires : tie.Need-ends-of-requires
+ends-of-requires c κs = search needs
+
+write-ends-requires : tie.Need-write-ends-requires
+write-ends-requires c κs = search needs
 
 settle-requires : tie.Need-settle-requires
 settle-requires c κs = search needs
@@ -18,7 +24,9 @@ same-length-3 : tie.Need-same-length-3
 same-length-3 c = search needs
 
 returns : tie.Need-returns
-returns c = rw (c .settle .ensures) (c .before .before .before .before .before .before .before .write-deferred .ensures)
+returns c = let a = c .before .before .before .before .before .before .before .before .before .before .before .before .before .before .before .args in
+    rw (c .settle .ensures)
+    (wrote-whole (a .p) (a .handle) (a .base) (a .options) (a .address) (a .count) (a .count-at) _ _ (places-128 (a .p) _ (c .before .before .before .before .before .before .before .before .before .before .before .before .before .before .before .good .0)) (c .before .before .before .before .before .before .before .before .before .before .before .ends-of .ensures) (now (a .memory)) _ (now (a .ring)) _ (now (a .table)) _ (c .before .before .before .before .before .before .before .write-ends .ensures .0) (c .before .before .before .before .before .before .before .write-ends .ensures .1))
 
 pub write-spec : {M : Type 1} → statement M
-write-spec = tie.close (tie.spec write-deferred-requires settle-requires same-length same-length-2 same-length-3 returns)
+write-spec = tie.close (tie.spec ends-of-requires write-ends-requires settle-requires same-length same-length-2 same-length-3 returns)
