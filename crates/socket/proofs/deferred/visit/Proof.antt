@@ -14,7 +14,7 @@ with-places-requires c κs = search needs
 
 returns : tie.Need-returns
 unfolding visitedPair visited
-returns c = cc
+returns c = rw (c .before .change2 .ensures, c .before .before .before .change .ensures) at (c .with-places .ensures)
 
 pub visit-spec : {M : Type 1} → statement M
 visit-spec = tie.close (tie.spec change-requires change-requires-2 with-places-requires returns)
