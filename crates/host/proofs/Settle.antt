@@ -25,7 +25,6 @@ use Rattle.status.specs.Answer.{answerWord}
 use Rattle.status.proofs.Answer as N
 use Rattle.status.proofs.word as word
 use Rattle.socket.specs.declared.Pair.{Pair}
-use Rattle.socket.specs.declared.Step.{Step}
 use Rattle.socket.specs.declared.deferred.Visits.{Visits}
 use Rattle.socket.specs.declared.deferred.Outcome.{Outcome}
 use Rattle.socket.specs.declared.ends.Ends.{Ends}

@@ -1,6 +1,5 @@
 // The calls over user memory: one slice that the caller lends, at a 64-bit base.
 use socket::Pair;
-ghost use mathlib.Core.Path.{_≡_};
 ghost use Rattle.socket.specs.Pair.{isOne};
 ghost use Rattle.socket.specs.Tests.{Steps};
 ghost use Rattle.socket.specs.Disposition.{disposed, shut};

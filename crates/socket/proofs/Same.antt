@@ -3,13 +3,11 @@ use Prim.Native.Nat.{ℕ}
 use mathlib.Core.Path.{_≡_, refl, ap, _∙_}
 use mathlib.Core.Bool.{Bool, true, false}
 use mathlib.Core.List.{List, []}
-use lib.ListN.{length}
 use Rattle.status.specs.declared.Answer.{Answer}
-use Rattle.endpoint.specs.Queue.{firstLength}
 use Rattle.socket.specs.declared.Pair.{Pair}
 use Rattle.socket.specs.declared.ends.Ends.{Ends}
 use Rattle.socket.specs.Pair.{isOne, own, peer, endsOf, pairOf}
-use Rattle.socket.specs.Tests.{soundPair, soundTest, lentOf, isOpen, handleTest, openingTest}
+use Rattle.socket.specs.Tests.{soundPair, soundTest, lentOf, isOpen, handleTest}
 use Rattle.socket.specs.Info.{infoAnswer}
 use Rattle.socket.specs.Write.{writeAnswer, ringWritten, tableWritten}
 use Rattle.socket.specs.Read.{readAnswer, bufferRead}

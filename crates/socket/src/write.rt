@@ -11,7 +11,7 @@ use endpoint::write_size;
 use status::Answer;
 ghost use mathlib.Core.Path.{_≡_};
 ghost use mathlib.Core.Bool.{true};
-ghost use Prim.Native.Nat.{_+_, _≤_, _<_, _^_};
+ghost use Prim.Native.Nat.{_+_, _<_, _^_};
 ghost use lib.ListN.{length};
 ghost use Rattle.socket.specs.Pair.{isOne, peer, pairOf};
 ghost use Rattle.socket.specs.Tests.{lentOf};
