@@ -59,8 +59,8 @@ pub extern "C" fn murgwethan_write(
 ) -> i64
     ensures { λ w. ⌜ Answered (Wrote (now (p .entry)) handle (now (bytes .entry)) (now (ring .entry)) (now (ring .exit)) (now (table .entry)) (now (table .exit))) (now (p .exit)) w ⌝ }
 {
-    let r = Pair::write_deferred(*p, handle, ring, table, bytes);
-    *p = r.pair;
+    let r = ends::write_ends(socket::ends_of(*p), handle, ring, table, bytes);
+    *p = socket::with_outcome(*p, r);
     let w = status::word(r.answer);
     if r.fires {
         *p = socket::visit(*p, r.visits);
@@ -80,8 +80,8 @@ pub extern "C" fn murgwethan_read(
 ) -> i64
     ensures { λ w. ⌜ Answered (Read (now (p .entry)) handle peek (now (ring .entry)) (now (table .entry)) (now (buffer .entry)) (now (buffer .exit))) (now (p .exit)) w ⌝ }
 {
-    let r = Pair::read_deferred(*p, handle, peek, ring, table, buffer);
-    *p = r.pair;
+    let r = ends::read_ends(socket::ends_of(*p), handle, peek, ring, table, buffer);
+    *p = socket::with_outcome(*p, r);
     let w = status::word(r.answer);
     if r.fires {
         *p = socket::visit(*p, r.visits);

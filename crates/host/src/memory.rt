@@ -1,6 +1,5 @@
 // The calls over user memory: one slice that the caller lends, at a 64-bit base.
 use socket::Pair;
-ghost use mathlib.Core.Path.{_≡_};
 ghost use Rattle.socket.specs.Pair.{isOne};
 ghost use Rattle.socket.specs.Tests.{Steps};
 ghost use Rattle.socket.specs.Disposition.{disposed, shut};
@@ -25,8 +24,8 @@ pub extern "C" fn murgwethan_user_write(
 ) -> i64
     ensures { λ w. ⌜ Answered (UserWrote (now (p .entry)) handle base options address count «count_at» (now (memory .entry)) (now (memory .exit)) (now (ring .entry)) (now (ring .exit)) (now (table .entry)) (now (table .exit))) (now (p .exit)) w ⌝ }
 {
-    let r = syscall::write_deferred(
-        *p,
+    let r = syscall::write_ends(
+        socket::ends_of(*p),
         handle,
         options,
         base,
@@ -37,7 +36,7 @@ pub extern "C" fn murgwethan_user_write(
         ring,
         table,
     );
-    *p = r.pair;
+    *p = socket::with_outcome(*p, r);
     let w = status::word(r.answer);
     if r.fires {
         *p = socket::visit(*p, r.visits);
@@ -61,8 +60,8 @@ pub extern "C" fn murgwethan_user_read(
 ) -> i64
     ensures { λ w. ⌜ Answered (UserRead (now (p .entry)) handle base options address count «count_at» (now (ring .entry)) (now (table .entry)) (now (memory .entry)) (now (memory .exit))) (now (p .exit)) w ⌝ }
 {
-    let r = syscall::read_deferred(
-        *p,
+    let r = syscall::read_ends(
+        socket::ends_of(*p),
         handle,
         options,
         base,
@@ -73,7 +72,7 @@ pub extern "C" fn murgwethan_user_read(
         ring,
         table,
     );
-    *p = r.pair;
+    *p = socket::with_outcome(*p, r);
     let w = status::word(r.answer);
     if r.fires {
         *p = socket::visit(*p, r.visits);

@@ -1,5 +1,5 @@
 -- The visit of the waits can wait until both words have changed. Assumes nothing.
-use Prim.Native.Nat.{ℕ, _+_, _-_, _≤_}
+use Prim.Native.Nat.{ℕ, _-_}
 use mathlib.Core.Path.{_≡_, refl, sym, ap, _∙_}
 use mathlib.Core.Bool.{Bool, true, false, not, false≢true}
 use mathlib.Core.Logic.{⊎-elim}
@@ -7,7 +7,6 @@ use mathlib.Core.List.{List}
 use mir.Val.{Val}
 use denote.Laws.{Is}
 use denote.Struct.Laws as LL
-use native.Mathlib.Omega.{arith}
 use lib.ListN.{length}
 use lib.Dec.{eqb}
 use borrow.Author.Tests.{leb-true, eqb-true, eqb-false}
@@ -16,14 +15,13 @@ use Rattle.status.specs.Choice.{pick}
 use Rattle.status.proofs.Rules.{pick-on, pick-off}
 use Rattle.port.specs.declared.Places.{Places}
 use Rattle.port.specs.Signal.{changedWord}
-use Rattle.port.specs.Table.{used, sound}
+use Rattle.port.specs.Table.{sound}
 use Rattle.port.specs.Port.{changeOf, firedOf}
 use Rattle.port.proofs.Lists.{either}
 use Rattle.port.proofs.Operations.{change-sound, change-unsound, change-same, change-fired}
 use Rattle.port.proofs.Size.{table-128}
 use Rattle.port.proofs.Idle.{idle, no-waits}
 use Rattle.port.proofs.Sound.{sound-change}
-use Rattle.endpoint.specs.declared.Endpoint.{Endpoint}
 use Rattle.endpoint.specs.Endpoint.{withQueue, withSignals}
 use Rattle.ends.specs.declared.Pending.{Pending}
 use Rattle.ends.specs.declared.Visits.{Visits}
@@ -33,7 +31,6 @@ use Rattle.ends.specs.Outcome.{noVisit, keepsWord, canFire, outcomeOf, keptEnds
 use Rattle.ends.specs.Write.{fedQueue, fedEnds}
 use Rattle.ends.specs.Read.{drainedQueue, drainedEnds}
 use Rattle.socket.specs.declared.Pair.{Pair}
-use Rattle.socket.specs.declared.Step.{Step}
 use Rattle.socket.proofs.Pair as T
 use Rattle.socket.proofs.Pair.Laws as T′
 use Rattle.socket.specs.Pair.{own, peer, withEnd, withPlaces, withChange, signalChange}

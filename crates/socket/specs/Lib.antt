@@ -6,7 +6,7 @@
 --   Info record               Info
 --   Script program            Pair: shownBy, the word that a line shows
 --   Calls over user memory    the crate syscall
--- Deferred: a write or a read whose visit of the waits is left for later.
+-- Deferred: a write and a read whose visit of the waits is left for later.
 pub mod Pair
 pub mod Tests
 pub mod Write

@@ -8,11 +8,10 @@ use lib.ListN.{length, take, drop, length-take, length-drop}
 use lib.Seq.{length-paste}
 use lib.Dec.{eqb}
 use borrow.Author.Tests.{eq-eqb, ne-eqb, eqb-true, eqb-false}
-use Rattle.status.specs.declared.Record.the-variants.{Count}
 use Rattle.status.specs.declared.Answer.{Answer}
 use Rattle.status.specs.declared.Answer.the-variants.{Done, Refused}
-use Rattle.status.specs.Choice.{pick, _or_}
-use Rattle.status.specs.Answer.{countOf, recordCount, isDone}
+use Rattle.status.specs.Choice.{pick}
+use Rattle.status.specs.Answer.{countOf, isDone}
 use Rattle.status.proofs.Rules.{pick-on, pick-off}
 use Rattle.status.proofs.Chains.{counted}
 use Rattle.ring.proofs.Laws.{length-front}

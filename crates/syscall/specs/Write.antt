@@ -5,9 +5,7 @@ use mathlib.Core.List.{List}
 use lib.ListN.{length, drop}
 use lib.Dec.{eqb}
 use Rattle.status.specs.declared.Status.the-variants.{InvalidArgs}
-use Rattle.status.specs.declared.Record.the-variants.{Count}
 use Rattle.status.specs.declared.Answer.{Answer}
-use Rattle.status.specs.declared.Answer.the-variants.{Done}
 use Rattle.status.specs.Choice.{pick}
 use Rattle.status.specs.Answer.{refuseIf, refuseUnless, _then_, countOf, isDone}
 use Rattle.endpoint.specs.Write.{writeSize}

@@ -3,7 +3,6 @@ use socket::Pair;
 use socket::Step;
 use socket::ends_of;
 use socket::settle;
-ghost use mathlib.Core.Path.{_≡_};
 ghost use Rattle.socket.specs.Pair.{isOne};
 ghost use Rattle.socket.specs.Tests.{Steps};
 ghost use Rattle.socket.specs.Disposition.{disposed, shut};
