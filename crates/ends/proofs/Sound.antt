@@ -12,7 +12,7 @@ use Rattle.status.proofs.Chains.{both, both-off, neither, then-both, then-is, r
 use Rattle.endpoint.specs.declared.Queue.{Queue}
 use Rattle.endpoint.specs.Queue.{soundQueue, soundLengths, shortSlices, shortTable, badFirst}
 use Rattle.ends.specs.declared.Ends.{Ends}
-use Rattle.ends.specs.Ends.{isOne, isHandle, own, peer}
+use Rattle.ends.specs.Ends.{isHandle, own, peer}
 use Rattle.ends.specs.Tests.{soundEnds, soundTest, Lent, slicesTest, isOpen, handleTest, openingTest}
 use Rattle.ends.specs.Threshold.{writeThresholdAnswer}
 use Rattle.ends.specs.Wait.{waitAnswer}

@@ -2,7 +2,6 @@
 use crate::Pair;
 use crate::Step;
 use crate::parts;
-ghost use mathlib.Core.Path.{_≡_};
 ghost use mathlib.Core.List.{[]};
 ghost use Rattle.socket.specs.Pair.{isOne, own};
 ghost use Rattle.socket.specs.Tests.{lentOf, Steps};

@@ -1,7 +1,6 @@
 use Rattle.ends.specs.Write.{ringFed, tableFed}
-use mathlib.Core.Path.{_≡_, refl, ap, _∙_}
+use mathlib.Core.Path.{refl, ap, _∙_}
 use Prim.Native.Nat.{ℕ}
-use lib.ListN.{set}
 use denote.Ref.{now}
 use Rattle.ring.specs.Ring.{put}
 use native.Mathlib.Omega.{arith}
