@@ -13,11 +13,11 @@ use Rattle.status.specs.declared.Answer.the-variants.{Done, Refused}
 use Rattle.status.specs.Choice.{pick}
 use Rattle.status.specs.Answer.{refuseUnless, _then_, countOf, isDone}
 use Rattle.endpoint.specs.Queue.{firstLength}
+use Rattle.ends.specs.Create.{createAnswer}
 use Rattle.socket.specs.declared.Pair.{Pair}
 use Rattle.socket.specs.declared.Step.{Step}
 use Rattle.socket.specs.Pair.{isOne, own, peer, newPair, noPair}
 use Rattle.socket.specs.Tests.{lentOf}
-use Rattle.socket.specs.Create.{createAnswer}
 use Rattle.socket.specs.Write.{pairWritten, ringWritten, tableWritten}
 use Rattle.socket.specs.Read.{pairRead}
 use Rattle.socket.specs.Threshold.{readThresholdAnswer, writeThresholdAnswer, readThresholdSet, writeThresholdSet}

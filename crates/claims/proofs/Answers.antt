@@ -16,6 +16,9 @@ use Rattle.port.specs.Table.{used}
 use Rattle.endpoint.specs.declared.Endpoint.{Endpoint}
 use Rattle.endpoint.specs.Write.{datagramSize, writeSize}
 use Rattle.endpoint.specs.Read.{emptyAnswer, availableIn, readSize}
+use Rattle.ends.specs.Read.{readAnswer as endsReadAnswer}
+use Rattle.ends.specs.Wait.{waitAnswer as endsWaitAnswer}
+use Rattle.ends.specs.Write.{writeAnswer as endsWriteAnswer}
 use Rattle.socket.specs.declared.Pair.{Pair}
 use Rattle.socket.specs.Pair.{isOne, own, peer}
 use Rattle.socket.specs.Tests.{Lent}
@@ -93,7 +96,7 @@ size-room dg C e e′ n =
 
 pub plain-room : (p : Pair) (z : Lent) (h n : ℕ) → 0 < countOf (writeAnswer p z h n)
     → Room (p .capacity) (peer (isOne h) p .queue .bytes .count) n (countOf (writeAnswer p z h n))
-unfolding writeAnswer
+unfolding endsWriteAnswer
 plain-room p z h n =
     let P : Answer → Type 0 = λ x. Room (p .capacity) (peer (isOne h) p .queue .bytes .count) n (countOf x) in
     peel P _ _ (λ _. peel P _ _ (λ _. peel P _ _ (λ _. size-room (p .datagram) (p .capacity) (own (isOne h) p) (peer (isOne h) p) n)))
@@ -142,7 +145,7 @@ size-taken dg e e′ first n = go (eqb (e .queue .bytes .count) 0) refl dg
 
 pub plain-taken : (p : Pair) (z : Lent) (h n : ℕ) → 0 < countOf (readAnswer p z h n)
     → Taken (p .datagram) (own (isOne h) p .queue .bytes .count) (z .first) (countOf (readAnswer p z h n)) × (countOf (readAnswer p z h n) ≤ n)
-unfolding readAnswer
+unfolding endsReadAnswer
 plain-taken p z h n =
     let P : Answer → Type 0 = λ x. Taken (p .datagram) (own (isOne h) p .queue .bytes .count) (z .first) (countOf x) × (countOf x ≤ n) in
     peel P _ _ (λ _. peel P _ _ (λ _. peel P _ _ (λ _. size-taken (p .datagram) (own (isOne h) p) (peer (isOne h) p) (z .first) n)))
@@ -160,7 +163,7 @@ user-taken p z h base size o a n at =
 -- ---- wait and take
 
 pub wait-room : (p : Pair) (h edge : ℕ) → isDone (waitAnswer p h edge) ≡ true → used (p .places) ≡ 128 → ⊥
-unfolding waitAnswer
+unfolding endsWaitAnswer
 wait-room p h edge e =
     let (_, rest) = then-done _ _ e in
     let (_, last) = then-done _ _ rest in

@@ -16,11 +16,13 @@ use Rattle.status.specs.Answer.{isDone}
 use Rattle.port.specs.Table.{used, sound}
 use Rattle.endpoint.specs.declared.Queue.{Queue}
 use Rattle.endpoint.specs.Endpoint.{withQueue, closedEnd}
+use Rattle.ends.specs.Read.{leaving}
+use Rattle.ends.specs.Write.{ringFed, tableFed, ringWritten, tableWritten}
 use Rattle.socket.specs.declared.Pair.{Pair}
 use Rattle.socket.specs.Pair.{isOne, own, peer, withEnd}
 use Rattle.socket.specs.Tests.{lentOf}
-use Rattle.socket.specs.Write.{pairWritten, wrote, ringFed, ringWritten, tableFed, tableWritten}
-use Rattle.socket.specs.Read.{leaving, consumed, pairRead}
+use Rattle.socket.specs.Write.{pairWritten, wrote}
+use Rattle.socket.specs.Read.{consumed, pairRead}
 use Rattle.socket.specs.Wait.{closed}
 use Rattle.syscall.specs.Read.{isPeek}
 use Rattle.syscall.specs.Control.{dispositionOf, shutsRead, shutsWrite}

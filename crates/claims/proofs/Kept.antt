@@ -14,10 +14,12 @@ use Rattle.endpoint.specs.declared.Endpoint.{Endpoint}
 use Rattle.endpoint.specs.declared.Disposition.{Disposition}
 use Rattle.endpoint.specs.declared.Disposition.the-variants.{Unchanged, Disable, Enable}
 use Rattle.endpoint.specs.Endpoint.{withQueue, withSignals, withReadDisabled, withThresholds, closedEnd}
+use Rattle.ends.specs.Read.{drainedQueue}
+use Rattle.ends.specs.Write.{fedQueue}
 use Rattle.socket.specs.declared.Pair.{Pair}
 use Rattle.socket.specs.Pair.{own, peer, withEnd, withPlaces, withChange, signalChange, putBit, switchReading}
-use Rattle.socket.specs.Write.{fedQueue, wrote}
-use Rattle.socket.specs.Read.{drainedQueue, consumed}
+use Rattle.socket.specs.Write.{wrote}
+use Rattle.socket.specs.Read.{consumed}
 use Rattle.socket.specs.Threshold.{readThresholdSet, writeThresholdSet}
 use Rattle.socket.specs.Disposition.{switchWriting, disposeOwn, disposePeer, disposedOwn, disposedPeer, disposed, shutEnd, shut}
 use Rattle.socket.specs.Wait.{waited, took, closed}

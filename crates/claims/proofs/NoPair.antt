@@ -10,14 +10,17 @@ use Rattle.status.specs.declared.Answer.{Answer}
 use Rattle.status.specs.declared.Answer.the-variants.{Refused}
 use Rattle.status.specs.Choice.{_and_}
 use Rattle.status.specs.Answer.{refuseUnless, _then_}
+use Rattle.ends.specs.Disposition.{disposeAnswer}
+use Rattle.ends.specs.Info.{infoAnswer}
+use Rattle.ends.specs.Read.{readAnswer}
+use Rattle.ends.specs.Tests.{soundEnds, soundTest, openingTest}
+use Rattle.ends.specs.Threshold.{readThresholdAnswer, writeThresholdAnswer, thresholdsAnswer}
+use Rattle.ends.specs.Wait.{waitAnswer}
+use Rattle.ends.specs.Write.{writeAnswer}
 use Rattle.socket.specs.Pair.{noPair}
-use Rattle.socket.specs.Tests.{soundPair, soundTest, Lent, openingTest}
-use Rattle.socket.specs.Write.{writeAnswer}
-use Rattle.socket.specs.Read.{readAnswer}
-use Rattle.socket.specs.Threshold.{readThresholdAnswer, writeThresholdAnswer, thresholdsAnswer}
-use Rattle.socket.specs.Disposition.{disposeAnswer, shutdownAnswer}
-use Rattle.socket.specs.Info.{infoAnswer}
-use Rattle.socket.specs.Wait.{waitAnswer, takeAnswer, closeAnswer}
+use Rattle.socket.specs.Tests.{Lent}
+use Rattle.socket.specs.Disposition.{shutdownAnswer}
+use Rattle.socket.specs.Wait.{takeAnswer, closeAnswer}
 use Rattle.syscall.specs.Write.{userWriteAnswer}
 use Rattle.syscall.specs.Read.{userReadAnswer}
 use Rattle.syscall.specs.Control.{userDisposeAnswer, userShutdownAnswer}
@@ -33,7 +36,7 @@ abbrev no-view : (z1 z2 : Lent) → View
 no-view z1 z2 = record { pair = noPair; one = z1; two = z2 }
 
 control-internal : (z1 z2 : Lent) (c : Control) → controlAnswer (no-view z1 z2) c ≡ Refused Internal
-unfolding controlAnswer noPair soundPair soundTest openingTest refuseUnless _then_ _and_ readThresholdAnswer writeThresholdAnswer thresholdsAnswer disposeAnswer shutdownAnswer infoAnswer waitAnswer takeAnswer userDisposeAnswer userShutdownAnswer
+unfolding controlAnswer noPair soundEnds soundTest openingTest refuseUnless _then_ _and_ readThresholdAnswer writeThresholdAnswer thresholdsAnswer disposeAnswer shutdownAnswer infoAnswer waitAnswer takeAnswer userDisposeAnswer userShutdownAnswer
 control-internal z1 z2 (setDisposition h a b) = refl
 control-internal z1 z2 (shutdown h o) = refl
 control-internal z1 z2 (plainDisposition h a b) = refl
@@ -46,7 +49,7 @@ control-internal z1 z2 (wait h k m x) = refl
 control-internal z1 z2 takePacket = refl
 
 internal : (z1 z2 : Lent) (base size : ℕ) (c : Call) → answerTo (no-view z1 z2) base size c ≡ Refused Internal
-unfolding answerTo noPair soundPair soundTest openingTest refuseUnless _then_ _and_ writeAnswer readAnswer closeAnswer userWriteAnswer userReadAnswer
+unfolding answerTo noPair soundEnds soundTest openingTest refuseUnless _then_ _and_ writeAnswer readAnswer closeAnswer userWriteAnswer userReadAnswer
 internal z1 z2 base size (write h o a n at) = refl
 internal z1 z2 base size (read h o a n at) = refl
 internal z1 z2 base size (plainWrite h) = refl

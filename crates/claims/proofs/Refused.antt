@@ -8,10 +8,12 @@ use Rattle.status.specs.declared.Answer.{Answer}
 use Rattle.status.specs.declared.Answer.the-variants.{Refused}
 use Rattle.status.specs.Choice.{pick, _or_}
 use Rattle.status.specs.Answer.{countOf, isDone}
+use Rattle.ends.specs.Read.{bufferRead}
+use Rattle.ends.specs.Write.{ringWritten, tableWritten}
 use Rattle.socket.specs.declared.Pair.{Pair}
 use Rattle.socket.specs.Pair.{isOne}
-use Rattle.socket.specs.Write.{pairWritten, ringWritten, tableWritten}
-use Rattle.socket.specs.Read.{pairRead, bufferRead}
+use Rattle.socket.specs.Write.{pairWritten}
+use Rattle.socket.specs.Read.{pairRead}
 use Rattle.syscall.specs.Read.{isPeek, bytesLanded}
 use Rattle.claims.specs.Calls.{Call, write, read, plainWrite, plainRead, close, control, Input, State, peerSlices, withPeer, Outcome}
 use Rattle.claims.specs.Answers.{View, view, pairAfter}

@@ -22,15 +22,18 @@ use Rattle.endpoint.specs.Queue.{shortSlices, firstLength, badFirst}
 use Rattle.endpoint.specs.Write.{datagramSize, writeSize}
 use Rattle.endpoint.specs.Read.{emptyAnswer, readSize}
 use Rattle.endpoint.specs.Disposition.{disposeChecks}
+use Rattle.ends.specs.Disposition.{disposeAnswer}
+use Rattle.ends.specs.Info.{infoAnswer}
+use Rattle.ends.specs.Read.{readAnswer}
+use Rattle.ends.specs.Tests.{soundEnds, isOpen, soundTest as endsSoundTest, handleTest as endsHandleTest, openingTest as endsOpeningTest}
+use Rattle.ends.specs.Threshold.{readThresholdAnswer, writeThresholdAnswer, thresholdsAnswer}
+use Rattle.ends.specs.Wait.{waitAnswer}
+use Rattle.ends.specs.Write.{writeAnswer}
 use Rattle.socket.specs.declared.Pair.{Pair}
-use Rattle.socket.specs.Pair.{isOne, own, peer}
-use Rattle.socket.specs.Tests.{soundPair, soundTest, Lent, lentOf, slicesTest, tableTest, handleTest, openingTest, isOpen}
-use Rattle.socket.specs.Write.{writeAnswer}
-use Rattle.socket.specs.Read.{readAnswer}
-use Rattle.socket.specs.Threshold.{readThresholdAnswer, writeThresholdAnswer, thresholdsAnswer}
-use Rattle.socket.specs.Disposition.{disposeAnswer, shutdownAnswer}
-use Rattle.socket.specs.Info.{infoAnswer}
-use Rattle.socket.specs.Wait.{waitAnswer, takeAnswer, closeAnswer}
+use Rattle.socket.specs.Pair.{isOne, endsOf, own, peer}
+use Rattle.socket.specs.Tests.{soundPair, soundTest, Lent, lentOf, slicesTest, tableTest, handleTest, openingTest}
+use Rattle.socket.specs.Disposition.{shutdownAnswer}
+use Rattle.socket.specs.Wait.{takeAnswer, closeAnswer}
 use Rattle.syscall.specs.Memory.{lookup}
 use Rattle.syscall.specs.Write.{writeRanges, userWriteAnswer}
 use Rattle.syscall.specs.Read.{userReadAnswer}
@@ -95,8 +98,8 @@ invalid = refl
 -- ---- the parts of answers
 
 handle-not : (p : Pair) (h : ℕ) → Not (handleTest p h)
-unfolding Not internal handleTest
-handle-not p h = unless-not (isOpen p h) BadHandle refl
+unfolding Not internal endsHandleTest
+handle-not p h = unless-not (isOpen (endsOf p) h) BadHandle refl
 
 lookup-not : (p : Pair) (h right : ℕ) → Not (lookup p h right)
 unfolding Not internal lookup
@@ -152,11 +155,11 @@ module _ (v : View) (g : Good v) where
   peer-good false = g .one
 
   sound-not : Not (soundTest (v .pair))
-  unfolding Not internal soundTest refuseUnless
+  unfolding Not internal endsSoundTest refuseUnless
   sound-not = rw (g .sound)
 
   opening-not : (h : ℕ) → Not (openingTest (v .pair) h)
-  unfolding openingTest
+  unfolding endsOpeningTest
   opening-not h = then-not _ _ sound-not (handle-not (v .pair) h)
 
   control-not : (c : Control) → Not (controlAnswer v c)
@@ -210,7 +213,7 @@ never a x e = let z : _≡_ {A = Bool} true false = rw e at x in let y : _≡_ {
 
 module _ (f : Origin → Option ℕ) (dg : Bool) (z1 z2 : Size) (s : State) (ln : Lines) (v : Inv f dg z1 z2 s ln) where
   pair-sound : soundPair (s .pair) ≡ true
-  unfolding soundPair _and_
+  unfolding soundEnds _and_
   pair-sound =
       rw (
         lt-ltb 0 (s .pair .capacity) (omega (arith, v .one .start)),

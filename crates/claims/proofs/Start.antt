@@ -12,8 +12,8 @@ use Rattle.status.specs.Answer.{isDone}
 use Rattle.port.proofs.Sound.{sound-new}
 use Rattle.endpoint.specs.Endpoint.{newEnd}
 use Rattle.endpoint.specs.Queue.{shortTable, shortSlices}
+use Rattle.ends.specs.Create.{numbersAnswer, createAnswer}
 use Rattle.socket.specs.Pair.{newPair}
-use Rattle.socket.specs.Create.{numbersAnswer, createAnswer}
 use Rattle.claims.specs.Calls.{Create, Slices, state}
 use Rattle.claims.specs.Run.{createdBy}
 use Rattle.claims.specs.Origins.{Origin, noLines}

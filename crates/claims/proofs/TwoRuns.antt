@@ -13,10 +13,10 @@ use Rattle.status.specs.declared.Answer.{Answer}
 use Rattle.status.specs.declared.Answer.the-variants.{Done, Refused}
 use Rattle.status.specs.Choice.{pick}
 use Rattle.status.specs.Answer.{isDone}
+use Rattle.ends.specs.Create.{createAnswer}
 use Rattle.socket.specs.declared.Pair.{Pair}
 use Rattle.socket.specs.Pair.{isOne, newPair, noPair}
 use Rattle.socket.specs.Tests.{Lent}
-use Rattle.socket.specs.Create.{createAnswer}
 use Rattle.claims.specs.Calls.{Create, Call, write, read, plainWrite, plainRead, close, control, Input, Public, public, Slices, State, state, withPeer, Seen, seenOf, Outcome}
 use Rattle.claims.specs.Run.{createdBy}
 use Rattle.claims.specs.Answers.{View, view, answerTo, pairAfter}

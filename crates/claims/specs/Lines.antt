@@ -26,15 +26,21 @@ use Rattle.endpoint.specs.Info.{unlessClosed, infoOf}
 use Rattle.endpoint.specs.Queue.{noQueue, soundLengths, soundQueue, shortTable, shortSlices, hasLength, firstLength, badFirst}
 use Rattle.endpoint.specs.Read.{emptyAnswer, availableIn, readSize, lostByReader, gainedByWriter}
 use Rattle.endpoint.specs.Write.{datagramSize, writeSize, reached, missed, bitIf, gainedByPeer, lostByWriter}
-use Rattle.socket.specs.Create.{numbersAnswer, createAnswer}
-use Rattle.socket.specs.Disposition.{disposeAnswer, switchWriting, disposeOwn, disposePeer, disposedOwn, disposedPeer, disposed, shutdownAnswer, shutEnd, shut}
-use Rattle.socket.specs.Info.{infoAnswer}
+use Rattle.ends.specs.Create.{numbersAnswer, createAnswer}
+use Rattle.ends.specs.Disposition.{disposeAnswer}
+use Rattle.ends.specs.Info.{infoAnswer}
+use Rattle.ends.specs.Read.{leaving, drainedQueue, readAnswer, bufferRead}
+use Rattle.ends.specs.Tests.{soundEnds, isOpen, soundTest, handleTest, openingTest}
+use Rattle.ends.specs.Threshold.{readThresholdAnswer, writeThresholdAnswer, thresholdsAnswer}
+use Rattle.ends.specs.Wait.{waitAnswer}
+use Rattle.ends.specs.Write.{fedQueue, ringFed, tableFed, writeAnswer, ringWritten, tableWritten}
+use Rattle.socket.specs.Disposition.{switchWriting, disposeOwn, disposePeer, disposedOwn, disposedPeer, disposed, shutdownAnswer, shutEnd, shut}
 use Rattle.socket.specs.Pair.{isHandle, withEnd, withPlaces, withChange, signalChange, putBit, switchReading, newPair, noPair}
-use Rattle.socket.specs.Read.{readAnswer, leaving, drainedQueue, consumed, pairRead, bufferRead}
-use Rattle.socket.specs.Tests.{soundPair, soundTest, lentOf, slicesTest, tableTest, isOpen, handleTest, openingTest}
-use Rattle.socket.specs.Threshold.{readThresholdAnswer, writeThresholdAnswer, readThresholdSet, writeThresholdSet, thresholdsAnswer}
-use Rattle.socket.specs.Wait.{waitAnswer, waited, takeAnswer, took, closeAnswer, closed}
-use Rattle.socket.specs.Write.{writeAnswer, fedQueue, wrote, pairWritten, ringFed, ringWritten, tableFed, tableWritten}
+use Rattle.socket.specs.Read.{consumed, pairRead}
+use Rattle.socket.specs.Tests.{lentOf, slicesTest, tableTest}
+use Rattle.socket.specs.Threshold.{readThresholdSet, writeThresholdSet}
+use Rattle.socket.specs.Wait.{waited, takeAnswer, took, closeAnswer, closed}
+use Rattle.socket.specs.Write.{wrote, pairWritten}
 use Rattle.syscall.specs.Control.{dispositionOf, userDisposeAnswer, userShutdownAnswer}
 use Rattle.syscall.specs.Memory.{fits, countFits, isNull, lookup, littleEndian, countLanded}
 use Rattle.syscall.specs.Read.{userReadAnswer, bytesLanded}
@@ -67,7 +73,7 @@ shownLines x os = lineOf x [] ∷ map (λ (o : Outcome). lineOf (o .seen) (o .de
 
 -- the lines of a run, computed. To unfold it is to unfold all that a call computes with.
 unfoldable pub linesOf : Create → (one two : Slices) → List Input → List Line
-unfolding recordOf statusNumber recordCount answerWord countOf isDone refuseIf refuseUnless _then_ pick _and_ _or_ place front put filter firedOf insertedOf appendedOf registeredOf takenOf droppedOf changeOf changedWord meets packetsOf waitsOf unusedOf tableOf newPlaces waitOf observe packetOf fires fired kept ofOther others enables hasBacklog hasOpenBacklog enablesOver disposeChecks newEnd noEnd withQueue withSignals withReadDisabled withThresholds closedEnd shown unlessClosed infoOf noQueue soundLengths soundQueue shortTable shortSlices hasLength firstLength badFirst emptyAnswer availableIn readSize lostByReader gainedByWriter datagramSize writeSize reached missed bitIf gainedByPeer lostByWriter numbersAnswer createAnswer disposeAnswer switchWriting disposeOwn disposePeer disposedOwn disposedPeer disposed shutdownAnswer shutEnd shut infoAnswer isHandle withEnd withPlaces withChange signalChange putBit switchReading newPair noPair readAnswer leaving drainedQueue consumed pairRead bufferRead soundPair soundTest lentOf slicesTest tableTest isOpen handleTest openingTest readThresholdAnswer writeThresholdAnswer readThresholdSet writeThresholdSet thresholdsAnswer waitAnswer waited takeAnswer took closeAnswer closed writeAnswer fedQueue wrote pairWritten ringFed ringWritten tableFed tableWritten dispositionOf userDisposeAnswer userShutdownAnswer fits countFits isNull lookup littleEndian countLanded userReadAnswer bytesLanded writeRanges userWriteAnswer controlAnswer answerTo controlled pairAfter written stateAfter landed counted deliveredIn after outcome outcomes pairCreated
+unfolding recordOf statusNumber recordCount answerWord countOf isDone refuseIf refuseUnless _then_ pick _and_ _or_ place front put filter firedOf insertedOf appendedOf registeredOf takenOf droppedOf changeOf changedWord meets packetsOf waitsOf unusedOf tableOf newPlaces waitOf observe packetOf fires fired kept ofOther others enables hasBacklog hasOpenBacklog enablesOver disposeChecks newEnd noEnd withQueue withSignals withReadDisabled withThresholds closedEnd shown unlessClosed infoOf noQueue soundLengths soundQueue shortTable shortSlices hasLength firstLength badFirst emptyAnswer availableIn readSize lostByReader gainedByWriter datagramSize writeSize reached missed bitIf gainedByPeer lostByWriter numbersAnswer createAnswer disposeAnswer switchWriting disposeOwn disposePeer disposedOwn disposedPeer disposed shutdownAnswer shutEnd shut infoAnswer isHandle withEnd withPlaces withChange signalChange putBit switchReading newPair noPair readAnswer leaving drainedQueue consumed pairRead bufferRead soundEnds soundTest lentOf slicesTest tableTest isOpen handleTest openingTest readThresholdAnswer writeThresholdAnswer readThresholdSet writeThresholdSet thresholdsAnswer waitAnswer waited takeAnswer took closeAnswer closed writeAnswer fedQueue wrote pairWritten ringFed ringWritten tableFed tableWritten dispositionOf userDisposeAnswer userShutdownAnswer fits countFits isNull lookup littleEndian countLanded userReadAnswer bytesLanded writeRanges userWriteAnswer controlAnswer answerTo controlled pairAfter written stateAfter landed counted deliveredIn after outcome outcomes pairCreated
 linesOf c one two is = shownLines (seenOf (createdBy c one two) (pairCreated c (createdBy c one two))) (outcomes (start c one two) is)
 
 -- the answer word of one call, computed

@@ -8,10 +8,10 @@ use lib.Dec.{eqb}
 use Rattle.status.specs.declared.Answer.{Answer}
 use Rattle.status.specs.Answer.{countOf}
 use Rattle.endpoint.specs.declared.Disposition.{Disposition}
+use Rattle.ends.specs.Create.{createAnswer}
 use Rattle.socket.specs.declared.Step.{Step}
 use Rattle.socket.specs.Pair.{isOne, own, newPair, noPair}
 use Rattle.socket.specs.Tests.{lentOf, Steps}
-use Rattle.socket.specs.Create.{createAnswer}
 use Rattle.socket.specs.Write.{Wrote}
 use Rattle.socket.specs.Read.{Read}
 use Rattle.socket.specs.Threshold.{readThresholdAnswer, readThresholdSet, writeThresholdAnswer, writeThresholdSet, thresholdsAnswer}

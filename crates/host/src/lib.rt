@@ -4,9 +4,9 @@ use socket::Pair;
 ghost use mathlib.Core.Path.{_≡_};
 ghost use lib.ListN.{length};
 ghost use lib.Dec.{eqb};
+ghost use Rattle.ends.specs.Create.{createAnswer};
 ghost use Rattle.socket.specs.Pair.{isOne, newPair, noPair, shownBy};
 ghost use Rattle.socket.specs.Tests.{Steps};
-ghost use Rattle.socket.specs.Create.{createAnswer};
 ghost use Rattle.socket.specs.Write.{Wrote};
 ghost use Rattle.socket.specs.Read.{Read};
 ghost use Rattle.socket.specs.Disposition.{disposeAnswer, disposed, shutdownAnswer, shut};
@@ -21,37 +21,82 @@ mod values;
 
 // A new pair over the rings and tables of its two ends. Where it is refused, the record left answers −1 to every call.
 #[no_mangle]
-pub extern "C" fn murgwethan_create(p: &mut Pair, kind: u32, capacity: u32, rights_one: u32, rights_two: u32, ring_one: &[u8], table_one: &[u32], ring_two: &[u8], table_two: &[u32]) -> i64
+pub extern "C" fn murgwethan_create(
+    p: &mut Pair,
+    kind: u32,
+    capacity: u32,
+    rights_one: u32,
+    rights_two: u32,
+    ring_one: &[u8],
+    table_one: &[u32],
+    ring_two: &[u8],
+    table_two: &[u32],
+) -> i64
     ensures { λ w. ⌜ Answered (Steps noPair (createAnswer kind capacity «rights_one» «rights_two» (length (now («ring_one» .entry))) (length (now («table_one» .entry))) (length (now («ring_two» .entry))) (length (now («table_two» .entry)))) (newPair (eqb kind 1) capacity «rights_one» «rights_two»)) (now (p .exit)) w ⌝ }
 {
-    let r = Pair::create(kind, capacity, rights_one, rights_two, ring_one, table_one, ring_two, table_two);
+    let r = Pair::create(
+        kind,
+        capacity,
+        rights_one,
+        rights_two,
+        ring_one,
+        table_one,
+        ring_two,
+        table_two,
+    );
     *p = r.pair;
     status::word(r.answer)
 }
 
 // Writes to the peer's queue. The ring and the table are the peer's.
 #[no_mangle]
-pub extern "C" fn murgwethan_write(p: &mut Pair, handle: u32, ring: &mut [u8], table: &mut [u32], bytes: &[u8]) -> i64
+pub extern "C" fn murgwethan_write(
+    p: &mut Pair,
+    handle: u32,
+    ring: &mut [u8],
+    table: &mut [u32],
+    bytes: &[u8],
+) -> i64
     ensures { λ w. ⌜ Answered (Wrote (now (p .entry)) handle (now (bytes .entry)) (now (ring .entry)) (now (ring .exit)) (now (table .entry)) (now (table .exit))) (now (p .exit)) w ⌝ }
 {
-    let r = Pair::write(*p, handle, ring, table, bytes);
-    *p = r.pair;
-    status::word(r.answer)
+    let r = ends::write_ends(socket::ends_of(*p), handle, ring, table, bytes);
+    *p = socket::with_outcome(*p, r);
+    let w = status::word(r.answer);
+    if r.fires {
+        *p = socket::visit(*p, r.visits);
+    }
+    w
 }
 
 // Reads the front of the own queue into the buffer. The ring and the table are the reader's. A peek leaves the bytes in the queue.
 #[no_mangle]
-pub extern "C" fn murgwethan_read(p: &mut Pair, handle: u32, peek: bool, ring: &[u8], table: &[u32], buffer: &mut [u8]) -> i64
+pub extern "C" fn murgwethan_read(
+    p: &mut Pair,
+    handle: u32,
+    peek: bool,
+    ring: &[u8],
+    table: &[u32],
+    buffer: &mut [u8],
+) -> i64
     ensures { λ w. ⌜ Answered (Read (now (p .entry)) handle peek (now (ring .entry)) (now (table .entry)) (now (buffer .entry)) (now (buffer .exit))) (now (p .exit)) w ⌝ }
 {
-    let r = Pair::read(*p, handle, peek, ring, table, buffer);
-    *p = r.pair;
-    status::word(r.answer)
+    let r = ends::read_ends(socket::ends_of(*p), handle, peek, ring, table, buffer);
+    *p = socket::with_outcome(*p, r);
+    let w = status::word(r.answer);
+    if r.fires {
+        *p = socket::visit(*p, r.visits);
+    }
+    w
 }
 
 // Disables or enables the writing of an end and of its peer: 1 disables, 2 enables, any other number changes nothing. No right is asked.
 #[no_mangle]
-pub extern "C" fn murgwethan_set_disposition(p: &mut Pair, handle: u32, disposition: u32, peer_disposition: u32) -> i64
+pub extern "C" fn murgwethan_set_disposition(
+    p: &mut Pair,
+    handle: u32,
+    disposition: u32,
+    peer_disposition: u32,
+) -> i64
     ensures { λ w. ⌜ Answered (Steps (now (p .entry)) (disposeAnswer (now (p .entry)) handle (dispositionOf disposition) (dispositionOf «peer_disposition»)) (disposed (isOne handle) (dispositionOf disposition) (dispositionOf «peer_disposition») (now (p .entry)))) (now (p .exit)) w ⌝ }
 {
     let r = values::dispose(*p, handle, disposition, peer_disposition);

@@ -22,7 +22,12 @@ pub extern "C" fn murgwethan_thresholds(p: &mut Pair, handle: u32, out: &mut [u6
 
 // Options, capacity, queued, available, the peer's capacity and queued. The table is the own one; only datagram pairs look at it.
 #[no_mangle]
-pub extern "C" fn murgwethan_info(p: &mut Pair, handle: u32, table: &[u32], out: &mut [u64; 6]) -> i64
+pub extern "C" fn murgwethan_info(
+    p: &mut Pair,
+    handle: u32,
+    table: &[u32],
+    out: &mut [u64; 6],
+) -> i64
     ensures { λ w. ⌜ Answered (Recorded infoNumbers (now (p .entry)) (infoAnswer (now (p .entry)) (lentOf ((now (p .entry)) .datagram) (own (isOne handle) (now (p .entry)) .queue) [] (now (table .entry))) handle) (now (p .entry)) (now (out .entry)) (now (out .exit))) (now (p .exit)) w ⌝ }
 {
     let a = values::info(*p, handle, table, out);

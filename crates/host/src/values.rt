@@ -79,7 +79,14 @@ fn put_info(a: Answer, out: &mut [u64; 6])
             Record::Empty => {}
             Record::Count(_) => {}
             Record::Info(i) => {
-                *out = [i.options as u64, i.rx_buf_max, i.rx_buf_size, i.rx_buf_available, i.tx_buf_max, i.tx_buf_size];
+                *out = [
+                    i.options as u64,
+                    i.rx_buf_max,
+                    i.rx_buf_size,
+                    i.rx_buf_available,
+                    i.tx_buf_max,
+                    i.tx_buf_size,
+                ];
             }
             Record::Limits(_) => {}
             Record::Packet(_) => {}
@@ -99,7 +106,13 @@ fn put_packet(a: Answer, out: &mut [u64; 5])
             Record::Info(_) => {}
             Record::Limits(_) => {}
             Record::Packet(k) => {
-                *out = [k.key, k.trigger as u64, k.observed as u64, k.count, k.timestamp];
+                *out = [
+                    k.key,
+                    k.trigger as u64,
+                    k.observed as u64,
+                    k.count,
+                    k.timestamp,
+                ];
             }
         },
         Answer::Refused(_) => {}

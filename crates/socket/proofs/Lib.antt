@@ -1,4 +1,3 @@
 pub mod Steps
-pub mod Sound
-pub mod Moved
-pub mod Calls
+pub mod Visiting
+pub mod Settled

@@ -4,21 +4,20 @@ use mathlib.Core.Bool.{Bool, true, false, not}
 use lib.Bits.{bitOr}
 use Rattle.status.specs.declared.Answer.{Answer}
 use Rattle.status.specs.Choice.{pick}
-use Rattle.status.specs.Answer.{_then_}
 use Rattle.port.specs.Signal.{WRITABLE, «WRITE_DISABLED», «PEER_WRITE_DISABLED»}
 use Rattle.endpoint.specs.declared.Disposition.{Disposition}
 use Rattle.endpoint.specs.declared.Disposition.the-variants.{Unchanged, Disable, Enable}
 use Rattle.endpoint.specs.Write.{bitIf}
-use Rattle.endpoint.specs.Disposition.{disposeChecks}
+use Rattle.ends.specs.Disposition as E
 use Rattle.socket.specs.declared.Pair.{Pair}
-use Rattle.socket.specs.Pair.{isOne, own, peer, signalChange, putBit, switchReading}
+use Rattle.socket.specs.Pair.{endsOf, peer, signalChange, putBit, switchReading}
 use Rattle.socket.specs.Tests.{openingTest}
 
 -- ---- disposition
 
 -- both checks come before any change
-unfoldable pub disposeAnswer : Pair → (h : ℕ) → (disposition peerDisposition : Disposition) → Answer
-disposeAnswer p h a b = openingTest p h then disposeChecks (own (isOne h) p) (peer (isOne h) p) a b
+abbrev pub disposeAnswer : Pair → (h : ℕ) → (disposition peerDisposition : Disposition) → Answer
+disposeAnswer p h a b = E.disposeAnswer (endsOf p) h a b
 
 -- the writing of end t: disabled, it loses WRITABLE and gains WRITE_DISABLED; enabled, the reverse
 unfoldable pub switchWriting : Bool → (off : Bool) → Pair → Pair

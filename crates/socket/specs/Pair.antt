@@ -3,8 +3,7 @@
 -- An end is named by a Bool throughout: true is end 1, false is end 2. `own t p` is that end, `peer t p` the other.
 use Prim.Native.Nat.{ℕ}
 use mathlib.Core.Bool.{Bool, true, false, not}
-use lib.Dec.{eqb}
-use Rattle.status.specs.Choice.{pick, _or_}
+use Rattle.status.specs.Choice.{pick}
 use Rattle.port.specs.declared.Places.{Places}
 use Rattle.port.specs.declared.Change.{Change}
 use Rattle.port.specs.Table.{newPlaces}
@@ -14,23 +13,29 @@ use Rattle.endpoint.specs.declared.SignalWord.{SignalWord}
 use Rattle.endpoint.specs.declared.SignalWord.the-variants.{Closed}
 use Rattle.endpoint.specs.Endpoint.{newEnd, noEnd, withSignals, withReadDisabled, shown}
 use Rattle.endpoint.specs.Write.{bitIf}
+use Rattle.ends.specs.declared.Ends.{Ends}
+use Rattle.ends.specs.Ends as E
 use Rattle.socket.specs.declared.Pair.{Pair}
+pub use Rattle.ends.specs.Ends.{isOne}
+unfoldable pub use Rattle.ends.specs.Ends.{isHandle}
 
--- handle 1 is end 1
-abbrev pub isOne : ℕ → Bool
-isOne h = eqb h 1
-
--- 01 "Status and answer word": other handles name no end
-unfoldable pub isHandle : ℕ → Bool
-isHandle h = eqb h 1 or eqb h 2
+-- the pair without its table of places, of which every answer is made
+abbrev pub endsOf : Pair → Ends
+endsOf p =
+    record {
+      datagram = p .datagram;
+      capacity = p .capacity;
+      packets = p .places .packets;
+      waits = p .places .waits;
+      one = p .one;
+      two = p .two;
+    }
 
 abbrev pub own : Bool → Pair → Endpoint
-own true p = p .one
-own false p = p .two
+own t p = E.own t (endsOf p)
 
 abbrev pub peer : Bool → Pair → Endpoint
-peer true p = p .two
-peer false p = p .one
+peer t p = E.peer t (endsOf p)
 
 -- the pair with one end put anew
 unfoldable pub withEnd : Bool → Endpoint → Pair → Pair

@@ -1,47 +1,26 @@
 -- Read and peek. 01 "Delivered bytes", read.
-use Prim.Native.Nat.{ℕ, _-_, _≤_, _<_}
+use Prim.Native.Nat.{ℕ, _-_}
 use mathlib.Core.Path.{_≡_}
-use mathlib.Core.Bool.{Bool, true, not}
+use mathlib.Core.Bool.{Bool, not}
 use mathlib.Core.List.{List}
 use lib.ListN.{length}
 use lib.Dec.{eqb}
-use lib.Seq.{paste}
 use Rattle.status.specs.declared.Answer.{Answer}
 use Rattle.status.specs.Choice.{pick, _or_}
-use Rattle.status.specs.Answer.{_then_, countOf}
-use Rattle.ring.specs.Ring.{place, front}
-use Rattle.endpoint.specs.declared.Queue.{Queue}
+use Rattle.status.specs.Answer.{countOf}
 use Rattle.endpoint.specs.Queue.{firstLength}
 use Rattle.endpoint.specs.Endpoint.{withQueue}
-use Rattle.endpoint.specs.Read.{readSize, lostByReader, gainedByWriter}
+use Rattle.endpoint.specs.Read.{lostByReader, gainedByWriter}
+use Rattle.ends.specs.Tests.{Lent, lentOf}
+use Rattle.ends.specs.Read.{leaving, drainedQueue}
+use Rattle.ends.specs.Read as E
 use Rattle.socket.specs.declared.Pair.{Pair}
 use Rattle.socket.specs.declared.Step.{Step}
-use Rattle.socket.specs.Pair.{isOne, own, peer, withEnd, signalChange}
-use Rattle.socket.specs.Tests.{soundTest, Lent, lentOf, slicesTest, handleTest}
+use Rattle.socket.specs.Pair.{isOne, endsOf, own, peer, withEnd, signalChange}
 
 -- the answer; a read is lent the slices of its own end
-unfoldable pub readAnswer : Pair → Lent → (h n : ℕ) → Answer
-readAnswer p z h n =
-    soundTest p
-    then slicesTest (p .datagram) (p .capacity) h (own (isOne h) p .queue) z
-    then handleTest p h
-    then readSize (p .datagram) (own (isOne h) p) (peer (isOne h) p) (z .first) n
-
--- the bytes that leave the queue where k are delivered: on datagram pairs the whole first datagram, its tail with it
-unfoldable pub leaving : Bool → (first k : ℕ) → ℕ
-leaving datagram first k = pick datagram first k
-
--- the queue after n bytes left it, on datagram pairs with their length
-unfoldable pub drainedQueue : Bool → (C n : ℕ) → Queue → Queue
-drainedQueue datagram C n q =
-    record {
-      bytes = record { start = place C (q .bytes .start) n; count = q .bytes .count - n };
-      lengths =
-          record {
-            start = pick datagram (place C (q .lengths .start) 1) (q .lengths .start);
-            count = pick datagram (q .lengths .count - 1) (q .lengths .count);
-          };
-    }
+abbrev pub readAnswer : Pair → Lent → (h n : ℕ) → Answer
+readAnswer p z h n = E.readAnswer (endsOf p) z h n
 
 -- the pair after n bytes, more than 0, left the queue of end t: the queue, then the reader's change, then an open peer's
 unfoldable pub consumed : Bool → (n : ℕ) → Pair → Pair
@@ -57,19 +36,9 @@ consumed t n p =
 unfoldable pub pairRead : Pair → (h : ℕ) → (peek : Bool) → (first k : ℕ) → Pair
 pairRead p h peek first k = pick (peek or eqb k 0) p (consumed (isOne h) (leaving (p .datagram) first k) p)
 
--- the buffer: the front bytes of the queue land at its start
-unfoldable pub bufferRead : Pair → (h k : ℕ) → (ring buffer : List ℕ) → List ℕ
-bufferRead p h k ring buffer =
-    pick (eqb k 0) buffer (paste buffer 0 (front (p .capacity) (own (isOne h) p .queue .bytes .start) k ring) k)
-
--- what the code that takes n bytes out of a queue relies on; an answer above 0 shows it
-pub record Drain (datagram : Bool) (C n : ℕ) (q : Queue) : Type 0 where
-  pub small : C ≤ 262144
-  pub start : q .bytes .start < C
-  pub queued : q .bytes .count ≤ C
-  pub within : n ≤ q .bytes .count
-  pub first : q .lengths .start < C
-  pub lengths : datagram ≡ true → 0 < q .lengths .count
+-- the buffer, by the count of the answer: the front bytes of the queue land at its start
+abbrev pub bufferRead : Pair → (h k : ℕ) → (ring buffer : List ℕ) → List ℕ
+bufferRead p h k ring buffer = E.bufferRead (endsOf p) h k ring buffer
 
 -- A read or a peek by the end of handle h into a buffer; ring and table are its own and stay as they are.
 pub record Read (p : Pair) (h : ℕ) (peek : Bool) (ring table buffer buffer′ : List ℕ) (r : Step) : Type 0 where

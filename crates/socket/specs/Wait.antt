@@ -2,27 +2,25 @@
 use Prim.Native.Nat.{ℕ}
 use mathlib.Core.Bool.{Bool, not}
 use lib.ListN.{getD}
-use lib.Dec.{ltb, eqb}
-use Rattle.status.specs.declared.Status.the-variants.{InvalidArgs, NoResources, ShouldWait}
+use lib.Dec.{eqb}
+use Rattle.status.specs.declared.Status.the-variants.{ShouldWait}
 use Rattle.status.specs.declared.Record.the-variants.{Packet}
 use Rattle.status.specs.declared.Answer.{Answer}
 use Rattle.status.specs.declared.Answer.the-variants.{Done}
 use Rattle.status.specs.Choice.{pick}
 use Rattle.status.specs.Answer.{refuseIf, _then_}
 use Rattle.port.specs.Signal.{WRITABLE, «PEER_CLOSED»}
-use Rattle.port.specs.Table.{free, used, packetsOf, packetOf, waitOf}
+use Rattle.port.specs.Table.{free, packetsOf, packetOf, waitOf}
 use Rattle.port.specs.Port.{registeredOf, takenOf, droppedOf}
 use Rattle.endpoint.specs.Endpoint.{closedEnd}
+use Rattle.ends.specs.Wait as E
 use Rattle.socket.specs.declared.Pair.{Pair}
-use Rattle.socket.specs.Pair.{isOne, own, peer, withEnd, withPlaces, signalChange}
+use Rattle.socket.specs.Pair.{endsOf, own, peer, withEnd, withPlaces, signalChange}
 use Rattle.socket.specs.Tests.{soundTest, openingTest}
 
 -- 01 "Signal word and packets": the edge byte is 0 or 1; −3 means exactly that all 128 places are used
-unfoldable pub waitAnswer : Pair → (h edge : ℕ) → Answer
-waitAnswer p h edge =
-    openingTest p h
-    then refuseIf (ltb 1 edge) InvalidArgs
-    then refuseIf (eqb (used (p .places)) 128) NoResources
+abbrev pub waitAnswer : Pair → (h edge : ℕ) → Answer
+waitAnswer p h edge = E.waitAnswer (endsOf p) h edge
 
 -- 01 "Signal word and packets": the wait is tested at once against the end's present word, unless edge is 1
 unfoldable pub waited : Bool → (key mask edge : ℕ) → Pair → Pair

@@ -1,8 +1,7 @@
 // Close.
 use crate::Pair;
 use crate::Step;
-use crate::ends;
-use crate::tests;
+use crate::parts;
 use port::PEER_CLOSED;
 use port::WRITABLE;
 ghost use mathlib.Core.Path.{_≡_};
@@ -17,15 +16,15 @@ fn closed_pair(p: Pair, one: bool) -> Pair
     requires { ⌜ sound (p .places) ≡ true ⌝ }
     ensures { λ r. ⌜ r ≡ closed one p ⌝ }
 {
-    let own = ends::own(p, one);
-    let peer = ends::peer(p, one);
+    let own = parts::own(p, one);
+    let peer = parts::peer(p, one);
     let places = p.places;
     let left = places.drop_waits(one);
-    let next = ends::with_places(ends::with_end(p, one, own.into_closed()), left.places);
+    let next = parts::with_places(parts::with_end(p, one, own.into_closed()), left.places);
     if peer.closed {
         return next;
     }
-    ends::signal_change(next, !one, WRITABLE, PEER_CLOSED)
+    parts::signal_change(next, !one, WRITABLE, PEER_CLOSED)
 }
 
 impl Pair {
@@ -33,7 +32,7 @@ impl Pair {
     pub fn close(self, handle: u32) -> Step
         ensures { λ r. ⌜ Steps self (closeAnswer self handle) (closed (isOne handle) self) r ⌝ }
     {
-        let a = tests::opening_test(self, handle);
+        let a = ends::opening_test(parts::ends_of(self), handle);
         if !status::is_done(a) {
             return Step {
                 pair: self,

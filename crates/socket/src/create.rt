@@ -2,64 +2,13 @@
 use crate::Pair;
 use crate::Step;
 use endpoint::Endpoint;
-use endpoint::short_slices;
 use port::Places;
-use status::Answer;
-use status::Record;
-use status::Status;
 ghost use mathlib.Core.Path.{_≡_};
 ghost use lib.ListN.{length};
 ghost use lib.Dec.{eqb};
+ghost use Rattle.ends.specs.Create.{createAnswer};
 ghost use Rattle.socket.specs.Pair.{newPair, noPair};
 ghost use Rattle.socket.specs.Tests.{Steps};
-ghost use Rattle.socket.specs.Create.{numbersAnswer, createAnswer};
-
-// The numbers of create: kind, capacity, rights.
-fn numbers_answer(kind: u32, capacity: u32, rights_one: u32, rights_two: u32) -> Answer
-    ensures { λ r. ⌜ r ≡ numbersAnswer kind capacity «rights_one» «rights_two» ⌝ }
-{
-    if 1 < kind {
-        return Answer::Refused(Status::InvalidArgs);
-    }
-    if capacity == 0 {
-        return Answer::Refused(Status::InvalidArgs);
-    }
-    if 262144 < capacity {
-        return Answer::Refused(Status::InvalidArgs);
-    }
-    if 7 < rights_one {
-        return Answer::Refused(Status::InvalidArgs);
-    }
-    if 7 < rights_two {
-        return Answer::Refused(Status::InvalidArgs);
-    }
-    Answer::Done(Record::Empty)
-}
-
-fn create_answer(
-    kind: u32,
-    capacity: u32,
-    rights_one: u32,
-    rights_two: u32,
-    ring_one: usize,
-    table_one: usize,
-    ring_two: usize,
-    table_two: usize,
-) -> Answer
-    ensures { λ r. ⌜ r ≡ createAnswer kind capacity «rights_one» «rights_two» «ring_one» «table_one» «ring_two» «table_two» ⌝ }
-{
-    let a = numbers_answer(kind, capacity, rights_one, rights_two);
-    if !status::is_done(a) {
-        return a;
-    }
-    if short_slices(kind == 1, capacity, ring_one, table_one) {
-        return Answer::Refused(Status::InvalidArgs);
-    }
-    if short_slices(kind == 1, capacity, ring_two, table_two) {
-        return Answer::Refused(Status::InvalidArgs);
-    }
-    Answer::Done(Record::Empty)
-}
 
 fn new_pair(datagram: bool, capacity: u32, rights_one: u32, rights_two: u32) -> Pair
     ensures { λ r. ⌜ r ≡ newPair datagram capacity «rights_one» «rights_two» ⌝ }
@@ -99,7 +48,7 @@ impl Pair {
     ) -> Step
         ensures { λ r. ⌜ Steps noPair (createAnswer kind capacity «rights_one» «rights_two» (length (now («ring_one» .entry))) (length (now («table_one» .entry))) (length (now («ring_two» .entry))) (length (now («table_two» .entry)))) (newPair (eqb kind 1) capacity «rights_one» «rights_two») r ⌝ }
     {
-        let a = create_answer(
+        let a = ends::create_answer(
             kind,
             capacity,
             rights_one,

@@ -1,57 +1,37 @@
 // Disposition: whether each end may write.
 use crate::Pair;
 use crate::Step;
-use crate::ends;
-use crate::tests;
+use crate::parts;
 use endpoint::Disposition;
-use endpoint::dispose_checks;
 use port::PEER_WRITE_DISABLED;
 use port::WRITABLE;
 use port::WRITE_DISABLED;
-use status::Answer;
 ghost use mathlib.Core.Path.{_≡_};
 ghost use Rattle.socket.specs.Pair.{isOne};
 ghost use Rattle.socket.specs.Tests.{Steps};
 ghost use Rattle.socket.specs.Disposition.{disposeAnswer, switchWriting, disposeOwn, disposePeer, disposedOwn, disposedPeer, disposed};
-
-fn dispose_answer(
-    p: Pair,
-    handle: u32,
-    disposition: Disposition,
-    peer_disposition: Disposition,
-) -> Answer
-    ensures { λ r. ⌜ r ≡ disposeAnswer p handle disposition «peer_disposition» ⌝ }
-{
-    let a = tests::opening_test(p, handle);
-    if !status::is_done(a) {
-        return a;
-    }
-    let own = ends::own(p, handle == 1);
-    let peer = ends::peer(p, handle == 1);
-    dispose_checks(own, peer, disposition, peer_disposition)
-}
 
 // The writing of an end, disabled or enabled.
 fn switch_writing(p: Pair, one: bool, off: bool) -> Pair
     ensures { λ r. ⌜ r ≡ switchWriting one off p ⌝ }
 {
     if off {
-        return ends::signal_change(p, one, WRITABLE, WRITE_DISABLED);
+        return parts::signal_change(p, one, WRITABLE, WRITE_DISABLED);
     }
-    ends::signal_change(p, one, WRITE_DISABLED, WRITABLE)
+    parts::signal_change(p, one, WRITE_DISABLED, WRITABLE)
 }
 
 // The writing of this end; an open peer is told.
 fn dispose_own(p: Pair, one: bool, off: bool) -> Pair
     ensures { λ r. ⌜ r ≡ disposeOwn one off p ⌝ }
 {
-    let peer = ends::peer(p, one);
+    let peer = parts::peer(p, one);
     let next = switch_writing(p, one, off);
     if peer.closed {
         return next;
     }
-    ends::put_bit(
-        ends::switch_reading(next, !one, off),
+    parts::put_bit(
+        parts::switch_reading(next, !one, off),
         !one,
         off,
         PEER_WRITE_DISABLED,
@@ -62,12 +42,12 @@ fn dispose_own(p: Pair, one: bool, off: bool) -> Pair
 fn dispose_peer(p: Pair, one: bool, off: bool) -> Pair
     ensures { λ r. ⌜ r ≡ disposePeer one off p ⌝ }
 {
-    let peer = ends::peer(p, one);
-    let next = ends::switch_reading(p, one, off);
+    let peer = parts::peer(p, one);
+    let next = parts::switch_reading(p, one, off);
     if peer.closed {
         return next;
     }
-    ends::put_bit(
+    parts::put_bit(
         switch_writing(next, !one, off),
         one,
         off,
@@ -105,7 +85,7 @@ impl Pair {
     ) -> Step
         ensures { λ r. ⌜ Steps self (disposeAnswer self handle disposition «peer_disposition») (disposed (isOne handle) disposition «peer_disposition» self) r ⌝ }
     {
-        let a = dispose_answer(self, handle, disposition, peer_disposition);
+        let a = ends::dispose_answer(parts::ends_of(self), handle, disposition, peer_disposition);
         if !status::is_done(a) {
             return Step {
                 pair: self,

@@ -1,43 +1,11 @@
 // Info.
 use crate::Pair;
 use crate::Step;
-use crate::ends;
-use crate::tests;
-use endpoint::get_info;
-use status::Answer;
-use status::Record;
-ghost use mathlib.Core.Path.{_≡_};
+use crate::parts;
 ghost use mathlib.Core.List.{[]};
 ghost use Rattle.socket.specs.Pair.{isOne, own};
 ghost use Rattle.socket.specs.Tests.{lentOf, Steps};
 ghost use Rattle.socket.specs.Info.{infoAnswer};
-
-fn info_answer(p: Pair, handle: u32, table: &[u32]) -> Answer
-    ensures { λ r. ⌜ r ≡ infoAnswer p (lentOf (p .datagram) (own (isOne handle) p .queue) [] (now (table .entry))) handle ⌝ }
-{
-    let sound = tests::sound_test(p);
-    if !status::is_done(sound) {
-        return sound;
-    }
-    let own = ends::own(p, handle == 1);
-    let q = own.queue;
-    let lent = tests::table_test(p.datagram, p.capacity, handle, q, table);
-    if !status::is_done(lent) {
-        return lent;
-    }
-    let opened = tests::handle_test(p, handle);
-    if !status::is_done(opened) {
-        return opened;
-    }
-    let first = q.first_length(p.datagram, table);
-    Answer::Done(Record::Info(get_info(
-        p.datagram,
-        p.capacity,
-        own,
-        ends::peer(p, handle == 1),
-        first,
-    )))
-}
 
 impl Pair {
     // What an end says of its queue and its peer's. The table is its own; only datagram pairs look at it.
@@ -46,7 +14,7 @@ impl Pair {
     {
         Step {
             pair: self,
-            answer: info_answer(self, handle, table),
+            answer: ends::info_answer(parts::ends_of(self), handle, table),
         }
     }
 }

@@ -7,21 +7,20 @@ use status::Answer;
 
 mod close;
 mod create;
+mod deferred;
 mod disposition;
-mod ends;
 mod info;
+mod parts;
 mod read;
 mod shutdown;
-mod tests;
 mod threshold;
 mod wait;
 mod write;
 
-pub use ends::own;
-pub use ends::peer;
-pub use tests::handle_test;
-pub use tests::slices_test;
-pub use tests::sound_test;
+pub use deferred::settle;
+pub use deferred::visit;
+pub use deferred::with_outcome;
+pub use parts::ends_of;
 
 // Both ends of a pair, and the places of its waits and packets. It holds no byte that was written.
 #[repr(C)]

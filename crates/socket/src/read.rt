@@ -1,102 +1,9 @@
 // Read and peek.
 use crate::Pair;
 use crate::Step;
-use crate::ends;
-use crate::tests;
-use endpoint::Endpoint;
-use endpoint::Queue;
-use endpoint::Span;
-use endpoint::gained_by_writer;
-use endpoint::lost_by_reader;
-use endpoint::read_size;
-use status::Answer;
-ghost use mathlib.Core.Path.{_≡_};
-ghost use mathlib.Core.Bool.{true};
-ghost use Prim.Native.Nat.{_+_, _≤_, _<_, _^_};
-ghost use lib.ListN.{length};
-ghost use lib.Seq.{paste};
-ghost use Rattle.ring.specs.Ring.{front};
-ghost use Rattle.socket.specs.Pair.{isOne, own};
-ghost use Rattle.socket.specs.Tests.{lentOf};
-ghost use Rattle.socket.specs.Read.{readAnswer, leaving, Drain, drainedQueue, consumed, Read};
-
-fn read_answer(p: Pair, handle: u32, ring: &[u8], table: &[u32], n: usize) -> Answer
-    ensures { λ r. ⌜ r ≡ readAnswer p (lentOf (p .datagram) (own (isOne handle) p .queue) (now (ring .entry)) (now (table .entry))) handle n ⌝ }
-{
-    let sound = tests::sound_test(p);
-    if !status::is_done(sound) {
-        return sound;
-    }
-    let from = ends::own(p, handle == 1);
-    let q = from.queue;
-    let lent = tests::slices_test(p.datagram, p.capacity, handle, q, ring, table);
-    if !status::is_done(lent) {
-        return lent;
-    }
-    let opened = tests::handle_test(p, handle);
-    if !status::is_done(opened) {
-        return opened;
-    }
-    let first = q.first_length(p.datagram, table);
-    read_size(p.datagram, from, ends::peer(p, handle == 1), first, n)
-}
-
-// The bytes that leave the queue: a datagram leaves whole.
-fn leaving_of(datagram: bool, first: u32, k: u32) -> u32
-    ensures { λ r. ⌜ r ≡ leaving datagram first k ⌝ }
-{
-    if datagram {
-        return first;
-    }
-    k
-}
-
-// The queue after n bytes left it.
-fn drained_queue(datagram: bool, capacity: u32, n: u32, q: Queue) -> Queue
-    requires { ⌜ Drain datagram capacity n q ⌝ }
-    ensures { λ r. ⌜ r ≡ drainedQueue datagram capacity n q ⌝ }
-{
-    let start = ring::place(capacity as usize, q.bytes.start as usize, n as usize);
-    let bytes = Span {
-        start: start as u32,
-        count: q.bytes.count - n,
-    };
-    if datagram {
-        let next = ring::place(capacity as usize, q.lengths.start as usize, 1);
-        let fewer = Span {
-            start: next as u32,
-            count: q.lengths.count - 1,
-        };
-        return Queue {
-            bytes,
-            lengths: fewer,
-        };
-    }
-    let lengths = q.lengths;
-    Queue { bytes, lengths }
-}
-
-// The pair after n bytes left the queue. The reader's change comes before the peer's, so its packets do.
-fn consumed_pair(p: Pair, one: bool, n: u32) -> Pair
-    requires { ⌜ Drain (p .datagram) (p .capacity) n (own one p .queue) ⌝ }
-    ensures { λ r. ⌜ r ≡ consumed one n p ⌝ }
-{
-    let from = ends::own(p, one);
-    let to = ends::peer(p, one);
-    let q = from.queue;
-    let queued = q.bytes.count - n;
-    let drained = ends::with_end(
-        p,
-        one,
-        from.with_queue(drained_queue(p.datagram, p.capacity, n, q)),
-    );
-    let told = ends::signal_change(drained, one, lost_by_reader(from, queued), 0);
-    if to.closed {
-        return told;
-    }
-    let gained = gained_by_writer(to, p.capacity - queued, q.bytes.count == p.capacity);
-    ends::signal_change(told, !one, 0, gained)
-}
+use crate::deferred;
+use crate::parts;
+ghost use Rattle.socket.specs.Read.{Read};
 
 impl Pair {
     // Reads the front of the own queue into the buffer. The ring and the table are the reader's. A peek leaves the bytes in the queue.
@@ -110,33 +17,7 @@ impl Pair {
     ) -> Step
         ensures { λ r. ⌜ Read self handle peek (now (ring .entry)) (now (table .entry)) (now (buffer .entry)) (now (buffer .exit)) r ⌝ }
     {
-        let a = read_answer(self, handle, ring, table, buffer.len());
-        let k = status::count_of(a);
-        if k == 0 {
-            return Step {
-                pair: self,
-                answer: a,
-            };
-        }
-        let from = ends::own(self, handle == 1);
-        let q = from.queue;
-        ring::copy_out(
-            ring,
-            self.capacity as usize,
-            q.bytes.start as usize,
-            k as usize,
-            buffer,
-        );
-        if peek {
-            return Step {
-                pair: self,
-                answer: a,
-            };
-        }
-        let n = leaving_of(self.datagram, q.first_length(self.datagram, table), k);
-        Step {
-            pair: consumed_pair(self, handle == 1, n),
-            answer: a,
-        }
+        let r = ends::read_ends(parts::ends_of(self), handle, peek, ring, table, buffer);
+        deferred::settle(self, r)
     }
 }

@@ -1,8 +1,7 @@
 // Shutdown.
 use crate::Pair;
 use crate::Step;
-use crate::ends;
-use crate::tests;
+use crate::parts;
 use endpoint::bit_if;
 use port::PEER_WRITE_DISABLED;
 use port::WRITABLE;
@@ -18,7 +17,7 @@ fn shut_reading(p: Pair, one: bool, read: bool) -> Pair
     ensures { λ r. ⌜ r ≡ pick read (switchReading one true p) p ⌝ }
 {
     if read {
-        return ends::switch_reading(p, one, true);
+        return parts::switch_reading(p, one, true);
     }
     p
 }
@@ -29,14 +28,14 @@ fn shut_end(p: Pair, one: bool, read: bool, write: bool) -> Pair
 {
     let next = shut_reading(p, one, read);
     let set = bit_if(read, PEER_WRITE_DISABLED) | bit_if(write, WRITE_DISABLED);
-    ends::signal_change(next, one, bit_if(write, WRITABLE), set)
+    parts::signal_change(next, one, bit_if(write, WRITABLE), set)
 }
 
 // This end's part, then an open peer's with both flags negated.
 fn shut_pair(p: Pair, one: bool, read: bool, write: bool) -> Pair
     ensures { λ r. ⌜ r ≡ shut one read write p ⌝ }
 {
-    let peer = ends::peer(p, one);
+    let peer = parts::peer(p, one);
     let next = shut_end(p, one, read, write);
     if peer.closed {
         return next;
@@ -49,7 +48,7 @@ impl Pair {
     pub fn shutdown(self, handle: u32, read: bool, write: bool) -> Step
         ensures { λ r. ⌜ Steps self (shutdownAnswer self handle) (shut (isOne handle) read write self) r ⌝ }
     {
-        let a = tests::opening_test(self, handle);
+        let a = ends::opening_test(parts::ends_of(self), handle);
         if !status::is_done(a) {
             return Step {
                 pair: self,

@@ -1,10 +1,8 @@
 // Waits and their packets.
 use crate::Pair;
 use crate::Step;
-use crate::ends;
-use crate::tests;
+use crate::parts;
 use status::Answer;
-use status::Record;
 use status::Status;
 ghost use mathlib.Core.Path.{_≡_};
 ghost use Prim.Native.Nat.{_<_};
@@ -13,30 +11,14 @@ ghost use Rattle.socket.specs.Pair.{isOne};
 ghost use Rattle.socket.specs.Tests.{Steps};
 ghost use Rattle.socket.specs.Wait.{waitAnswer, waited, takeAnswer, took};
 
-fn wait_answer(p: Pair, handle: u32, edge: u8) -> Answer
-    ensures { λ r. ⌜ r ≡ waitAnswer p handle edge ⌝ }
-{
-    let a = tests::opening_test(p, handle);
-    if !status::is_done(a) {
-        return a;
-    }
-    if 1 < edge {
-        return Answer::Refused(Status::InvalidArgs);
-    }
-    if p.places.packets + p.places.waits == 128 {
-        return Answer::Refused(Status::NoResources);
-    }
-    Answer::Done(Record::Empty)
-}
-
 fn waited_pair(p: Pair, one: bool, key: u64, mask: u32, edge: u8) -> Pair
     requires { ⌜ used (p .places) < 128 ⌝ }
     ensures { λ r. ⌜ r ≡ waited one key mask edge p ⌝ }
 {
-    let e = ends::own(p, one);
+    let e = parts::own(p, one);
     let places = p.places;
     let next = places.register(one, e.signals, key, mask, edge == 1);
-    ends::with_places(p, next.places)
+    parts::with_places(p, next.places)
 }
 
 impl Pair {
@@ -44,7 +26,7 @@ impl Pair {
     pub fn wait(self, handle: u32, key: u64, mask: u32, edge: u8) -> Step
         ensures { λ r. ⌜ Steps self (waitAnswer self handle edge) (waited (isOne handle) key mask edge self) r ⌝ }
     {
-        let a = wait_answer(self, handle, edge);
+        let a = ends::wait_answer(parts::ends_of(self), handle, edge);
         if !status::is_done(a) {
             return Step {
                 pair: self,
@@ -56,11 +38,12 @@ impl Pair {
             answer: a,
         }
     }
+
     // Takes the oldest packet.
     pub fn take(self) -> Step
         ensures { λ r. ⌜ Steps self (takeAnswer self) (took self) r ⌝ }
     {
-        let a = tests::sound_test(self);
+        let a = ends::sound_test(parts::ends_of(self));
         if !status::is_done(a) {
             return Step {
                 pair: self,
@@ -78,7 +61,7 @@ impl Pair {
         let left = next.places;
         let answer = next.answer;
         Step {
-            pair: ends::with_places(self, left),
+            pair: parts::with_places(self, left),
             answer,
         }
     }

@@ -2,3 +2,5 @@ pub mod Lists
 pub mod Landed
 pub mod Passed
 pub mod Calls
+pub mod Same
+pub mod Settled

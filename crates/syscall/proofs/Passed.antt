@@ -17,13 +17,17 @@ use Rattle.status.proofs.Chains.{then-both, then-is, refuse-passed, unless-pass
 use Rattle.endpoint.specs.declared.Endpoint.{Endpoint}
 use Rattle.endpoint.specs.Write.{datagramSize, writeSize}
 use Rattle.endpoint.specs.Read.{readSize}
+use Rattle.ends.specs.Disposition.{disposeAnswer as endsDisposeAnswer}
+use Rattle.ends.specs.Read.{readAnswer as endsReadAnswer}
+use Rattle.ends.specs.Tests.{openingTest, handleTest as endsHandleTest}
+use Rattle.ends.specs.Write.{writeAnswer}
+use Rattle.ends.proofs.Sound.{SoundEnds, sound-passed}
+use Rattle.ends.proofs.Moved.{write-fits, read-fits}
 use Rattle.socket.specs.declared.Pair.{Pair}
-use Rattle.socket.specs.Pair.{isOne, own, peer}
-use Rattle.socket.specs.Tests.{Lent, handleTest, openingTest}
-use Rattle.socket.specs.Write.{writeAnswer}
+use Rattle.socket.specs.Pair.{isOne, endsOf, own, peer}
+use Rattle.socket.specs.Tests.{Lent, handleTest}
 use Rattle.socket.specs.Read.{readAnswer}
 use Rattle.socket.specs.Disposition.{disposeAnswer, shutdownAnswer}
-use Rattle.socket.proofs.Moved.{write-fits, read-fits}
 use Rattle.syscall.specs.Memory.{fits, countFits, lookup}
 use Rattle.syscall.specs.Write.{writeRanges, userWriteAnswer, Taking}
 use Rattle.syscall.specs.Read.{userReadAnswer}
@@ -48,21 +52,20 @@ datagram-is C space n d =
     let c = then-both _ _ (b .1) in
     then-is _ _ (a .0) ∙ then-is _ _ (b .0) ∙ then-is _ _ (c .0)
 
--- a write of the m bytes that a write takes takes them all: of either kind, then the whole
+-- a write of the m bytes that a write takes answers the same: of either kind, then the whole
 kind-again : (datagram : Bool) (C space n m : ℕ) → isDone (pick datagram (datagramSize C space n) (Done (Count (min n space)))) ≡ true
     → m ≡ countOf (pick datagram (datagramSize C space n) (Done (Count (min n space))))
-    → pick datagram (datagramSize C space m) (Done (Count (min m space))) ≡ Done (Count m)
+    → pick datagram (datagramSize C space m) (Done (Count (min m space))) ≡ pick datagram (datagramSize C space n) (Done (Count (min n space)))
 unfolding pick countOf recordCount
 kind-again true C space n m d e =
-    let w = datagram-is C space n d in
-    let same : m ≡ n = e ∙ ap countOf w in
-    rw same w
+    let same : m ≡ n = e ∙ ap countOf (datagram-is C space n d) in
+    ap (datagramSize C space) same
 kind-again false C space n m d e =
-    let same : min m space ≡ m = omega arith in
+    let same : min m space ≡ min n space = omega arith in
     ap (λ (k : ℕ). Done (Count k)) same
 
 pub write-again : (datagram : Bool) (C : ℕ) (o e : Endpoint) (n m : ℕ) → isDone (writeSize datagram C o e n) ≡ true
-    → m ≡ countOf (writeSize datagram C o e n) → writeSize datagram C o e m ≡ Done (Count m)
+    → m ≡ countOf (writeSize datagram C o e n) → writeSize datagram C o e m ≡ writeSize datagram C o e n
 unfolding writeSize
 write-again datagram C o e n m d k =
     let a = then-both _ _ d in
@@ -77,6 +80,7 @@ write-again datagram C o e n m d k =
     ∙ then-is _ _ (c .0)
     ∙ then-is _ _ (f .0)
     ∙ kind-again datagram C (C - e .queue .bytes .count) n m (f .1) (k ∙ ap countOf is)
+    ∙ sym is
 
 -- the answer to the write's size, once the ranges passed
 pub record RangesPassed (base size address countAt : ℕ) (a : Answer) : Type 0 where
@@ -99,27 +103,27 @@ ranges-passed base size address countAt a d =
       rest = then-is _ _ (s .0) ∙ then-is _ _ (b .0) ∙ then-is _ _ (c .0);
     }
 
--- a write that is done with m
-pub record WritePassed (p : Pair) (z : Lent) (h base size address countAt m : ℕ) : Type 0 where
-  pub taking : Taking p h base size address m z
+-- a write that is done
+pub record WritePassed (p : Pair) (z : Lent) (h base size address countAt : ℕ) (x : Answer) : Type 0 where
+  pub sound : SoundEnds (endsOf p)
+  pub taking : Taking p h base size address x z
   pub count : countFits base size countAt ≡ true
 
-pub write-passed : (p : Pair) (z : Lent) (h base size options address n countAt : ℕ) (x : Answer) (m : ℕ)
-    → x ≡ userWriteAnswer p z h base size options address n countAt → isDone x ≡ true → m ≡ countOf x
-    → WritePassed p z h base size address countAt m
+pub write-passed : (p : Pair) (z : Lent) (h base size options address n countAt : ℕ) (x : Answer)
+    → x ≡ userWriteAnswer p z h base size options address n countAt → isDone x ≡ true → WritePassed p z h base size address countAt x
 unfolding userWriteAnswer writeAnswer
-write-passed p z h base size options address n countAt x m e d k =
+write-passed p z h base size options address n countAt x e d =
     let s = then-both _ _ (ap isDone (sym e) ∙ d) in
     let l = then-both _ _ (s .1) in
     let o = then-both _ _ (l .1) in
     let u = then-both _ _ (o .1) in
     let f = then-both _ _ (u .1) in
     let r = ranges-passed base size address countAt _ (f .1) in
-    let is : m ≡ countOf (writeSize (p .datagram) (p .capacity) (own (isOne h) p) (peer (isOne h) p) n)
-    = k
-    ∙ ap countOf (e ∙ then-is _ _ (s .0) ∙ then-is _ _ (l .0) ∙ then-is _ _ (o .0) ∙ then-is _ _ (u .0) ∙ then-is _ _ (f .0) ∙ r .rest) in
-    let lies = fits-in base size address m (rw is (r .bytes)) in
+    let is : x ≡ writeSize (p .datagram) (p .capacity) (own (isOne h) p) (peer (isOne h) p) n
+    = e ∙ then-is _ _ (s .0) ∙ then-is _ _ (l .0) ∙ then-is _ _ (o .0) ∙ then-is _ _ (u .0) ∙ then-is _ _ (f .0) ∙ r .rest in
+    let lies = fits-in base size address (countOf x) (rw is (r .bytes)) in
     record {
+      sound = sound-passed (endsOf p) (s .0);
       taking =
           record {
             after = λ w. lies w .0;
@@ -128,7 +132,8 @@ write-passed p z h base size options address n countAt x m e d k =
                 then-is _ _ (s .0)
                 ∙ then-is _ _ (l .0)
                 ∙ then-is _ _ (handle-passed p h 2 (f .0))
-                ∙ write-again (p .datagram) (p .capacity) (own (isOne h) p) (peer (isOne h) p) n m (r .sized) is;
+                ∙ write-again (p .datagram) (p .capacity) (own (isOne h) p) (peer (isOne h) p) n (countOf x) (r .sized) (ap countOf is)
+                ∙ sym is;
           };
       count = r .count;
     }
@@ -137,6 +142,7 @@ write-passed p z h base size options address n countAt x m e d k =
 
 -- a read that is done: it is the read without user memory
 pub record ReadPassed (p : Pair) (z : Lent) (h base size address n countAt : ℕ) (x : Answer) : Type 0 where
+  pub sound : SoundEnds (endsOf p)
   pub plain : x ≡ readAnswer p z h n
   pub most : countOf x ≤ n
   pub bytes : fits base size address n ≡ true
@@ -144,7 +150,7 @@ pub record ReadPassed (p : Pair) (z : Lent) (h base size address n countAt : ℕ
 
 pub read-passed : (p : Pair) (z : Lent) (h base size options address n countAt : ℕ) (x : Answer)
     → x ≡ userReadAnswer p z h base size options address n countAt → isDone x ≡ true → ReadPassed p z h base size address n countAt x
-unfolding userReadAnswer readAnswer
+unfolding userReadAnswer endsReadAnswer
 read-passed p z h base size options address n countAt x e d =
     let s = then-both _ _ (ap isDone (sym e) ∙ d) in
     let l = then-both _ _ (s .1) in
@@ -164,6 +170,7 @@ read-passed p z h base size options address n countAt x e d =
     ∙ then-is _ _ (c .0) in
     let some = read-fits (p .datagram) (own (isOne h) p) (peer (isOne h) p) (z .first) n (c .1) .1 in
     record {
+      sound = sound-passed (endsOf p) (s .0);
       plain = is ∙ sym (then-is _ _ (s .0) ∙ then-is _ _ (l .0) ∙ then-is _ _ (handle-passed p h 1 (f .0)));
       most = omega (arith, ap countOf is, some);
       bytes = unless-passed _ _ (b .0);
@@ -181,7 +188,7 @@ refuse-ok b s d = sym (pass-last b s (refuse-passed b s d))
 
 pub dispose-passed : (p : Pair) (h a b : ℕ) → isDone (userDisposeAnswer p h a b) ≡ true
     → disposeAnswer p h (dispositionOf a) (dispositionOf b) ≡ userDisposeAnswer p h a b
-unfolding userDisposeAnswer disposeAnswer openingTest
+unfolding userDisposeAnswer endsDisposeAnswer openingTest
 dispose-passed p h a b d =
     let s = then-both _ _ d in
     let u = then-both _ _ (s .1) in
@@ -192,7 +199,7 @@ dispose-passed p h a b d =
     ∙ sym (then-is _ _ (s .0) ∙ then-is _ _ (u .0) ∙ then-is _ _ (v .0) ∙ then-is _ _ (f .0))
 
 pub shutdown-passed : (p : Pair) (h : ℕ) → isDone (userShutdownAnswer p h) ≡ true → shutdownAnswer p h ≡ userShutdownAnswer p h
-unfolding userShutdownAnswer shutdownAnswer openingTest lookup handleTest
+unfolding userShutdownAnswer shutdownAnswer openingTest lookup endsHandleTest
 shutdown-passed p h d =
     let s = then-both _ _ d in
     let f = then-both _ _ (s .1) in

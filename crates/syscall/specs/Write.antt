@@ -5,9 +5,7 @@ use mathlib.Core.List.{List}
 use lib.ListN.{length, drop}
 use lib.Dec.{eqb}
 use Rattle.status.specs.declared.Status.the-variants.{InvalidArgs}
-use Rattle.status.specs.declared.Record.the-variants.{Count}
 use Rattle.status.specs.declared.Answer.{Answer}
-use Rattle.status.specs.declared.Answer.the-variants.{Done}
 use Rattle.status.specs.Choice.{pick}
 use Rattle.status.specs.Answer.{refuseIf, refuseUnless, _then_, countOf, isDone}
 use Rattle.endpoint.specs.Write.{writeSize}
@@ -37,12 +35,12 @@ userWriteAnswer p z h base size options address n countAt =
     then lookup p h RIGHT-WRITE
     then writeRanges base size address countAt (writeSize (p .datagram) (p .capacity) (own (isOne h) p) (peer (isOne h) p) n)
 
--- 01 "Calls over user memory", write: the m bytes that a write takes. They lie in memory if there are any, and a write of them alone takes
--- them all.
-pub record Taking (p : Pair) (h base size address m : ℕ) (z : Lent) : Type 0 where
-  pub after : (m ≡ 0 → ⊥) → base ≤ address
-  pub within : (m ≡ 0 → ⊥) → address - base + m ≤ size
-  pub whole : writeAnswer p z h m ≡ Done (Count m)
+-- 01 "Calls over user memory", write: the bytes that a write with answer a takes. They lie in memory if there are any, and a write of them
+-- alone takes them all.
+pub record Taking (p : Pair) (h base size address : ℕ) (a : Answer) (z : Lent) : Type 0 where
+  pub after : (countOf a ≡ 0 → ⊥) → base ≤ address
+  pub within : (countOf a ≡ 0 → ⊥) → address - base + countOf a ≤ size
+  pub whole : writeAnswer p z h (countOf a) ≡ a
 
 -- 01 "Calls over user memory", write: a write by the end of handle h. ring and table are the peer's. The bytes are taken before the count
 -- lands.

@@ -4,12 +4,10 @@ use endpoint::Disposition;
 use endpoint::dispose_checks;
 use endpoint::read_size;
 use endpoint::write_size;
-use socket::Pair;
-use socket::handle_test;
-use socket::own;
-use socket::peer;
-use socket::slices_test;
-use socket::sound_test;
+use ends::Ends;
+use ends::handle_test;
+use ends::slices_test;
+use ends::sound_test;
 use status::Answer;
 use status::Record;
 use status::Status;
@@ -18,6 +16,7 @@ ghost use lib.Dec.{eqb};
 ghost use Rattle.status.specs.Choice.{_or_};
 ghost use Rattle.socket.specs.Pair.{isOne, own, peer};
 ghost use Rattle.socket.specs.Tests.{lentOf};
+ghost use Rattle.syscall.specs.Ends.{pairOf};
 ghost use Rattle.syscall.specs.Memory;
 ghost use Rattle.syscall.specs.Write.{writeRanges, userWriteAnswer};
 ghost use Rattle.syscall.specs.Read.{isPeek, userReadAnswer};
@@ -43,14 +42,14 @@ pub struct Buffer {
 }
 
 // The handle, then the right.
-fn lookup(p: Pair, handle: u32, right: u32) -> Answer
-    ensures { λ r. ⌜ r ≡ Memory.lookup p handle right ⌝ }
+fn lookup(p: Ends, handle: u32, right: u32) -> Answer
+    ensures { λ r. ⌜ r ≡ Memory.lookup (pairOf p) handle right ⌝ }
 {
     let opened = handle_test(p, handle);
     if !status::is_done(opened) {
         return opened;
     }
-    let e = own(p, handle == 1);
+    let e = p.own(handle == 1);
     if e.rights & right == 0 {
         return Answer::Refused(Status::AccessDenied);
     }
@@ -76,20 +75,20 @@ fn write_ranges(b: Buffer, a: Answer) -> Answer
 
 // The tests of a write. Of the bytes, only the range of those that the write would take is tested.
 pub fn write_answer(
-    p: Pair,
+    p: Ends,
     handle: u32,
     options: u32,
     b: Buffer,
     ring: &[u8],
     table: &[u32],
 ) -> Answer
-    ensures { λ r. ⌜ r ≡ userWriteAnswer p (lentOf (p .datagram) (peer (isOne handle) p .queue) (now (ring .entry)) (now (table .entry))) handle (b .base) (b .size) options (b .address) (b .count) (b .«count_at») ⌝ }
+    ensures { λ r. ⌜ r ≡ userWriteAnswer (pairOf p) (lentOf (p .datagram) (peer (isOne handle) (pairOf p) .queue) (now (ring .entry)) (now (table .entry))) handle (b .base) (b .size) options (b .address) (b .count) (b .«count_at») ⌝ }
 {
     let sound = sound_test(p);
     if !status::is_done(sound) {
         return sound;
     }
-    let to = peer(p, handle == 1);
+    let to = p.peer(handle == 1);
     let q = to.queue;
     let lent = slices_test(p.datagram, p.capacity, handle, q, ring, table);
     if !status::is_done(lent) {
@@ -105,7 +104,7 @@ pub fn write_answer(
     if !status::is_done(found) {
         return found;
     }
-    let from = own(p, handle == 1);
+    let from = p.own(handle == 1);
     let a = write_size(p.datagram, p.capacity, from, to, b.count as usize);
     write_ranges(b, a)
 }
@@ -122,20 +121,20 @@ fn has_read_options(options: u32) -> bool
 
 // The tests of a read or peek. The range of all the bytes asked for is tested, also where fewer are queued.
 pub fn read_answer(
-    p: Pair,
+    p: Ends,
     handle: u32,
     options: u32,
     b: Buffer,
     ring: &[u8],
     table: &[u32],
 ) -> Answer
-    ensures { λ r. ⌜ r ≡ userReadAnswer p (lentOf (p .datagram) (own (isOne handle) p .queue) (now (ring .entry)) (now (table .entry))) handle (b .base) (b .size) options (b .address) (b .count) (b .«count_at») ⌝ }
+    ensures { λ r. ⌜ r ≡ userReadAnswer (pairOf p) (lentOf (p .datagram) (own (isOne handle) (pairOf p) .queue) (now (ring .entry)) (now (table .entry))) handle (b .base) (b .size) options (b .address) (b .count) (b .«count_at») ⌝ }
 {
     let sound = sound_test(p);
     if !status::is_done(sound) {
         return sound;
     }
-    let from = own(p, handle == 1);
+    let from = p.own(handle == 1);
     let q = from.queue;
     let lent = slices_test(p.datagram, p.capacity, handle, q, ring, table);
     if !status::is_done(lent) {
@@ -161,7 +160,7 @@ pub fn read_answer(
     read_size(
         p.datagram,
         from,
-        peer(p, handle == 1),
+        p.peer(handle == 1),
         first,
         b.count as usize,
     )
@@ -181,8 +180,8 @@ pub fn disposition_of(n: u32) -> Disposition
 }
 
 // The tests of a disposition: both numbers come before the lookup.
-pub fn dispose_answer(p: Pair, handle: u32, disposition: u32, peer_disposition: u32) -> Answer
-    ensures { λ r. ⌜ r ≡ userDisposeAnswer p handle disposition «peer_disposition» ⌝ }
+pub fn dispose_answer(p: Ends, handle: u32, disposition: u32, peer_disposition: u32) -> Answer
+    ensures { λ r. ⌜ r ≡ userDisposeAnswer (pairOf p) handle disposition «peer_disposition» ⌝ }
 {
     let sound = sound_test(p);
     if !status::is_done(sound) {
@@ -200,12 +199,12 @@ pub fn dispose_answer(p: Pair, handle: u32, disposition: u32, peer_disposition: 
     }
     let a = disposition_of(disposition);
     let b = disposition_of(peer_disposition);
-    dispose_checks(own(p, handle == 1), peer(p, handle == 1), a, b)
+    dispose_checks(p.own(handle == 1), p.peer(handle == 1), a, b)
 }
 
 // The tests of a shutdown. No options are refused.
-pub fn shutdown_answer(p: Pair, handle: u32) -> Answer
-    ensures { λ r. ⌜ r ≡ userShutdownAnswer p handle ⌝ }
+pub fn shutdown_answer(p: Ends, handle: u32) -> Answer
+    ensures { λ r. ⌜ r ≡ userShutdownAnswer (pairOf p) handle ⌝ }
 {
     let sound = sound_test(p);
     if !status::is_done(sound) {

@@ -47,6 +47,7 @@ use denote.Triple.Walked.{says, Stays, stay-ref, stay-dropped, gave-ref, gave-sl
 use denote.Triple.Clauses.{ensured, lasts}
 use Rattle.status.specs.declared.Answer.{Answer}
 use Rattle.status.specs.Answer.{answerWord}
+use Rattle.ends.specs.Create.{createAnswer}
 use Rattle.socket.specs.declared.Pair.{Pair}
 use Rattle.host.specs.Host.{Answered, signalNumber}
 use Rattle.socket.proofs.Pair as T
@@ -63,7 +64,6 @@ use Rattle.status.proofs.word.Met as word-thm
 use lib.Dec.{eqb}
 use Rattle.socket.specs.Pair.{newPair, noPair}
 use Rattle.socket.specs.Tests.{Steps}
-use Rattle.socket.specs.Create.{createAnswer}
 use Rattle.socket.proofs.Pair.create as step
 use Rattle.socket.proofs.Pair.create.Symbol as step-def
 use Rattle.socket.proofs.Pair.create.Symbol.{name as #step}

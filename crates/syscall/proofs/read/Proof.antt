@@ -1,44 +1,26 @@
 use denote.Ref.{now}
-use mathlib.Core.Path.{refl}
-use Rattle.status.proofs.Rules.{pick-on, pick-off, via}
-use Rattle.syscall.proofs.Calls.{count-after}
+use Rattle.socket.proofs.Visiting.{places-128}
+use Rattle.syscall.proofs.Settled.{read-whole}
 use borrow.Author.Needs.{needs}
 use Rattle.syscall.proofs.read.Statement.{statement}
 use Rattle.syscall.proofs.read.Tie as tie
 
-read-bytes-requires : tie.Need-read-bytes-requires
-read-bytes-requires c κs = search needs
+ends-of-requires : tie.Need-ends-of-requires
+ends-of-requires c κs = search needs
 
-is-done-requires : tie.Need-is-done-requires
-is-done-requires c κs = search needs
+read-ends-requires : tie.Need-read-ends-requires
+read-ends-requires c κs = search needs
 
-count-of-requires : tie.Need-count-of-requires
-count-of-requires c κs = search needs
-
-land-count-requires : tie.Need-land-count-requires
-land-count-requires c κs = search needs
+settle-requires : tie.Need-settle-requires
+settle-requires c κs = search needs
 
 same-length : tie.Need-same-length
 same-length c = search needs
 
 returns : tie.Need-returns
-returns c = let a = c .before .before .before .before .before .before .before .before .before .before .before .before .before .before .args in count-after (a .p) (a .handle) (a .base) (a .options) (a .address) (a .count) (a .count-at) (now (a .ring)) (now (a .table)) (now (a .memory)) _ _ _ (c .before .before .before .before .before .before .before .before .before .read-bytes .ensures) (pick-on _ _ _ _ _ (via (c .before .before .before .before .before .before .is-done .ensures) (c .before .before .before .before .before .if1 .taken)) (rw (← c .before .before .before .count-of .ensures) (c .before .before .land-count .ensures)))
-
-same-length-2 : tie.Need-same-length-2
-same-length-2 c = search needs
-
-returns-2 : tie.Need-returns-2
-returns-2 c = let a = c .before .before .before .before .before .before .before .before .before .args in count-after (a .p) (a .handle) (a .base) (a .options) (a .address) (a .count) (a .count-at) (now (a .ring)) (now (a .table)) (now (a .memory)) _ _ _ (c .before .before .before .before .read-bytes .ensures) (pick-off _ _ _ _ _ (via (c .before .is-done .ensures) (c .if1 .left)) refl)
+returns c = let a = c .before .before .before .before .before .before .before .before .before .args in
+    rw (c .settle .ensures)
+    (read-whole (a .p) (a .handle) (a .base) (a .options) (a .address) (a .count) (a .count-at) _ _ (places-128 (a .p) _ (c .before .before .before .before .before .before .before .before .before .good .0)) (c .before .before .before .before .before .ends-of .ensures) (now (a .ring)) (now (a .table)) (now (a .memory)) _ (c .before .before .before .read-ends .ensures .0) (c .before .before .before .read-ends .ensures .1))
 
 pub read-spec : {M : Type 1} → statement M
-read-spec =
-    tie.close
-    (tie.spec
-    read-bytes-requires
-    is-done-requires
-    count-of-requires
-    land-count-requires
-    same-length
-    returns
-    same-length-2
-    returns-2)
+read-spec = tie.close (tie.spec ends-of-requires read-ends-requires settle-requires same-length returns)

@@ -1,16 +1,18 @@
 use denote.Ref.{now}
-use Rattle.status.proofs.Rules.{via-not, via-not-not}
-use Rattle.syscall.proofs.Calls.{wrote-none, wrote-some}
-use Rattle.syscall.proofs.Passed.{write-passed}
+use Rattle.socket.proofs.Visiting.{places-128}
+use Rattle.syscall.proofs.Settled.{wrote-whole}
 use borrow.Author.Needs.{needs}
 use Rattle.syscall.proofs.write.Statement.{statement}
 use Rattle.syscall.proofs.write.Tie as tie
 
-write-answer-requires : tie.Need-write-answer-requires
-write-answer-requires c κs = search needs
+ends-of-requires : tie.Need-ends-of-requires
+ends-of-requires c κs = search needs
 
-is-done-requires : tie.Need-is-done-requires
-is-done-requires c κs = search needs
+write-ends-requires : tie.Need-write-ends-requires
+write-ends-requires c κs = search needs
+
+settle-requires : tie.Need-settle-requires
+settle-requires c κs = search needs
 
 same-length : tie.Need-same-length
 same-length c = search needs
@@ -18,43 +20,13 @@ same-length c = search needs
 same-length-2 : tie.Need-same-length-2
 same-length-2 c = search needs
 
-returns : tie.Need-returns
-returns c = let a = c .before .before .before .before .before .before .before .before .args in wrote-none (a .p) (a .handle) (a .base) (a .options) (a .address) (a .count) (a .count-at) (now (a .memory)) (now (a .ring)) (now (a .table)) _ (c .before .before .write-answer .ensures) (via-not (c .before .is-done .ensures) (c .if1 .taken))
-
-count-of-requires : tie.Need-count-of-requires
-count-of-requires c κs = search needs
-
-write-bytes-requires : tie.Need-write-bytes-requires
-write-bytes-requires c κs = let a = c .before .before .before .before .before .before .before .before .before .before .before .before .args in write-passed (a .p) _ (a .handle) (a .base) _ (a .options) (a .address) (a .count) (a .count-at) _ _ (c .before .before .before .before .before .before .write-answer .ensures) (via-not-not (c .before .before .before .before .before .is-done .ensures) (c .before .before .before .before .if1 .left)) (c .before .before .before .count-of .ensures) .taking
-
-land-count-requires : tie.Need-land-count-requires
-land-count-requires c κs = search needs
-
 same-length-3 : tie.Need-same-length-3
 same-length-3 c = search needs
 
-same-length-4 : tie.Need-same-length-4
-same-length-4 c = search needs
-
-same-length-5 : tie.Need-same-length-5
-same-length-5 c = search needs
-
-returns-2 : tie.Need-returns-2
-returns-2 c = let a = c .before .before .before .before .before .before .before .before .before .before .before .before .before .before .before .before .before .before .before .before .before .args in wrote-some (a .p) (a .handle) (a .base) (a .options) (a .address) (a .count) (a .count-at) (now (a .memory)) (now (a .ring)) (now (a .table)) _ (c .before .before .before .before .before .before .before .before .before .before .before .before .before .before .before .write-answer .ensures) _ _ _ _ _ (via-not-not (c .before .before .before .before .before .before .before .before .before .before .before .before .before .before .is-done .ensures) (c .before .before .before .before .before .before .before .before .before .before .before .before .before .if1 .left)) (c .before .before .before .before .before .before .before .before .before .before .before .before .count-of .ensures) (c .before .before .before .before .before .before .before .before .write-bytes .ensures .0) (c .before .before .before .before .before .before .before .before .write-bytes .ensures .1) (c .before .before .before .before .before .before .before .before .write-bytes .ensures .2) (c .before .before .land-count .ensures)
+returns : tie.Need-returns
+returns c = let a = c .before .before .before .before .before .before .before .before .before .before .before .before .before .before .before .args in
+    rw (c .settle .ensures)
+    (wrote-whole (a .p) (a .handle) (a .base) (a .options) (a .address) (a .count) (a .count-at) _ _ (places-128 (a .p) _ (c .before .before .before .before .before .before .before .before .before .before .before .before .before .before .before .good .0)) (c .before .before .before .before .before .before .before .before .before .before .before .ends-of .ensures) (now (a .memory)) _ (now (a .ring)) _ (now (a .table)) _ (c .before .before .before .before .before .before .before .write-ends .ensures .0) (c .before .before .before .before .before .before .before .write-ends .ensures .1))
 
 pub write-spec : {M : Type 1} → statement M
-write-spec =
-    tie.close
-    (tie.spec
-    write-answer-requires
-    is-done-requires
-    same-length
-    same-length-2
-    returns
-    count-of-requires
-    write-bytes-requires
-    land-count-requires
-    same-length-3
-    same-length-4
-    same-length-5
-    returns-2)
+write-spec = tie.close (tie.spec ends-of-requires write-ends-requires settle-requires same-length same-length-2 same-length-3 returns)

@@ -1,12 +1,12 @@
 use borrow.Author.Needs.{needs}
 use mathlib.Core.Bool.{false}
 use mathlib.Core.Path.{ap}
-use Rattle.script.proofs.Turns.{mkState}
-use Rattle.script.specs.Machine.{startState}
-use Rattle.socket.specs.Create.{numbersAnswer, createAnswer}
-use Rattle.socket.specs.declared.Pair.{Pair}
 use Rattle.status.specs.Answer.{isDone, refuseIf, _then_}
 use Rattle.status.specs.Choice.{pick}
+use Rattle.ends.specs.Create.{numbersAnswer, createAnswer}
+use Rattle.socket.specs.declared.Pair.{Pair}
+use Rattle.script.proofs.Turns.{mkState}
+use Rattle.script.specs.Machine.{startState}
 use Rattle.script.proofs.feed.start.Statement.{statement}
 use Rattle.script.proofs.feed.start.Tie as tie
 

@@ -1,4 +1,4 @@
-use Rattle.socket.proofs.Steps.{steps-refused, steps-done, steps-same}
+use Rattle.socket.proofs.Steps.{steps-refused, steps-done}
 use Rattle.status.proofs.Rules.{via-not, via-not-not}
 use borrow.Author.Needs.{needs}
 use Rattle.socket.proofs.Pair.create.Statement.{statement}

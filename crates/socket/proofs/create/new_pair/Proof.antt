@@ -1,3 +1,4 @@
+use mathlib.Core.Path.{refl}
 use Rattle.socket.specs.Pair.{newPair}
 use borrow.Author.Needs.{needs}
 use Rattle.socket.proofs.create.new_pair.Statement.{statement}
@@ -14,7 +15,7 @@ new-requires-3 c κs = search needs
 
 returns : tie.Need-returns
 unfolding newPair
-returns c = cc
+returns c = rw (← c .before .before .new .ensures, ← c .before .new2 .ensures, ← c .new3 .ensures) refl
 
 pub new-pair-spec : {M : Type 1} → statement M
 new-pair-spec = tie.close (tie.spec new-requires new-requires-2 new-requires-3 returns)

@@ -1,5 +1,4 @@
 use Rattle.status.specs.Choice.{pick}
-use Rattle.status.proofs.Rules.{chain}
 use Rattle.socket.specs.Disposition.{switchWriting}
 use borrow.Author.Needs.{needs}
 use Rattle.socket.proofs.disposition.switch_writing.Statement.{statement}

@@ -1,5 +1,4 @@
 use Rattle.socket.specs.Threshold.{writeThresholdSet}
-use native.Mathlib.Omega.{arith}
 use borrow.Author.Needs.{needs}
 use Rattle.socket.proofs.threshold.with_write_threshold.Statement.{statement}
 use Rattle.socket.proofs.threshold.with_write_threshold.Tie as tie

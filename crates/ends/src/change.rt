@@ -1,0 +1,103 @@
+// The outcome of a call on the two ends, and whether a wait can fire.
+use crate::Ends;
+use crate::Outcome;
+use crate::Pending;
+use crate::Visits;
+use endpoint::Endpoint;
+use port::changed;
+use status::Answer;
+ghost use mathlib.Core.Path.{_≡_};
+ghost use Rattle.status.specs.Choice.{pick};
+ghost use Rattle.ends.specs.Outcome.{keepsWord, canFire, outcomeOf, keptEnds, unchangedEnds};
+
+// The caller's end and its peer after a call, and the changes of their words.
+pub struct Moved {
+    pub own: Endpoint,
+    pub peer: Endpoint,
+    pub visits: Visits,
+}
+
+// No change.
+pub const NO_VISIT: Pending = Pending {
+    one: true,
+    word: 0,
+    clear: 0,
+    set: 0,
+};
+
+// Whether a change leaves the word as it is.
+fn keeps_word(a: Pending) -> bool
+    ensures { λ r. ⌜ r ≡ keepsWord a ⌝ }
+{
+    changed(a.word, a.clear, a.set) == a.word
+}
+
+// Whether a visit can fire a wait: there are waits, and a word has changed.
+fn can_fire(waits: usize, v: Visits) -> bool
+    ensures { λ r. ⌜ r ≡ canFire waits v ⌝ }
+{
+    if waits == 0 {
+        return false;
+    }
+    let a = v.first;
+    if !keeps_word(a) {
+        return true;
+    }
+    let b = v.second;
+    !keeps_word(b)
+}
+
+fn chosen(one: bool, a: Endpoint, b: Endpoint) -> Endpoint
+    ensures { λ r. ⌜ r ≡ pick one a b ⌝ }
+{
+    if one {
+        return a;
+    }
+    b
+}
+
+// The caller's end and its peer, put back by the caller's handle.
+pub fn put_back(waits: usize, one: bool, answer: Answer, moved: Moved) -> Outcome
+    ensures { λ r. ⌜ r ≡ outcomeOf waits one answer moved ⌝ }
+{
+    let own = moved.own;
+    let peer = moved.peer;
+    let visits = moved.visits;
+    Outcome {
+        one: chosen(one, own, peer),
+        two: chosen(one, peer, own),
+        answer,
+        fires: can_fire(waits, visits),
+        visits,
+    }
+}
+
+// A call that changes no end.
+pub fn kept_ends(own: Endpoint, peer: Endpoint) -> Moved
+    ensures { λ r. ⌜ r ≡ keptEnds own peer ⌝ }
+{
+    let first = NO_VISIT;
+    let second = NO_VISIT;
+    Moved {
+        own,
+        peer,
+        visits: Visits { first, second },
+    }
+}
+
+// The outcome of a call that changes nothing.
+pub fn unchanged(p: Ends, answer: Answer) -> Outcome
+    ensures { λ r. ⌜ r ≡ unchangedEnds p answer ⌝ }
+{
+    let one = p.one;
+    let two = p.two;
+    let first = NO_VISIT;
+    let second = NO_VISIT;
+    Outcome {
+        one,
+        two,
+        answer,
+        fires: false,
+        visits: Visits { first, second },
+    }
+}

@@ -1,0 +1,89 @@
+// Both ends of a pair without its table of places: the tests of each call, its answer, and what a write and a read do to the two ends.
+// After `Socket` of ipc/socket.rs.
+use endpoint::Endpoint;
+use status::Answer;
+ghost use mathlib.Core.Path.{_≡_};
+ghost use Rattle.ends.specs.Ends.{own, peer};
+
+mod change;
+mod create;
+mod disposition;
+mod info;
+mod read;
+mod tests;
+mod threshold;
+mod wait;
+mod write;
+
+pub use change::unchanged;
+pub use create::create_answer;
+pub use disposition::dispose_answer;
+pub use info::info_answer;
+pub use read::read_ends;
+pub use tests::handle_test;
+pub use tests::is_handle;
+pub use tests::opening_test;
+pub use tests::slices_test;
+pub use tests::sound_test;
+pub use threshold::read_threshold_answer;
+pub use threshold::thresholds_answer;
+pub use threshold::write_threshold_answer;
+pub use wait::wait_answer;
+pub use write::write_ends;
+
+// What every answer is made of. It is small, so that it is passed on at little cost. `one` names an end throughout: true is end 1.
+pub struct Ends {
+    pub datagram: bool,
+    pub capacity: u32,
+    pub packets: usize,
+    pub waits: usize,
+    pub one: Endpoint,
+    pub two: Endpoint,
+}
+
+// A change of an end's word, from `word`, whose waits are not visited yet.
+pub struct Pending {
+    pub one: bool,
+    pub word: u32,
+    pub clear: u32,
+    pub set: u32,
+}
+
+// The changes of a call, in their order.
+pub struct Visits {
+    pub first: Pending,
+    pub second: Pending,
+}
+
+// The two ends after a call, its answer, whether a wait can fire, and the changes whose waits are then to be visited.
+pub struct Outcome {
+    pub one: Endpoint,
+    pub two: Endpoint,
+    pub answer: Answer,
+    pub fires: bool,
+    pub visits: Visits,
+}
+
+impl Ends {
+    pub fn own(self, one: bool) -> Endpoint
+        ensures { λ r. ⌜ r ≡ own one self ⌝ }
+    {
+        if one {
+            let e = self.one;
+            return e;
+        }
+        let e = self.two;
+        e
+    }
+
+    pub fn peer(self, one: bool) -> Endpoint
+        ensures { λ r. ⌜ r ≡ peer one self ⌝ }
+    {
+        if one {
+            let e = self.two;
+            return e;
+        }
+        let e = self.one;
+        e
+    }
+}

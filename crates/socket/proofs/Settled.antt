@@ -1,0 +1,83 @@
+-- A write and a read whose waits are visited later: the whole pair, once they are. Assumes nothing.
+use Prim.Native.Nat.{ℕ}
+use mathlib.Core.Path.{_≡_, refl, sym, ap, subst, _∙_}
+use mathlib.Core.Bool.{Bool, true, false}
+use mathlib.Core.List.{List}
+use lib.ListN.{length}
+use lib.Dec.{eqb}
+use borrow.Author.Tests.{eqb-false}
+use Rattle.status.specs.declared.Answer.{Answer}
+use Rattle.status.specs.Choice.{pick, _or_}
+use Rattle.status.specs.Answer.{countOf}
+use Rattle.status.proofs.Chains.{counted, neither}
+use Rattle.port.specs.Table.{sound}
+use Rattle.endpoint.specs.Queue.{firstLength}
+use Rattle.ends.specs.declared.Ends.{Ends}
+use Rattle.ends.specs.declared.Outcome.{Outcome}
+use Rattle.ends.specs.Tests.{lentOf}
+use Rattle.ends.specs.Outcome.{keptEnds}
+use Rattle.ends.specs.Write.{fedEnds, wroteEnds, EndsWrote}
+use Rattle.ends.specs.Write as W
+use Rattle.ends.specs.Read.{leaving, drainedEnds, readEnds, EndsRead}
+use Rattle.ends.specs.Read as R
+use Rattle.ends.proofs.Sound.{passed}
+use Rattle.socket.specs.declared.Pair.{Pair}
+use Rattle.socket.specs.declared.Step.{Step}
+use Rattle.socket.specs.Pair.{isOne, own, peer, endsOf}
+use Rattle.socket.specs.Write.{wrote, pairWritten, Wrote}
+use Rattle.socket.specs.Read.{consumed, pairRead, Read}
+use Rattle.socket.specs.Deferred.{settled}
+use Rattle.socket.proofs.Visiting.{movedPair, kept-visited, fed-visited, drained-visited, settled-moved}
+
+moved-wrote : (b t : Bool) (m : ℕ) (p : Pair) → (b ≡ false → sound (p .places) ≡ true)
+    → movedPair t (pick b (keptEnds (own t p) (peer t p)) (fedEnds (p .datagram) (p .capacity) t (own t p) (peer t p) m)) p ≡ pick b p (wrote t m p)
+unfolding pick
+moved-wrote true t m p s = kept-visited t p
+moved-wrote false t m p s = fed-visited t m p (s refl)
+
+moved-read : (b t : Bool) (n : ℕ) (p : Pair) → (b ≡ false → sound (p .places) ≡ true)
+    → movedPair t (pick b (keptEnds (own t p) (peer t p)) (drainedEnds (p .datagram) (p .capacity) t (own t p) (peer t p) n)) p ≡ pick b p (consumed t n p)
+unfolding pick
+moved-read true t n p s = kept-visited t p
+moved-read false t n p s = drained-visited t n p (s refl)
+
+module _ (p : Pair) (h : ℕ) (a : Answer) (r : Outcome) (l : length (p .places .table) ≡ 128)
+    (s : (countOf a ≡ 0 → ⊥) → sound (p .places) ≡ true) where
+  pub wrote-settled : r ≡ wroteEnds (endsOf p) h a → settled r p ≡ record { pair = pairWritten p h (countOf a); answer = a }
+  unfolding wroteEnds pairWritten
+  wrote-settled e =
+      ap (λ (k : Outcome). settled k p) e
+      ∙ settled-moved p (isOne h) a _ l
+      ∙ ap (λ (q : Pair). record { pair = q; answer = a }) (moved-wrote (eqb (countOf a) 0) (isOne h) (countOf a) p (λ z. s (eqb-false _ _ z)))
+
+  pub read-settled : (peek : Bool) (first : ℕ) → r ≡ readEnds (endsOf p) h peek first a
+      → settled r p ≡ record { pair = pairRead p h peek first (countOf a); answer = a }
+  unfolding readEnds pairRead
+  read-settled peek first e =
+      ap (λ (k : Outcome). settled k p) e
+      ∙ settled-moved p (isOne h) a _ l
+      ∙ ap (λ (q : Pair). record { pair = q; answer = a })
+      (moved-read (peek or eqb (countOf a) 0) (isOne h) (leaving (p .datagram) first (countOf a)) p (λ z. s (eqb-false _ _ (neither _ _ z .1))))
+
+pub wrote-whole : (p : Pair) (h : ℕ) (src ring ring′ table table′ : List ℕ) (e : Ends) (r : Outcome) → length (p .places .table) ≡ 128
+    → e ≡ endsOf p → EndsWrote e h src ring ring′ table table′ r → Wrote p h src ring ring′ table table′ (settled r p)
+unfolding W.writeAnswer
+wrote-whole p h src ring ring′ table table′ e r l f v =
+    let w = subst (λ (k : Ends). EndsWrote k h src ring ring′ table table′ r) f v in
+    let z = lentOf (p .datagram) (peer (isOne h) p .queue) ring table in
+    let s : (countOf (r .answer) ≡ 0 → ⊥) → sound (p .places) ≡ true
+    = λ (n : countOf (r .answer) ≡ 0 → ⊥). passed (endsOf p) h (peer (isOne h) p .queue) z _ (r .answer) (w .answer) (counted (r .answer) n) .sound .places in
+    subst (λ (k : Step). Wrote p h src ring ring′ table table′ k) (sym (wrote-settled p h (r .answer) r l s (w .next)))
+    (record { answer = w .answer; pair = refl; bytes = w .bytes; lengths = w .lengths })
+
+pub read-whole : (p : Pair) (h : ℕ) (peek : Bool) (ring table buffer buffer′ : List ℕ) (e : Ends) (r : Outcome) → length (p .places .table) ≡ 128
+    → e ≡ endsOf p → EndsRead e h peek ring table buffer buffer′ r → Read p h peek ring table buffer buffer′ (settled r p)
+unfolding R.readAnswer
+read-whole p h peek ring table buffer buffer′ e r l f v =
+    let w = subst (λ (k : Ends). EndsRead k h peek ring table buffer buffer′ r) f v in
+    let z = lentOf (p .datagram) (own (isOne h) p .queue) ring table in
+    let s : (countOf (r .answer) ≡ 0 → ⊥) → sound (p .places) ≡ true
+    = λ (n : countOf (r .answer) ≡ 0 → ⊥). passed (endsOf p) h (own (isOne h) p .queue) z _ (r .answer) (w .answer) (counted (r .answer) n) .sound .places in
+    let first = firstLength (p .datagram) (own (isOne h) p .queue) table in
+    subst (λ (k : Step). Read p h peek ring table buffer buffer′ k) (sym (read-settled p h (r .answer) r l s peek first (w .next)))
+    (record { answer = w .answer; pair = refl; bytes = w .bytes })

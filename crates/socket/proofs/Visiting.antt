@@ -1,0 +1,219 @@
+-- The visit of the waits can wait until both words have changed. Assumes nothing.
+use Prim.Native.Nat.{ℕ}
+use mathlib.Core.Path.{_≡_, refl, sym, ap, _∙_}
+use mathlib.Core.Bool.{Bool, true, false, not, false≢true}
+use mathlib.Core.Logic.{⊎-elim}
+use mathlib.Core.List.{List}
+use mir.Val.{Val}
+use denote.Laws.{Is}
+use denote.Struct.Laws as LL
+use lib.ListN.{length}
+use lib.Dec.{eqb}
+use borrow.Author.Tests.{leb-true, eqb-true, eqb-false}
+use Rattle.status.specs.declared.Answer.{Answer}
+use Rattle.status.specs.Choice.{pick}
+use Rattle.status.proofs.Rules.{pick-on, pick-off}
+use Rattle.port.specs.declared.Places.{Places}
+use Rattle.port.specs.Signal.{changedWord}
+use Rattle.port.specs.Table.{sound}
+use Rattle.port.specs.Port.{changeOf, firedOf}
+use Rattle.port.proofs.Lists.{either}
+use Rattle.port.proofs.Operations.{change-sound, change-unsound, change-same, change-fired}
+use Rattle.port.proofs.Size.{table-128}
+use Rattle.port.proofs.Idle.{idle, no-waits}
+use Rattle.port.proofs.Sound.{sound-change}
+use Rattle.endpoint.specs.Endpoint.{withQueue, withSignals}
+use Rattle.ends.specs.declared.Pending.{Pending}
+use Rattle.ends.specs.declared.Visits.{Visits}
+use Rattle.ends.specs.declared.Outcome.{Outcome}
+use Rattle.ends.specs.declared.change.Moved.{Moved}
+use Rattle.ends.specs.Outcome.{noVisit, keepsWord, canFire, outcomeOf, keptEnds}
+use Rattle.ends.specs.Write.{fedQueue, fedEnds}
+use Rattle.ends.specs.Read.{drainedQueue, drainedEnds}
+use Rattle.socket.specs.declared.Pair.{Pair}
+use Rattle.socket.proofs.Pair as T
+use Rattle.socket.proofs.Pair.Laws as T′
+use Rattle.socket.specs.Pair.{own, peer, withEnd, withPlaces, withChange, signalChange}
+use Rattle.socket.specs.Write.{wrote}
+use Rattle.socket.specs.Read.{consumed}
+use Rattle.socket.specs.Deferred.{visited, visitedPair, settled, withEnds, withOutcome}
+
+-- ---- a change that fires nothing
+
+pub visited-same : (a : Pending) (t : Places) → changedWord (a .clear) (a .set) (a .word) ≡ a .word → visited a t ≡ t
+unfolding visited
+visited-same a t e =
+    ⊎-elim
+    (λ (s : sound t ≡ true). ap (λ c. c .places) (change-same (a .one) (a .word) (a .clear) (a .set) t s e))
+    (λ (s : sound t ≡ false). ap (λ c. c .places) (change-unsound (a .one) (a .word) (a .clear) (a .set) t s))
+    (either (sound t))
+
+pub visited-none : (t : Places) → visited noVisit t ≡ t
+unfolding changedWord
+visited-none t = visited-same noVisit t refl
+
+pub visited-idle : (a : Pending) (t : Places) → t .waits ≡ 0 → length (t .table) ≡ 128 → visited a t ≡ t
+unfolding visited
+visited-idle a t w l =
+    let n = changedWord (a .clear) (a .set) (a .word) in
+    ⊎-elim
+    (λ (s : sound t ≡ true).
+    let f : firedOf (a .one) n t ≡ t = idle (a .one) n t (rw l (leb-true _ _ s)) (no-waits (a .one) n t w) in
+    ⊎-elim
+    (λ (e : eqb n (a .word) ≡ true). ap (λ c. c .places) (change-same (a .one) (a .word) (a .clear) (a .set) t s (eqb-true _ _ e)))
+    (λ (e : eqb n (a .word) ≡ false). ap (λ c. c .places) (change-fired (a .one) (a .word) (a .clear) (a .set) t s (eqb-false _ _ e)) ∙ f)
+    (either (eqb n (a .word))))
+    (λ (s : sound t ≡ false). ap (λ c. c .places) (change-unsound (a .one) (a .word) (a .clear) (a .set) t s))
+    (either (sound t))
+
+pub visited-both : (v : Visits) (p : Pair) → visited (v .first) (p .places) ≡ p .places → visited (v .second) (p .places) ≡ p .places → visitedPair v p ≡ p
+unfolding visitedPair withPlaces
+visited-both v p e f = rw (e, f) refl
+
+-- ---- the ends first, then the visits
+
+changed-word : (one : Bool) (w clear set : ℕ) (t : Places) → sound t ≡ true → changeOf one w clear set t .word ≡ changedWord clear set w
+changed-word one w clear set t s = ap (λ c. c .word) (change-sound one w clear set t s)
+
+signal-visited : (t : Bool) (clear set : ℕ) (p : Pair) → sound (p .places) ≡ true
+    → signalChange t clear set p
+    ≡ withPlaces (changeOf t (own t p .signals) clear set (p .places) .places) (withEnd t (withSignals (changedWord clear set (own t p .signals)) (own t p)) p)
+unfolding signalChange withChange
+signal-visited t clear set p s = rw (changed-word t (own t p .signals) clear set (p .places) s) refl
+
+-- the pair after a call by end t: the ends that it moved, then the visits
+abbrev pub movedPair : Bool → Moved → Pair → Pair
+movedPair t d p = visitedPair (d .visits) (withEnds (pick t (d .own) (d .peer)) (pick t (d .peer) (d .own)) p)
+
+-- two changes, one of each end
+two-visited : (t : Bool) (clear set clear′ set′ : ℕ) (p : Pair) → sound (p .places) ≡ true
+    → signalChange (not t) clear′ set′ (signalChange t clear set p)
+    ≡ movedPair t
+    (record {
+      own = withSignals (changedWord clear set (own t p .signals)) (own t p);
+      peer = withSignals (changedWord clear′ set′ (peer t p .signals)) (peer t p);
+      visits =
+          record {
+            first = record { one = t; word = own t p .signals; clear = clear; set = set };
+            second = record { one = not t; word = peer t p .signals; clear = clear′; set = set′ };
+          };
+    })
+    p
+unfolding visitedPair visited withEnds withEnd withPlaces pick
+two-visited true clear set clear′ set′ p s =
+    ap (λ q. signalChange false clear′ set′ q) (signal-visited true clear set p s)
+    ∙ signal-visited false clear′ set′ _ (sound-change (p .places) s true (p .one .signals) clear set)
+two-visited false clear set clear′ set′ p s =
+    ap (λ q. signalChange true clear′ set′ q) (signal-visited false clear set p s)
+    ∙ signal-visited true clear′ set′ _ (sound-change (p .places) s false (p .two .signals) clear set)
+
+pub fed-visited : (t : Bool) (m : ℕ) (p : Pair) → sound (p .places) ≡ true
+    → movedPair t (fedEnds (p .datagram) (p .capacity) t (own t p) (peer t p) m) p ≡ wrote t m p
+unfolding fedEnds wrote withEnds withEnd withSignals withQueue visitedPair pick
+fed-visited true m p s = sym (two-visited false 0 _ _ 0 (withEnd false (withQueue (fedQueue (p .datagram) m (p .two .queue)) (p .two)) p) s)
+fed-visited false m p s = sym (two-visited true 0 _ _ 0 (withEnd true (withQueue (fedQueue (p .datagram) m (p .one .queue)) (p .one)) p) s)
+
+pub kept-visited : (t : Bool) (p : Pair) → movedPair t (keptEnds (own t p) (peer t p)) p ≡ p
+unfolding keptEnds visitedPair withEnds withPlaces pick
+kept-visited true p = rw (visited-none (p .places), visited-none (p .places)) refl
+kept-visited false p = rw (visited-none (p .places), visited-none (p .places)) refl
+
+-- one change, of a reader whose peer is closed
+one-visited : (t : Bool) (clear set : ℕ) (p : Pair) → sound (p .places) ≡ true
+    → signalChange t clear set p
+    ≡ movedPair t
+    (record {
+      own = withSignals (changedWord clear set (own t p .signals)) (own t p);
+      peer = peer t p;
+      visits = record { first = record { one = t; word = own t p .signals; clear = clear; set = set }; second = noVisit };
+    })
+    p
+unfolding visitedPair visited withEnds withEnd withPlaces pick
+one-visited true clear set p s =
+    signal-visited true clear set p s
+    ∙ ap (λ u. withPlaces u (withEnd true (withSignals (changedWord clear set (p .one .signals)) (p .one)) p)) (sym (visited-none _))
+one-visited false clear set p s =
+    signal-visited false clear set p s
+    ∙ ap (λ u. withPlaces u (withEnd false (withSignals (changedWord clear set (p .two .signals)) (p .two)) p)) (sym (visited-none _))
+
+-- by whether the peer is closed
+by-closed : (t c : Bool) (lost gained : ℕ) (q : Pair) → sound (q .places) ≡ true
+    → movedPair t
+    (pick c
+    (record {
+      own = withSignals (changedWord lost 0 (own t q .signals)) (own t q);
+      peer = peer t q;
+      visits = record { first = record { one = t; word = own t q .signals; clear = lost; set = 0 }; second = noVisit };
+    })
+    (record {
+      own = withSignals (changedWord lost 0 (own t q .signals)) (own t q);
+      peer = withSignals (changedWord 0 gained (peer t q .signals)) (peer t q);
+      visits =
+          record {
+            first = record { one = t; word = own t q .signals; clear = lost; set = 0 };
+            second = record { one = not t; word = peer t q .signals; clear = 0; set = gained };
+          };
+    }))
+    q
+    ≡ pick c (signalChange t lost 0 q) (signalChange (not t) 0 gained (signalChange t lost 0 q))
+unfolding pick
+by-closed t true lost gained q s = sym (one-visited t lost 0 q s)
+by-closed t false lost gained q s = sym (two-visited t lost 0 0 gained q s)
+
+pub drained-visited : (t : Bool) (n : ℕ) (p : Pair) → sound (p .places) ≡ true
+    → movedPair t (drainedEnds (p .datagram) (p .capacity) t (own t p) (peer t p) n) p ≡ consumed t n p
+unfolding drainedEnds consumed withEnds withEnd withQueue withSignals visitedPair
+drained-visited true n p s =
+    by-closed true (p .two .closed) _ _ (withEnd true (withQueue (drainedQueue (p .datagram) (p .capacity) n (p .one .queue)) (p .one)) p) s
+drained-visited false n p s =
+    by-closed false (p .one .closed) _ _ (withEnd false (withQueue (drainedQueue (p .datagram) (p .capacity) n (p .two .queue)) (p .two)) p) s
+
+-- ---- where no wait can fire
+
+neither-changed : (z a b : Bool) → z ≡ false → pick z false (pick a (not b) true) ≡ false → (a ≡ true) × (b ≡ true)
+unfolding pick
+neither-changed true a b z e = absurd (false≢true (sym z))
+neither-changed false true true z e = (refl, refl)
+neither-changed false true false z e = absurd (false≢true (sym e))
+neither-changed false false b z e = absurd (false≢true (sym e))
+
+cannot-fire : (v : Visits) (p : Pair) → length (p .places .table) ≡ 128 → canFire (p .places .waits) v ≡ false → visitedPair v p ≡ p
+unfolding canFire keepsWord
+cannot-fire v p l e =
+    ⊎-elim
+    (λ (z : eqb (p .places .waits) 0 ≡ true).
+    let w = eqb-true (p .places .waits) 0 z in
+    visited-both v p (visited-idle (v .first) (p .places) w l) (visited-idle (v .second) (p .places) w l))
+    (λ (z : eqb (p .places .waits) 0 ≡ false).
+    let w = neither-changed _ _ _ z e in
+    visited-both v p (visited-same (v .first) (p .places) (eqb-true _ _ (w .0))) (visited-same (v .second) (p .places) (eqb-true _ _ (w .1))))
+    (either (eqb (p .places .waits) 0))
+
+settled-pair : (f : Bool) (p q : Pair) → (f ≡ false → p ≡ q) → pick f p q ≡ p
+unfolding pick
+settled-pair true p q g = refl
+settled-pair false p q g = sym (g refl)
+
+-- a call that is settled
+pub settled-on : (r : Outcome) (p q q′ : Pair) → r .fires ≡ true → q ≡ withOutcome r p → q′ ≡ visitedPair (r .visits) q
+    → record { pair = q′; answer = r .answer } ≡ settled r p
+unfolding settled
+settled-on r p q q′ f e g =
+    ap (λ (k : Pair). record { pair = k; answer = r .answer }) (pick-on _ _ _ _ _ f (g ∙ ap (visitedPair (r .visits)) e))
+
+pub settled-off : (r : Outcome) (p q : Pair) → r .fires ≡ false → q ≡ withOutcome r p → record { pair = q; answer = r .answer } ≡ settled r p
+unfolding settled
+settled-off r p q f e = ap (λ (k : Pair). record { pair = k; answer = r .answer }) (pick-off _ _ _ _ _ f e)
+
+pub settled-moved : (p : Pair) (t : Bool) (a : Answer) (d : Moved) → length (p .places .table) ≡ 128
+    → settled (outcomeOf (p .places .waits) t a d) p ≡ record { pair = movedPair t d p; answer = a }
+unfolding settled outcomeOf withEnds
+settled-moved p t a d l =
+    let q = withEnds (pick t (d .own) (d .peer)) (pick t (d .peer) (d .own)) p in
+    ap (λ (k : Pair). record { pair = k; answer = a })
+    (settled-pair (canFire (p .places .waits) (d .visits)) (visitedPair (d .visits) q) q (cannot-fire (d .visits) q l))
+
+-- ---- the places of a pair that is owned
+
+pub places-128 : (p : Pair) (vs : List Val) → Is T.the-row p vs → length (p .places .table) ≡ 128
+places-128 p vs g = table-128 (p .places) _ (LL.owed T.the-type T′.the-laws p vs g .1 .1 .1 .1 .0)

@@ -1,0 +1,11 @@
+use Rattle.socket.proofs.parts.peer.Statement.{statement}
+use Rattle.socket.proofs.parts.peer.Tie as tie
+
+returns : tie.Need-returns
+returns c = rw (c .before .if1 .taken)
+
+returns-2 : tie.Need-returns-2
+returns-2 c = rw (c .before .if1 .left)
+
+pub peer-spec : {M : Type 1} → statement M
+peer-spec = tie.close (tie.spec returns returns-2)

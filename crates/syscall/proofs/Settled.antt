@@ -1,0 +1,91 @@
+-- A write and a read over user memory whose waits are visited later: the whole pair, once they are. Assumes nothing.
+use Prim.Native.Nat.{ℕ}
+use mathlib.Core.Path.{_≡_, refl, sym, ap, subst, _∙_}
+use mathlib.Core.Bool.{true}
+use mathlib.Core.List.{List}
+use lib.ListN.{length}
+use Rattle.status.specs.Choice.{pick}
+use Rattle.status.specs.Answer.{countOf, isDone}
+use Rattle.status.proofs.Chains.{counted}
+use Rattle.port.specs.Table.{sound}
+use Rattle.endpoint.specs.Queue.{firstLength}
+use Rattle.ends.specs.Read.{readEnds}
+use Rattle.ends.specs.Write.{wroteEnds}
+use Rattle.ends.specs.declared.Ends.{Ends}
+use Rattle.ends.specs.declared.Outcome.{Outcome}
+use Rattle.socket.specs.declared.Pair.{Pair}
+use Rattle.socket.specs.declared.Step.{Step}
+use Rattle.socket.specs.Pair.{isOne, own, endsOf}
+use Rattle.socket.specs.Tests.{lentOf}
+use Rattle.socket.specs.Read.{pairRead}
+use Rattle.socket.specs.Deferred.{settled}
+use Rattle.socket.proofs.Settled.{wrote-settled, read-settled}
+use Rattle.syscall.specs.Ends.{pairOf, wroteStep, readStep}
+use Rattle.syscall.specs.Memory.{countLanded}
+use Rattle.syscall.specs.Write.{UserWrote}
+use Rattle.syscall.specs.Read.{isPeek, userReadAnswer, bytesLanded, BytesRead, UserRead}
+use Rattle.syscall.proofs.Passed.{write-passed, read-passed}
+use Rattle.syscall.proofs.Same.{same-write, same-read, same-landed}
+
+module _ (p : Pair) (h base options address n countAt : ℕ) (e : Ends) (r : Outcome) (l : length (p .places .table) ≡ 128)
+    (f : e ≡ endsOf p) where
+  pub wrote-whole : (memory memory′ ring ring′ table table′ : List ℕ)
+      → UserWrote (pairOf e) h base options address n countAt memory memory′ ring ring′ table table′ (wroteStep e h (r .answer))
+      → r ≡ wroteEnds e h (r .answer) → UserWrote p h base options address n countAt memory memory′ ring ring′ table table′ (settled r p)
+  wrote-whole memory memory′ ring ring′ table table′ u next =
+      let a = r .answer in
+      let w = subst (λ (k : Ends). UserWrote (pairOf k) h base options address n countAt memory memory′ ring ring′ table table′ (wroteStep k h a)) f u in
+      let x = w .answer ∙ same-write p h base (length memory) options address n countAt ring table in
+      let s : (countOf a ≡ 0 → ⊥) → sound (p .places) ≡ true
+      = λ (z : countOf a ≡ 0 → ⊥). write-passed p _ h base (length memory) options address n countAt a x (counted a z) .sound .places in
+      subst (λ (k : Step). UserWrote p h base options address n countAt memory memory′ ring ring′ table table′ k)
+      (sym (wrote-settled p h a r l s (subst (λ (k : Ends). r ≡ wroteEnds k h a) f next)))
+      (record {
+        answer = x;
+        pair = refl;
+        bytes = w .bytes;
+        lengths = w .lengths;
+        user = w .user;
+      })
+
+  module _ (ring table memory memory′ : List ℕ) where
+    -- the first queued length of the ends
+    abbrev firstOf : Ends → ℕ
+    firstOf k = firstLength (k .datagram) (own (isOne h) (pairOf k) .queue) table
+
+    -- the answer and the step
+    read-is : r .answer ≡ userReadAnswer (pairOf e) (lentOf (e .datagram) (own (isOne h) (pairOf e) .queue) ring table) h base (length memory) options address n countAt
+        → r ≡ readEnds e h (isPeek options) (firstOf e) (r .answer)
+        → (r .answer ≡ userReadAnswer p (lentOf (p .datagram) (own (isOne h) p .queue) ring table) h base (length memory) options address n countAt)
+        × (settled r p ≡ record { pair = pairRead p h (isPeek options) (firstLength (p .datagram) (own (isOne h) p .queue) table) (countOf (r .answer)); answer = r .answer })
+    read-is answer next =
+        let a = r .answer in
+        let told = subst (λ (k : Ends). a ≡ userReadAnswer (pairOf k) (lentOf (k .datagram) (own (isOne h) (pairOf k) .queue) ring table) h base (length memory) options address n countAt) f answer in
+        let x = told ∙ same-read p h base (length memory) options address n countAt ring table in
+        let s : (countOf a ≡ 0 → ⊥) → sound (p .places) ≡ true
+        = λ (z : countOf a ≡ 0 → ⊥). read-passed p _ h base (length memory) options address n countAt a x (counted a z) .sound .places in
+        let w = subst (λ (k : Ends). r ≡ readEnds k h (isPeek options) (firstOf k) a) f next in
+        (x, read-settled p h a r l s (isPeek options) _ w)
+
+    landed-is : bytesLanded (pairOf e) h base address (countOf (r .answer)) ring memory ≡ bytesLanded p h base address (countOf (r .answer)) ring memory
+    landed-is =
+        ap (λ (k : Ends). bytesLanded (pairOf k) h base address (countOf (r .answer)) ring memory) f
+        ∙ same-landed p h base address (countOf (r .answer)) ring memory
+
+    pub bytes-whole : BytesRead (pairOf e) h base options address n countAt ring table memory memory′ (readStep e h (isPeek options) (firstOf e) (r .answer))
+        → r ≡ readEnds e h (isPeek options) (firstOf e) (r .answer) → BytesRead p h base options address n countAt ring table memory memory′ (settled r p)
+    bytes-whole w next =
+        let x = read-is (w .answer) next in
+        subst (λ (k : Step). BytesRead p h base options address n countAt ring table memory memory′ k) (sym (x .1))
+        (record { answer = x .0; pair = refl; user = w .user ∙ landed-is })
+
+    pub read-whole : UserRead (pairOf e) h base options address n countAt ring table memory memory′ (readStep e h (isPeek options) (firstOf e) (r .answer))
+        → r ≡ readEnds e h (isPeek options) (firstOf e) (r .answer) → UserRead p h base options address n countAt ring table memory memory′ (settled r p)
+    read-whole w next =
+        let x = read-is (w .answer) next in
+        subst (λ (k : Step). UserRead p h base options address n countAt ring table memory memory′ k) (sym (x .1))
+        (record {
+          answer = x .0;
+          pair = refl;
+          user = w .user ∙ ap (λ (u : List ℕ). pick (isDone (r .answer)) (countLanded base countAt (countOf (r .answer)) u) memory) landed-is;
+        })

@@ -1,0 +1,149 @@
+// A write and a read over user memory that change the two ends and leave the visit of the waits for later.
+use crate::memory::land_count;
+use crate::tests;
+use crate::tests::Buffer;
+use crate::tests::SOCKET_PEEK;
+use ends::Ends;
+use ends::Outcome;
+use ends::unchanged;
+use status::Answer;
+ghost use mathlib.Core.Path.{_≡_};
+ghost use Prim.Native.Nat.{_-_};
+ghost use lib.ListN.{length, drop};
+ghost use Rattle.status.specs.Answer.{countOf};
+ghost use Rattle.endpoint.specs.Queue.{firstLength};
+ghost use Rattle.ends.specs.Read.{readEnds};
+ghost use Rattle.ends.specs.Write.{wroteEnds};
+ghost use Rattle.socket.specs.Pair.{isOne, own, peer};
+ghost use Rattle.socket.specs.Tests.{lentOf};
+ghost use Rattle.socket.specs.Write.{ringWritten, tableWritten};
+ghost use Rattle.syscall.specs.Ends.{pairOf, wroteStep, readStep};
+ghost use Rattle.syscall.specs.Write.{Taking, UserWrote};
+ghost use Rattle.syscall.specs.Read.{isPeek, BytesRead, UserRead};
+
+// Writes the bytes of memory, from an address on, that a write with this answer takes.
+fn write_bytes(
+    p: Ends,
+    handle: u32,
+    base: u64,
+    memory: &[u8],
+    address: u64,
+    a: Answer,
+    ring: &mut [u8],
+    table: &mut [u32],
+) -> Outcome
+    requires { ⌜ Taking (pairOf p) handle base (length (now memory)) address a (lentOf (p .datagram) (peer (isOne handle) (pairOf p) .queue) (now ring) (now table)) ⌝ }
+    ensures { λ r. ⌜ (r ≡ wroteEnds p handle a) × (now (ring .exit) ≡ ringWritten (pairOf p) handle (countOf a) (drop (address - base) (now (memory .entry))) (now (ring .entry))) × (now (table .exit) ≡ tableWritten (pairOf p) handle (countOf a) (now (table .entry))) ⌝ }
+{
+    let m = status::count_of(a);
+    if m == 0 {
+        return unchanged(p, a);
+    }
+    let from = (address - base) as usize;
+    let to = from + m as usize;
+    ends::write_ends(p, handle, ring, table, &memory[from..to])
+}
+
+// Writes the bytes of user memory to the peer's queue and lands the count of those taken, but leaves the visit of the waits for later.
+pub fn write_ends(
+    p: Ends,
+    handle: u32,
+    options: u32,
+    base: u64,
+    memory: &mut [u8],
+    address: u64,
+    count: u64,
+    count_at: u64,
+    ring: &mut [u8],
+    table: &mut [u32],
+) -> Outcome
+    ensures { λ r. ⌜ (UserWrote (pairOf p) handle base options address count «count_at» (now (memory .entry)) (now (memory .exit)) (now (ring .entry)) (now (ring .exit)) (now (table .entry)) (now (table .exit)) (wroteStep p handle (r .answer))) × (r ≡ wroteEnds p handle (r .answer)) ⌝ }
+{
+    let b = Buffer {
+        base,
+        size: memory.len(),
+        address,
+        count,
+        count_at,
+    };
+    let a = tests::write_answer(p, handle, options, b, ring, table);
+    if !status::is_done(a) {
+        return unchanged(p, a);
+    }
+    let r = write_bytes(p, handle, base, memory, address, a, ring, table);
+    land_count(memory, base, count_at, status::count_of(a));
+    r
+}
+
+// A read, but for its count and the visit of the waits.
+pub fn bytes_ends(
+    p: Ends,
+    handle: u32,
+    options: u32,
+    base: u64,
+    memory: &mut [u8],
+    address: u64,
+    count: u64,
+    count_at: u64,
+    ring: &[u8],
+    table: &[u32],
+) -> Outcome
+    ensures { λ r. ⌜ (BytesRead (pairOf p) handle base options address count «count_at» (now (ring .entry)) (now (table .entry)) (now (memory .entry)) (now (memory .exit)) (readStep p handle (isPeek options) (firstLength (p .datagram) (own (isOne handle) (pairOf p) .queue) (now (table .entry))) (r .answer))) × (r ≡ readEnds p handle (isPeek options) (firstLength (p .datagram) (own (isOne handle) (pairOf p) .queue) (now (table .entry))) (r .answer)) ⌝ }
+{
+    let b = Buffer {
+        base,
+        size: memory.len(),
+        address,
+        count,
+        count_at,
+    };
+    let a = tests::read_answer(p, handle, options, b, ring, table);
+    if status::count_of(a) == 0 {
+        return unchanged(p, a);
+    }
+    let from = (address - base) as usize;
+    let to = from + count as usize;
+    ends::read_ends(
+        p,
+        handle,
+        options == SOCKET_PEEK,
+        ring,
+        table,
+        &mut memory[from..to],
+    )
+}
+
+// Reads the front of the own queue into user memory and lands the count over the bytes, but leaves the visit of the waits for later.
+pub fn read_ends(
+    p: Ends,
+    handle: u32,
+    options: u32,
+    base: u64,
+    memory: &mut [u8],
+    address: u64,
+    count: u64,
+    count_at: u64,
+    ring: &[u8],
+    table: &[u32],
+) -> Outcome
+    ensures { λ r. ⌜ (UserRead (pairOf p) handle base options address count «count_at» (now (ring .entry)) (now (table .entry)) (now (memory .entry)) (now (memory .exit)) (readStep p handle (isPeek options) (firstLength (p .datagram) (own (isOne handle) (pairOf p) .queue) (now (table .entry))) (r .answer))) × (r ≡ readEnds p handle (isPeek options) (firstLength (p .datagram) (own (isOne handle) (pairOf p) .queue) (now (table .entry))) (r .answer)) ⌝ }
+{
+    let r = bytes_ends(
+        p,
+        handle,
+        options,
+        base,
+        memory,
+        address,
+        count,
+        count_at,
+        ring,
+        table,
+    );
+    let a = r.answer;
+    if status::is_done(a) {
+        land_count(memory, base, count_at, status::count_of(a));
+        return r;
+    }
+    r
+}
