@@ -17,7 +17,7 @@ own-requires c κs = search needs
 
 returns-2 : tie.Need-returns-2
 unfolding isOpen
-returns-2 c = and-on _ _ _ (search (chain, c .before .own .ensures, c .before .before .if1 .left, c .before .before .before .is-handle .ensures)) (rw (← c .before .own .ensures) refl)
+returns-2 c = and-on _ _ _ (search (chain, c .before .before .if1 .left, c .before .before .before .is-handle .ensures)) (rw (← c .before .own .ensures) refl)
 
 pub is-open-spec : {M : Type 1} → statement M
 is-open-spec = tie.close (tie.spec is-handle-requires returns own-requires returns-2)

@@ -26,11 +26,11 @@ bad-first-requires c κs = search needs
 
 returns-3 : tie.Need-returns-3
 unfolding tableTest lentOf
-returns-3 c = pick-on _ _ _ _ _ (search (chain, c .if3 .taken, c .before .bad-first .ensures, c .before .before .first-length .ensures, c .before .before .before .if2 .left, c .before .before .before .before .short-table .ensures, c .before .before .before .before .before .if1 .left, c .before .before .before .before .before .before .is-handle .ensures)) (refuse-off _ _ _ _ (search (chain, c .if3 .taken, c .before .bad-first .ensures, c .before .before .first-length .ensures, c .before .before .before .if2 .left, c .before .before .before .before .short-table .ensures, c .before .before .before .before .before .if1 .left, c .before .before .before .before .before .before .is-handle .ensures)) (refuse-last _ _ (rw (← c .before .before .first-length .ensures, ← c .before .bad-first .ensures) (c .if3 .taken))))
+returns-3 c = pick-on _ _ _ _ _ (search (chain, c .before .before .before .before .before .if1 .left, c .before .before .before .before .before .before .is-handle .ensures)) (refuse-off _ _ _ _ (search (chain, c .before .before .before .if2 .left, c .before .before .before .before .short-table .ensures)) (refuse-last _ _ (rw (← c .before .before .first-length .ensures, ← c .before .bad-first .ensures) (c .if3 .taken))))
 
 returns-4 : tie.Need-returns-4
 unfolding tableTest lentOf
-returns-4 c = pick-on _ _ _ _ _ (search (chain, c .if3 .left, c .before .bad-first .ensures, c .before .before .first-length .ensures, c .before .before .before .if2 .left, c .before .before .before .before .short-table .ensures, c .before .before .before .before .before .if1 .left, c .before .before .before .before .before .before .is-handle .ensures)) (refuse-off _ _ _ _ (search (chain, c .if3 .left, c .before .bad-first .ensures, c .before .before .first-length .ensures, c .before .before .before .if2 .left, c .before .before .before .before .short-table .ensures, c .before .before .before .before .before .if1 .left, c .before .before .before .before .before .before .is-handle .ensures)) (pass-last _ _ (rw (← c .before .before .first-length .ensures, ← c .before .bad-first .ensures) (c .if3 .left))))
+returns-4 c = pick-on _ _ _ _ _ (search (chain, c .before .before .before .before .before .if1 .left, c .before .before .before .before .before .before .is-handle .ensures)) (refuse-off _ _ _ _ (search (chain, c .before .before .before .if2 .left, c .before .before .before .before .short-table .ensures)) (pass-last _ _ (rw (← c .before .before .first-length .ensures, ← c .before .bad-first .ensures) (c .if3 .left))))
 
 pub table-test-spec : {M : Type 1} → statement M
 table-test-spec =

@@ -19,11 +19,11 @@ cast-if2 c = search needs
 
 returns-2 : tie.Need-returns-2
 unfolding readThresholdAnswer
-returns-2 c = then-go _ _ _ _ (c .before .before .before .before .opening-test .ensures) (via-not-not (c .before .before .before .is-done .ensures) (c .before .before .if1 .left)) (search (chain, c .if2 .taken, c .before .before .if1 .left, c .before .before .before .is-done .ensures, c .before .before .before .before .opening-test .ensures) depth 6)
+returns-2 c = then-go _ _ _ _ (c .before .before .before .before .opening-test .ensures) (via-not-not (c .before .before .before .is-done .ensures) (c .before .before .if1 .left)) (search (chain, c .if2 .taken) depth 6)
 
 returns-3 : tie.Need-returns-3
 unfolding readThresholdAnswer
-returns-3 c = then-go _ _ _ _ (c .before .before .before .before .opening-test .ensures) (via-not-not (c .before .before .before .is-done .ensures) (c .before .before .if1 .left)) (search (chain, c .if2 .left, c .before .before .if1 .left, c .before .before .before .is-done .ensures, c .before .before .before .before .opening-test .ensures) depth 6)
+returns-3 c = then-go _ _ _ _ (c .before .before .before .before .opening-test .ensures) (via-not-not (c .before .before .before .is-done .ensures) (c .before .before .if1 .left)) (search (chain, c .if2 .left) depth 6)
 
 pub read-threshold-answer-spec : {M : Type 1} → statement M
 read-threshold-answer-spec =

@@ -19,18 +19,18 @@ peer-requires c κs = search needs
 
 returns-2 : tie.Need-returns-2
 unfolding writeThresholdAnswer
-returns-2 c = rw (← c .before .peer .ensures) (then-go _ _ _ _ (c .before .before .before .before .opening-test .ensures) (via-not-not (c .before .before .before .is-done .ensures) (c .before .before .if1 .left)) (search (chain, c .if2 .taken, c .before .peer .ensures, c .before .before .if1 .left, c .before .before .before .is-done .ensures, c .before .before .before .before .opening-test .ensures) depth 6))
+returns-2 c = rw (← c .before .peer .ensures) (then-go _ _ _ _ (c .before .before .before .before .opening-test .ensures) (via-not-not (c .before .before .before .is-done .ensures) (c .before .before .if1 .left)) (search (chain, c .if2 .taken) depth 6))
 
 cast-if3 : tie.Need-cast-if3
 cast-if3 c = search needs
 
 returns-3 : tie.Need-returns-3
 unfolding writeThresholdAnswer
-returns-3 c = rw (← c .before .before .before .peer .ensures) (then-go _ _ _ _ (c .before .before .before .before .before .before .opening-test .ensures) (via-not-not (c .before .before .before .before .before .is-done .ensures) (c .before .before .before .before .if1 .left)) (search (chain, c .if3 .taken, c .before .before .if2 .left, c .before .before .before .peer .ensures, c .before .before .before .before .if1 .left, c .before .before .before .before .before .is-done .ensures, c .before .before .before .before .before .before .opening-test .ensures) depth 6))
+returns-3 c = rw (← c .before .before .before .peer .ensures) (then-go _ _ _ _ (c .before .before .before .before .before .before .opening-test .ensures) (via-not-not (c .before .before .before .before .before .is-done .ensures) (c .before .before .before .before .if1 .left)) (search (chain, c .if3 .taken, c .before .before .if2 .left) depth 6))
 
 returns-4 : tie.Need-returns-4
 unfolding writeThresholdAnswer
-returns-4 c = rw (← c .before .before .before .peer .ensures) (then-go _ _ _ _ (c .before .before .before .before .before .before .opening-test .ensures) (via-not-not (c .before .before .before .before .before .is-done .ensures) (c .before .before .before .before .if1 .left)) (search (chain, c .if3 .left, c .before .before .if2 .left, c .before .before .before .peer .ensures, c .before .before .before .before .if1 .left, c .before .before .before .before .before .is-done .ensures, c .before .before .before .before .before .before .opening-test .ensures) depth 6))
+returns-4 c = rw (← c .before .before .before .peer .ensures) (then-go _ _ _ _ (c .before .before .before .before .before .before .opening-test .ensures) (via-not-not (c .before .before .before .before .before .is-done .ensures) (c .before .before .before .before .if1 .left)) (search (chain, c .if3 .left, c .before .before .if2 .left) depth 6))
 
 pub write-threshold-answer-spec : {M : Type 1} → statement M
 write-threshold-answer-spec =

@@ -19,7 +19,7 @@ shown-requires c κs = search needs
 
 returns-2 : tie.Need-returns-2
 unfolding shownBy
-returns-2 c = pick-on _ _ _ _ _ (search (chain, c .shown .ensures, c .before .own .ensures, c .before .before .if1 .left, c .before .before .before .is-handle .ensures)) (rw (← c .before .own .ensures) (c .shown .ensures))
+returns-2 c = pick-on _ _ _ _ _ (search (chain, c .before .before .if1 .left, c .before .before .before .is-handle .ensures)) (rw (← c .before .own .ensures) (c .shown .ensures))
 
 pub signal-spec : {M : Type 1} → statement M
 signal-spec = tie.close (tie.spec is-handle-requires returns own-requires shown-requires returns-2)
