@@ -4,21 +4,59 @@ use crate::Pair;
 use crate::Step;
 use crate::parts;
 use ends::Outcome;
+use ends::Pending;
 use ends::Visits;
+use port::Places;
+use port::changed;
 ghost use mathlib.Core.Path.{_≡_};
-ghost use Rattle.socket.specs.Deferred.{visitedPair, settled, withOutcome};
+ghost use Rattle.socket.specs.Deferred.{due, anyDue, visited, visitedPair, settled, withOutcome};
 
-// Visits the waits of both changes.
+// Whether a change fires a wait. The table is only read.
+fn is_due(t: Places, a: Pending) -> bool
+    ensures { λ r. ⌜ r ≡ due a t ⌝ }
+{
+    let next = changed(a.word, a.clear, a.set);
+    if next == a.word {
+        return false;
+    }
+    t.fires(a.one, next)
+}
+
+// Visits the waits of a change.
+fn visited(t: Places, a: Pending) -> Places
+    ensures { λ r. ⌜ r ≡ visited a t ⌝ }
+{
+    if is_due(t, a) {
+        let c = t.change(a.one, a.word, a.clear, a.set);
+        let after = c.places;
+        return after;
+    }
+    t
+}
+
+// Whether either change fires a wait.
+fn is_any_due(t: Places, v: Visits) -> bool
+    ensures { λ r. ⌜ r ≡ anyDue v t ⌝ }
+{
+    let a = v.first;
+    if is_due(t, a) {
+        return true;
+    }
+    let b = v.second;
+    is_due(t, b)
+}
+
+// Visits the waits of both changes. Mostly none fires, and the table of places is not rebuilt then.
 pub fn visit(p: Pair, v: Visits) -> Pair
     ensures { λ r. ⌜ r ≡ visitedPair v p ⌝ }
 {
-    let a = v.first;
-    let b = v.second;
     let places = p.places;
-    let one = places.change(a.one, a.word, a.clear, a.set);
-    let after = one.places;
-    let two = after.change(b.one, b.word, b.clear, b.set);
-    parts::with_places(p, two.places)
+    if is_any_due(places, v) {
+        let a = v.first;
+        let b = v.second;
+        return parts::with_places(p, visited(visited(places, a), b));
+    }
+    p
 }
 
 // The pair with both ends put anew.
