@@ -11,7 +11,7 @@ use lib.ListN.{length}
 use lib.Dec.{eqb}
 use borrow.Author.Tests.{eqb-true}
 use Rattle.status.specs.declared.Answer.{Answer}
-use Rattle.status.specs.Choice.{pick, _or_}
+use Rattle.status.specs.Choice.{pick}
 use Rattle.status.proofs.Rules.{pick-on, pick-off}
 use Rattle.port.specs.declared.Places.{Places}
 use Rattle.port.specs.Signal.{changedWord}
@@ -36,7 +36,7 @@ use Rattle.socket.proofs.Pair.Laws as T′
 use Rattle.socket.specs.Pair.{own, peer, withEnd, withPlaces, withChange, signalChange}
 use Rattle.socket.specs.Write.{wrote}
 use Rattle.socket.specs.Read.{consumed}
-use Rattle.socket.specs.Deferred.{due, anyDue, visited, visitedPair, settled, withEnds, withOutcome}
+use Rattle.socket.specs.Deferred.{due, visited, visitedPair, settled, withEnds, withOutcome}
 
 -- ---- a change that fires nothing
 
@@ -67,17 +67,6 @@ not-due a t l e =
 pub visited-both : (v : Visits) (p : Pair) → visited (v .first) (p .places) ≡ p .places → visited (v .second) (p .places) ≡ p .places → visitedPair v p ≡ p
 unfolding visitedPair withPlaces
 visited-both v p e f = rw (e, f) refl
-
-neither : (a b : Bool) → a or b ≡ false → (a ≡ false) × (b ≡ false)
-unfolding _or_
-neither true b e = absurd (false≢true (sym e))
-neither false b e = (refl, e)
-
-pub none-due : (v : Visits) (p : Pair) → length (p .places .table) ≡ 128 → anyDue v (p .places) ≡ false → visitedPair v p ≡ p
-unfolding anyDue
-none-due v p l e =
-    let n = neither _ _ e in
-    visited-both v p (not-due (v .first) (p .places) l (n .0)) (not-due (v .second) (p .places) l (n .1))
 
 -- ---- the ends first, then the visits
 

@@ -1,7 +1,7 @@
 -- A call whose visit of the waits is left for later. 01 "Signal word and packets": a change of a word visits the end's waits. The laws of
 -- proofs/Visiting say that the visit can wait until both words have changed.
 use mathlib.Core.Bool.{Bool, false}
-use Rattle.status.specs.Choice.{pick, _or_}
+use Rattle.status.specs.Choice.{pick}
 use Rattle.port.specs.declared.Places.{Places}
 use Rattle.port.specs.Signal.{changedWord}
 use Rattle.port.specs.Port.{firesOf, changeOf}
@@ -17,10 +17,6 @@ use Rattle.socket.specs.Pair.{withPlaces}
 -- whether a change fires a wait: the word is another then, and a wait of its end meets it
 unfoldable pub due : Pending → Places → Bool
 due a t = pick (keepsWord a) false (firesOf (a .one) (changedWord (a .clear) (a .set) (a .word)) t)
-
--- whether either change does
-unfoldable pub anyDue : Visits → Places → Bool
-anyDue v t = due (v .first) t or due (v .second) t
 
 -- the table after the waits of a change are visited
 unfoldable pub visited : Pending → Places → Places

@@ -6,55 +6,43 @@ use crate::parts;
 use ends::Outcome;
 use ends::Pending;
 use ends::Visits;
-use port::Places;
 use port::changed;
 ghost use mathlib.Core.Path.{_≡_};
-ghost use Rattle.socket.specs.Deferred.{due, anyDue, visited, visitedPair, settled, withOutcome};
+ghost use Rattle.socket.specs.Pair.{withPlaces};
+ghost use Rattle.socket.specs.Deferred.{due, visited, visitedPair, settled, withOutcome};
 
 // Whether a change fires a wait. The table is only read.
-fn is_due(t: Places, a: Pending) -> bool
-    ensures { λ r. ⌜ r ≡ due a t ⌝ }
+fn is_due(p: Pair, a: Pending) -> bool
+    ensures { λ r. ⌜ r ≡ due a (p .places) ⌝ }
 {
     let next = changed(a.word, a.clear, a.set);
     if next == a.word {
         return false;
     }
-    t.fires(a.one, next)
+    let places = p.places;
+    places.fires(a.one, next)
 }
 
 // Visits the waits of a change.
-fn visited(t: Places, a: Pending) -> Places
-    ensures { λ r. ⌜ r ≡ visited a t ⌝ }
+fn visited_by(p: Pair, a: Pending) -> Pair
+    ensures { λ r. ⌜ r ≡ withPlaces (visited a (p .places)) p ⌝ }
 {
-    if is_due(t, a) {
-        let c = t.change(a.one, a.word, a.clear, a.set);
-        let after = c.places;
-        return after;
-    }
-    t
-}
-
-// Whether either change fires a wait.
-fn is_any_due(t: Places, v: Visits) -> bool
-    ensures { λ r. ⌜ r ≡ anyDue v t ⌝ }
-{
-    let a = v.first;
-    if is_due(t, a) {
-        return true;
-    }
-    let b = v.second;
-    is_due(t, b)
+    let places = p.places;
+    let c = places.change(a.one, a.word, a.clear, a.set);
+    parts::with_places(p, c.places)
 }
 
 // Visits the waits of both changes. Mostly none fires, and the table of places is not rebuilt then.
 pub fn visit(p: Pair, v: Visits) -> Pair
     ensures { λ r. ⌜ r ≡ visitedPair v p ⌝ }
 {
-    let places = p.places;
-    if is_any_due(places, v) {
-        let a = v.first;
-        let b = v.second;
-        return parts::with_places(p, visited(visited(places, a), b));
+    let a = v.first;
+    let b = v.second;
+    if is_due(p, a) {
+        return visited_by(visited_by(p, a), b);
+    }
+    if is_due(p, b) {
+        return visited_by(p, b);
     }
     p
 }
