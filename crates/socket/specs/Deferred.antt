@@ -14,7 +14,7 @@ use Rattle.socket.specs.declared.Pair.{Pair}
 use Rattle.socket.specs.declared.Step.{Step}
 use Rattle.socket.specs.Pair.{withPlaces}
 
--- whether a change fires a wait: the word is another then, and a wait of its end meets it
+-- 01 "Signal word and packets": whether a change fires a wait, so that the word is another then and a wait of its end meets it
 unfoldable pub due : Pending → Places → Bool
 due a t = pick (keepsWord a) false (firesOf (a .one) (changedWord (a .clear) (a .set) (a .word)) t)
 

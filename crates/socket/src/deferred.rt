@@ -1,5 +1,5 @@
-// A call that leaves the visit of the waits for later. A caller that keeps the pair in place so rebuilds the table of places only where a
-// wait can fire.
+// A call that leaves the visit of the waits for later. A caller that keeps the pair in place so passes the table of places on only where a
+// wait can fire, and the table is rebuilt only where one does.
 use crate::Pair;
 use crate::Step;
 use crate::parts;
