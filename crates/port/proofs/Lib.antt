@@ -7,6 +7,7 @@ pub mod Tests
 pub mod Operations
 pub mod Refused
 pub mod Views
+pub mod Any
 pub mod Idle
 pub mod Sound
 pub mod Length

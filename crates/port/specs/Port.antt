@@ -5,7 +5,7 @@ use mathlib.Core.Bool.{Bool}
 use mathlib.Core.List.{[], _∷_, _++_}
 use lib.ListN.{length, drop, getD, replicate}
 use lib.Dec.{eqb}
-use Rattle.status.specs.Choice.{pick}
+use Rattle.status.specs.Choice.{pick, _and_}
 use Rattle.status.specs.Answer.{ok}
 use Rattle.status.specs.declared.Status.{Status}
 use Rattle.status.specs.declared.Status.the-variants.{Internal, NoResources, ShouldWait}
@@ -16,7 +16,7 @@ use Rattle.port.specs.declared.Places.{Places}
 use Rattle.port.specs.declared.Next.{Next}
 use Rattle.port.specs.declared.Change.{Change}
 use Rattle.port.specs.Signal.{changedWord, meets}
-use Rattle.port.specs.Table.{free, used, sound, packetsOf, waitsOf, unusedOf, tableOf, waitOf, observe, packetOf, fired, kept, others}
+use Rattle.port.specs.Table.{free, used, sound, packetsOf, waitsOf, unusedOf, tableOf, waitOf, observe, packetOf, anyFires, fired, kept, others}
 
 -- ---- the next tables
 
@@ -61,6 +61,10 @@ registerOf one w key mask edge t =
     pick (sound t)
     (pick (eqb (used t) 128) (refused NoResources t) (done (registeredOf (waitOf one key mask) w edge t)))
     (refused Internal t)
+
+-- 01 "Signal word and packets": whether a change of an end's word to w fires a wait; none where more than 128 places are used
+unfoldable pub firesOf : Bool → ℕ → Places → Bool
+firesOf one w t = sound t and anyFires one w (waitsOf t)
 
 -- 01 "Signal word and packets": one change of an end's word, here from w; if the word stays the same, nothing fires. 01 "Status and answer word":
 -- a table with more than 128 used places is INTERNAL.

@@ -8,8 +8,8 @@ ghost use mathlib.Core.Path.{_≡_};
 ghost use Prim.Native.Nat.{_+_, _≤_, _<_};
 ghost use lib.Dec.{leb};
 ghost use Rattle.port.specs.Signal.{changedWord};
-ghost use Rattle.port.specs.Table.{fires, observe, newPlaces};
-ghost use Rattle.port.specs.Port.{registeredOf, firedOf, droppedOf, takenOf, insertedOf, appendedOf, registerOf, changeOf, takeOf, dropOf};
+ghost use Rattle.port.specs.Table.{fires, anyFires, observe, newPlaces, waitsOf};
+ghost use Rattle.port.specs.Port.{registeredOf, firedOf, droppedOf, takenOf, insertedOf, appendedOf, registerOf, firesOf, changeOf, takeOf, dropOf};
 
 // The signals of a socket, by the bits of the public header.
 pub const READABLE: u32 = 0x1;
@@ -102,6 +102,23 @@ fn observed_at(p: Place, word: u32) -> Place
         observed: word,
         one: p.one,
     }
+}
+
+// Whether any wait of that end meets the word. Nothing is changed.
+fn any_fires(t: Places, one: bool, word: u32) -> bool
+    requires { ⌜ t .packets + t .waits ≤ 128 ⌝ }
+    ensures { λ r. ⌜ r ≡ anyFires one word (waitsOf t) ⌝ }
+{
+    let used = t.packets + t.waits;
+    let mut i = t.packets;
+    while i < used {
+        let p = t.table[i];
+        i = i + 1;
+        if is_fired(p, one, word) {
+            return true;
+        }
+    }
+    false
 }
 
 // Visits the waits from the newest to the oldest. Those that fire go behind the packets, the others to the end of the used places.
@@ -259,6 +276,16 @@ impl Places {
             places: self,
             answer: Answer::Refused(Status::Internal),
         }
+    }
+
+    // Whether a change of that end's word to this one fires a wait.
+    pub fn fires(self, one: bool, word: u32) -> bool
+        ensures { λ r. ⌜ r ≡ firesOf one word self ⌝ }
+    {
+        if is_sound(self.packets, self.waits) {
+            return any_fires(self, one, word);
+        }
+        false
     }
 
     // Changes that end's word. If it is another then, the end's waits whose mask meets it become packets, newest first.

@@ -9,18 +9,18 @@ use denote.Laws.{Is}
 use denote.Struct.Laws as LL
 use lib.ListN.{length}
 use lib.Dec.{eqb}
-use borrow.Author.Tests.{leb-true, eqb-true, eqb-false}
+use borrow.Author.Tests.{eqb-true}
 use Rattle.status.specs.declared.Answer.{Answer}
 use Rattle.status.specs.Choice.{pick}
 use Rattle.status.proofs.Rules.{pick-on, pick-off}
 use Rattle.port.specs.declared.Places.{Places}
 use Rattle.port.specs.Signal.{changedWord}
 use Rattle.port.specs.Table.{sound}
-use Rattle.port.specs.Port.{changeOf, firedOf}
+use Rattle.port.specs.Port.{changeOf}
 use Rattle.port.proofs.Lists.{either}
-use Rattle.port.proofs.Operations.{change-sound, change-unsound, change-same, change-fired}
+use Rattle.port.proofs.Operations.{change-sound, change-unsound, change-same}
 use Rattle.port.proofs.Size.{table-128}
-use Rattle.port.proofs.Idle.{idle, no-waits}
+use Rattle.port.proofs.Idle.{nothing-fires, idle-change}
 use Rattle.port.proofs.Sound.{sound-change}
 use Rattle.endpoint.specs.Endpoint.{withQueue, withSignals}
 use Rattle.ends.specs.declared.Pending.{Pending}
@@ -36,7 +36,7 @@ use Rattle.socket.proofs.Pair.Laws as T′
 use Rattle.socket.specs.Pair.{own, peer, withEnd, withPlaces, withChange, signalChange}
 use Rattle.socket.specs.Write.{wrote}
 use Rattle.socket.specs.Read.{consumed}
-use Rattle.socket.specs.Deferred.{visited, visitedPair, settled, withEnds, withOutcome}
+use Rattle.socket.specs.Deferred.{due, visited, visitedPair, settled, withEnds, withOutcome}
 
 -- ---- a change that fires nothing
 
@@ -54,17 +54,15 @@ visited-none t = visited-same noVisit t refl
 
 pub visited-idle : (a : Pending) (t : Places) → t .waits ≡ 0 → length (t .table) ≡ 128 → visited a t ≡ t
 unfolding visited
-visited-idle a t w l =
-    let n = changedWord (a .clear) (a .set) (a .word) in
+visited-idle a t w l = idle-change (a .one) (a .word) (a .clear) (a .set) t l (nothing-fires (a .one) _ t w)
+
+pub not-due : (a : Pending) (t : Places) → length (t .table) ≡ 128 → due a t ≡ false → visited a t ≡ t
+unfolding due keepsWord pick visited
+not-due a t l e =
     ⊎-elim
-    (λ (s : sound t ≡ true).
-    let f : firedOf (a .one) n t ≡ t = idle (a .one) n t (rw l (leb-true _ _ s)) (no-waits (a .one) n t w) in
-    ⊎-elim
-    (λ (e : eqb n (a .word) ≡ true). ap (λ c. c .places) (change-same (a .one) (a .word) (a .clear) (a .set) t s (eqb-true _ _ e)))
-    (λ (e : eqb n (a .word) ≡ false). ap (λ c. c .places) (change-fired (a .one) (a .word) (a .clear) (a .set) t s (eqb-false _ _ e)) ∙ f)
-    (either (eqb n (a .word))))
-    (λ (s : sound t ≡ false). ap (λ c. c .places) (change-unsound (a .one) (a .word) (a .clear) (a .set) t s))
-    (either (sound t))
+    (λ (k : eqb (changedWord (a .clear) (a .set) (a .word)) (a .word) ≡ true). visited-same a t (eqb-true _ _ k))
+    (λ (k : eqb (changedWord (a .clear) (a .set) (a .word)) (a .word) ≡ false). idle-change (a .one) (a .word) (a .clear) (a .set) t l (rw k at e))
+    (either (eqb (changedWord (a .clear) (a .set) (a .word)) (a .word)))
 
 pub visited-both : (v : Visits) (p : Pair) → visited (v .first) (p .places) ≡ p .places → visited (v .second) (p .places) ≡ p .places → visitedPair v p ≡ p
 unfolding visitedPair withPlaces
