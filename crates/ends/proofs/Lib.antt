@@ -1,3 +1,1 @@
 pub mod Sound
-pub mod Moved
-pub mod Outcomes

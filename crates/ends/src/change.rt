@@ -1,50 +1,22 @@
-// The outcome of a call on the two ends, and whether a wait can fire.
+// The outcome of a call on the two ends.
 use crate::Ends;
+use crate::Moved;
+use crate::NO_VISIT;
 use crate::Outcome;
-use crate::Pending;
 use crate::Visits;
 use endpoint::Endpoint;
-use port::changed;
 use status::Answer;
 ghost use mathlib.Core.Path.{_≡_};
 ghost use Rattle.status.specs.Choice.{pick};
-ghost use Rattle.ends.specs.Outcome.{keepsWord, canFire, outcomeOf, keptEnds, unchangedEnds};
+ghost use Rattle.ends.specs.Outcome.{noVisits, outcomeOf, keptEnds, unchangedEnds};
 
-// The caller's end and its peer after a call, and the changes of their words.
-pub struct Moved {
-    pub own: Endpoint,
-    pub peer: Endpoint,
-    pub visits: Visits,
-}
-
-// No change.
-pub const NO_VISIT: Pending = Pending {
-    one: true,
-    word: 0,
-    clear: 0,
-    set: 0,
-};
-
-// Whether a change leaves the word as it is.
-fn keeps_word(a: Pending) -> bool
-    ensures { λ r. ⌜ r ≡ keepsWord a ⌝ }
+// No changes.
+pub fn no_visits() -> Visits
+    ensures { λ r. ⌜ r ≡ noVisits ⌝ }
 {
-    changed(a.word, a.clear, a.set) == a.word
-}
-
-// Whether a visit can fire a wait: there are waits, and a word has changed.
-fn can_fire(waits: usize, v: Visits) -> bool
-    ensures { λ r. ⌜ r ≡ canFire waits v ⌝ }
-{
-    if waits == 0 {
-        return false;
-    }
-    let a = v.first;
-    if !keeps_word(a) {
-        return true;
-    }
-    let b = v.second;
-    !keeps_word(b)
+    let first = NO_VISIT;
+    let second = NO_VISIT;
+    Visits { first, second }
 }
 
 fn chosen(one: bool, a: Endpoint, b: Endpoint) -> Endpoint
@@ -57,8 +29,8 @@ fn chosen(one: bool, a: Endpoint, b: Endpoint) -> Endpoint
 }
 
 // The caller's end and its peer, put back by the caller's handle.
-pub fn put_back(waits: usize, one: bool, answer: Answer, moved: Moved) -> Outcome
-    ensures { λ r. ⌜ r ≡ outcomeOf waits one answer moved ⌝ }
+pub fn put_back(one: bool, answer: Answer, moved: Moved, more: Visits) -> Outcome
+    ensures { λ r. ⌜ r ≡ outcomeOf one answer moved more ⌝ }
 {
     let own = moved.own;
     let peer = moved.peer;
@@ -67,8 +39,8 @@ pub fn put_back(waits: usize, one: bool, answer: Answer, moved: Moved) -> Outcom
         one: chosen(one, own, peer),
         two: chosen(one, peer, own),
         answer,
-        fires: can_fire(waits, visits),
         visits,
+        more,
     }
 }
 
@@ -76,12 +48,10 @@ pub fn put_back(waits: usize, one: bool, answer: Answer, moved: Moved) -> Outcom
 pub fn kept_ends(own: Endpoint, peer: Endpoint) -> Moved
     ensures { λ r. ⌜ r ≡ keptEnds own peer ⌝ }
 {
-    let first = NO_VISIT;
-    let second = NO_VISIT;
     Moved {
         own,
         peer,
-        visits: Visits { first, second },
+        visits: no_visits(),
     }
 }
 
@@ -91,13 +61,11 @@ pub fn unchanged(p: Ends, answer: Answer) -> Outcome
 {
     let one = p.one;
     let two = p.two;
-    let first = NO_VISIT;
-    let second = NO_VISIT;
     Outcome {
         one,
         two,
         answer,
-        fires: false,
-        visits: Visits { first, second },
+        visits: no_visits(),
+        more: no_visits(),
     }
 }

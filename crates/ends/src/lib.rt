@@ -1,4 +1,4 @@
-// Both ends of a pair without its table of places: the tests of each call, its answer, and what a write and a read do to the two ends.
+// Both ends of a pair without its table of places: the tests of each call, its answer, and what a call leaves of the two ends.
 // After `Socket` of ipc/socket.rs.
 use endpoint::Endpoint;
 use status::Answer;
@@ -9,17 +9,17 @@ mod change;
 mod create;
 mod disposition;
 mod info;
-mod read;
 mod tests;
 mod threshold;
 mod wait;
-mod write;
 
+pub use change::kept_ends;
+pub use change::no_visits;
+pub use change::put_back;
 pub use change::unchanged;
 pub use create::create_answer;
 pub use disposition::dispose_answer;
 pub use info::info_answer;
-pub use read::read_ends;
 pub use tests::handle_test;
 pub use tests::is_handle;
 pub use tests::opening_test;
@@ -29,7 +29,6 @@ pub use threshold::read_threshold_answer;
 pub use threshold::thresholds_answer;
 pub use threshold::write_threshold_answer;
 pub use wait::wait_answer;
-pub use write::write_ends;
 
 // What every answer is made of. It is small, so that it is passed on at little cost. `one` names an end throughout: true is end 1.
 pub struct Ends {
@@ -49,19 +48,34 @@ pub struct Pending {
     pub set: u32,
 }
 
-// The changes of a call, in their order.
+// Two changes, in their order.
 pub struct Visits {
     pub first: Pending,
     pub second: Pending,
 }
 
-// The two ends after a call, its answer, whether a wait can fire, and the changes whose waits are then to be visited.
+// No change.
+pub const NO_VISIT: Pending = Pending {
+    one: true,
+    word: 0,
+    clear: 0,
+    set: 0,
+};
+
+// The caller's end and its peer after a call, and the changes of their words.
+pub struct Moved {
+    pub own: Endpoint,
+    pub peer: Endpoint,
+    pub visits: Visits,
+}
+
+// The two ends after a call, its answer, and the changes whose waits are then to be visited: those of `visits`, then those of `more`.
 pub struct Outcome {
     pub one: Endpoint,
     pub two: Endpoint,
     pub answer: Answer,
-    pub fires: bool,
     pub visits: Visits,
+    pub more: Visits,
 }
 
 impl Ends {

@@ -10,12 +10,9 @@ chosen-requires c κs = search needs
 chosen-requires-2 : tie.Need-chosen-requires-2
 chosen-requires-2 c κs = search needs
 
-can-fire-requires : tie.Need-can-fire-requires
-can-fire-requires c κs = search needs
-
 returns : tie.Need-returns
 unfolding outcomeOf
-returns c = rw (← c .before .before .chosen .ensures, ← c .before .chosen2 .ensures, ← c .can-fire .ensures) refl
+returns c = rw (← c .before .chosen .ensures, ← c .chosen2 .ensures) refl
 
 pub put-back-spec : {M : Type 1} → statement M
-put-back-spec = tie.close (tie.spec chosen-requires chosen-requires-2 can-fire-requires returns)
+put-back-spec = tie.close (tie.spec chosen-requires chosen-requires-2 returns)

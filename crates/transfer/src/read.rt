@@ -1,0 +1,186 @@
+// Read and peek.
+use endpoint::Endpoint;
+use endpoint::Queue;
+use endpoint::Span;
+use endpoint::gained_by_writer;
+use endpoint::lost_by_reader;
+use endpoint::read_size;
+use ends::Ends;
+use ends::Moved;
+use ends::NO_VISIT;
+use ends::Outcome;
+use ends::Pending;
+use ends::Visits;
+use port::changed;
+use status::Answer;
+ghost use mathlib.Core.Path.{_≡_};
+ghost use Prim.Native.Nat.{_≤_, _<_};
+ghost use lib.ListN.{length};
+ghost use lib.Dec.{eqb};
+ghost use lib.Seq.{paste};
+ghost use Rattle.status.specs.Choice.{pick, _or_};
+ghost use Rattle.ring.specs.Ring.{front};
+ghost use Rattle.ends.specs.Ends.{isOne, own};
+ghost use Rattle.ends.specs.Tests.{lentOf};
+ghost use Rattle.ends.specs.Outcome.{keptEnds};
+ghost use Rattle.transfer.specs.Read.{readAnswer, leaving, Drain, drainedQueue, drainedEnds, EndsRead};
+
+// The tests of a read or peek, then its size.
+fn read_answer(p: Ends, handle: u32, ring: &[u8], table: &[u32], n: usize) -> Answer
+    ensures { λ r. ⌜ r ≡ readAnswer p (lentOf (p .datagram) (own (isOne handle) p .queue) (now (ring .entry)) (now (table .entry))) handle n ⌝ }
+{
+    let sound = ends::sound_test(p);
+    if !status::is_done(sound) {
+        return sound;
+    }
+    let from = p.own(handle == 1);
+    let q = from.queue;
+    let lent = ends::slices_test(p.datagram, p.capacity, handle, q, ring, table);
+    if !status::is_done(lent) {
+        return lent;
+    }
+    let opened = ends::handle_test(p, handle);
+    if !status::is_done(opened) {
+        return opened;
+    }
+    let first = q.first_length(p.datagram, table);
+    read_size(p.datagram, from, p.peer(handle == 1), first, n)
+}
+
+// The bytes that leave the queue: a datagram leaves whole.
+fn leaving_of(datagram: bool, first: u32, k: u32) -> u32
+    ensures { λ r. ⌜ r ≡ leaving datagram first k ⌝ }
+{
+    if datagram {
+        return first;
+    }
+    k
+}
+
+// The queue after n bytes left it.
+fn drained_queue(datagram: bool, capacity: u32, n: u32, q: Queue) -> Queue
+    requires { ⌜ Drain datagram capacity n q ⌝ }
+    ensures { λ r. ⌜ r ≡ drainedQueue datagram capacity n q ⌝ }
+{
+    let start = ring::place(capacity as usize, q.bytes.start as usize, n as usize);
+    let bytes = Span {
+        start: start as u32,
+        count: q.bytes.count - n,
+    };
+    if datagram {
+        let next = ring::place(capacity as usize, q.lengths.start as usize, 1);
+        let fewer = Span {
+            start: next as u32,
+            count: q.lengths.count - 1,
+        };
+        return Queue {
+            bytes,
+            lengths: fewer,
+        };
+    }
+    let lengths = q.lengths;
+    Queue { bytes, lengths }
+}
+
+// The ends after n bytes left the own queue; a closed peer stays as it is.
+fn drained_ends(
+    datagram: bool,
+    capacity: u32,
+    one: bool,
+    own: Endpoint,
+    peer: Endpoint,
+    n: u32,
+) -> Moved
+    requires { ⌜ Drain datagram capacity n (own .queue) ⌝ }
+    ensures { λ r. ⌜ r ≡ drainedEnds datagram capacity one own peer n ⌝ }
+{
+    let q = own.queue;
+    let queued = q.bytes.count - n;
+    let lost = lost_by_reader(own, queued);
+    let drained = own.with_queue(drained_queue(datagram, capacity, n, q));
+    let next = drained.with_signals(changed(own.signals, lost, 0));
+    let first = Pending {
+        one,
+        word: own.signals,
+        clear: lost,
+        set: 0,
+    };
+    if peer.closed {
+        let second = NO_VISIT;
+        return Moved {
+            own: next,
+            peer,
+            visits: Visits { first, second },
+        };
+    }
+    let gained = gained_by_writer(peer, capacity - queued, q.bytes.count == capacity);
+    let second = Pending {
+        one: !one,
+        word: peer.signals,
+        clear: 0,
+        set: gained,
+    };
+    Moved {
+        own: next,
+        peer: peer.with_signals(changed(peer.signals, 0, gained)),
+        visits: Visits { first, second },
+    }
+}
+
+// The ends after a read that delivered k bytes: a peek, or a read that delivered nothing, changes nothing.
+fn consumed_ends(
+    datagram: bool,
+    capacity: u32,
+    one: bool,
+    own: Endpoint,
+    peer: Endpoint,
+    peek: bool,
+    first: u32,
+    k: u32,
+) -> Moved
+    requires { ⌜ ((k ≡ 0 → ⊥) → Drain datagram capacity (leaving datagram first k) (own .queue)) ⌝ }
+    ensures { λ r. ⌜ r ≡ pick (peek or eqb k 0) (keptEnds own peer) (drainedEnds datagram capacity one own peer (leaving datagram first k)) ⌝ }
+{
+    if peek {
+        return ends::kept_ends(own, peer);
+    }
+    if k == 0 {
+        return ends::kept_ends(own, peer);
+    }
+    let n = leaving_of(datagram, first, k);
+    drained_ends(datagram, capacity, one, own, peer, n)
+}
+
+// Copies the first k bytes of a queue into the buffer.
+fn deliver(capacity: u32, start: u32, k: u32, ring: &[u8], buffer: &mut [u8])
+    requires { ⌜ ((k ≡ 0 → ⊥) → (start < capacity) × (k ≤ capacity) × (capacity ≤ length (now ring)) × (k ≤ length (now buffer))) ⌝ }
+    ensures { λ _. ⌜ now (buffer .exit) ≡ pick (eqb k 0) (now (buffer .entry)) (paste (now (buffer .entry)) 0 (front capacity start k (now (ring .entry))) k) ⌝ }
+{
+    if k == 0 {
+        return;
+    }
+    ring::copy_out(ring, capacity as usize, start as usize, k as usize, buffer);
+}
+
+// A read or peek by the end of a handle, but for the visit of the waits. The ring and the table are the reader's.
+pub fn read_ends(
+    p: Ends,
+    handle: u32,
+    peek: bool,
+    ring: &[u8],
+    table: &[u32],
+    buffer: &mut [u8],
+) -> Outcome
+    ensures { λ r. ⌜ EndsRead p handle peek (now (ring .entry)) (now (table .entry)) (now (buffer .entry)) (now (buffer .exit)) r ⌝ }
+{
+    let a = read_answer(p, handle, ring, table, buffer.len());
+    let k = status::count_of(a);
+    let one = handle == 1;
+    let own = p.own(one);
+    let peer = p.peer(one);
+    let q = own.queue;
+    let first = q.first_length(p.datagram, table);
+    deliver(p.capacity, q.bytes.start, k, ring, buffer);
+    let moved = consumed_ends(p.datagram, p.capacity, one, own, peer, peek, first, k);
+    ends::put_back(one, a, moved, ends::no_visits())
+}

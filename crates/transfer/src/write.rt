@@ -1,0 +1,181 @@
+// Write.
+use endpoint::Endpoint;
+use endpoint::Queue;
+use endpoint::Span;
+use endpoint::gained_by_peer;
+use endpoint::lost_by_writer;
+use endpoint::write_size;
+use ends::Ends;
+use ends::Moved;
+use ends::Outcome;
+use ends::Pending;
+use ends::Visits;
+use port::changed;
+use status::Answer;
+ghost use mathlib.Core.Path.{_≡_};
+ghost use mathlib.Core.Bool.{true};
+ghost use Prim.Native.Nat.{_+_, _≤_, _<_, _^_};
+ghost use lib.Dec.{eqb};
+ghost use Rattle.status.specs.Choice.{pick};
+ghost use Rattle.ends.specs.Ends.{isOne, peer};
+ghost use Rattle.ends.specs.Tests.{lentOf};
+ghost use Rattle.ends.specs.Outcome.{keptEnds};
+ghost use Rattle.transfer.specs.Write.{writeAnswer, fedQueue, ringFed, tableFed, Feed, fedEnds, EndsWrote};
+
+// The tests of a write, then its size.
+fn write_answer(p: Ends, handle: u32, ring: &[u8], table: &[u32], n: usize) -> Answer
+    ensures { λ r. ⌜ r ≡ writeAnswer p (lentOf (p .datagram) (peer (isOne handle) p .queue) (now (ring .entry)) (now (table .entry))) handle n ⌝ }
+{
+    let sound = ends::sound_test(p);
+    if !status::is_done(sound) {
+        return sound;
+    }
+    let to = p.peer(handle == 1);
+    let q = to.queue;
+    let lent = ends::slices_test(p.datagram, p.capacity, handle, q, ring, table);
+    if !status::is_done(lent) {
+        return lent;
+    }
+    let opened = ends::handle_test(p, handle);
+    if !status::is_done(opened) {
+        return opened;
+    }
+    write_size(p.datagram, p.capacity, p.own(handle == 1), to, n)
+}
+
+// The queue that m bytes went into.
+fn fed_queue(datagram: bool, m: u32, q: Queue) -> Queue
+    requires { ⌜ (q .bytes .count + m < 2 ^ 32) × (datagram ≡ true → q .lengths .count + 1 < 2 ^ 32) ⌝ }
+    ensures { λ r. ⌜ r ≡ fedQueue datagram m q ⌝ }
+{
+    let bytes = Span {
+        start: q.bytes.start,
+        count: q.bytes.count + m,
+    };
+    if datagram {
+        let more = Span {
+            start: q.lengths.start,
+            count: q.lengths.count + 1,
+        };
+        return Queue {
+            bytes,
+            lengths: more,
+        };
+    }
+    let lengths = q.lengths;
+    Queue { bytes, lengths }
+}
+
+// Copies m bytes behind those queued, and on datagram pairs puts their length behind those queued.
+fn feed(
+    datagram: bool,
+    capacity: u32,
+    q: Queue,
+    m: u32,
+    bytes: &[u8],
+    ring: &mut [u8],
+    table: &mut [u32],
+)
+    requires { ⌜ Feed datagram capacity q m (now bytes) (now ring) (now table) ⌝ }
+    ensures { λ _. ⌜ now (ring .exit) ≡ ringFed capacity q m (now (bytes .entry)) (now (ring .entry)) ⌝ }
+    ensures { λ _. ⌜ now (table .exit) ≡ tableFed datagram capacity q m (now (table .entry)) ⌝ }
+{
+    let at = ring::place(
+        capacity as usize,
+        q.bytes.start as usize,
+        q.bytes.count as usize,
+    );
+    ring::copy_in(ring, capacity as usize, at, bytes, m as usize);
+    if datagram {
+        let next = ring::place(
+            capacity as usize,
+            q.lengths.start as usize,
+            q.lengths.count as usize,
+        );
+        table[next] = m;
+    }
+}
+
+// The ends after m bytes went in.
+fn fed_ends(
+    datagram: bool,
+    capacity: u32,
+    one: bool,
+    own: Endpoint,
+    peer: Endpoint,
+    m: u32,
+) -> Moved
+    requires { ⌜ (peer .queue .bytes .count + m ≤ capacity) × (datagram ≡ true → peer .queue .lengths .count + 1 < 2 ^ 32) ⌝ }
+    ensures { λ r. ⌜ r ≡ fedEnds datagram capacity one own peer m ⌝ }
+{
+    let q = peer.queue;
+    let queued = q.bytes.count + m;
+    let gained = gained_by_peer(peer, queued);
+    let lost = lost_by_writer(own, capacity - queued);
+    let fed = peer.with_queue(fed_queue(datagram, m, q));
+    let first = Pending {
+        one: !one,
+        word: peer.signals,
+        clear: 0,
+        set: gained,
+    };
+    let second = Pending {
+        one,
+        word: own.signals,
+        clear: lost,
+        set: 0,
+    };
+    Moved {
+        own: own.with_signals(changed(own.signals, lost, 0)),
+        peer: fed.with_signals(changed(peer.signals, 0, gained)),
+        visits: Visits { first, second },
+    }
+}
+
+// Copies m bytes into the peer's queue; the ends after that. 0 bytes change nothing.
+fn feed_ends(
+    datagram: bool,
+    capacity: u32,
+    one: bool,
+    own: Endpoint,
+    peer: Endpoint,
+    m: u32,
+    bytes: &[u8],
+    ring: &mut [u8],
+    table: &mut [u32],
+) -> Moved
+    requires { ⌜ ((m ≡ 0 → ⊥) → Feed datagram capacity (peer .queue) m (now bytes) (now ring) (now table)) ⌝ }
+    ensures { λ r. ⌜ r ≡ pick (eqb m 0) (keptEnds own peer) (fedEnds datagram capacity one own peer m) ⌝ }
+    ensures { λ _. ⌜ now (ring .exit) ≡ pick (eqb m 0) (now (ring .entry)) (ringFed capacity (peer .queue) m (now (bytes .entry)) (now (ring .entry))) ⌝ }
+    ensures { λ _. ⌜ now (table .exit) ≡ pick (eqb m 0) (now (table .entry)) (tableFed datagram capacity (peer .queue) m (now (table .entry))) ⌝ }
+{
+    if m == 0 {
+        return ends::kept_ends(own, peer);
+    }
+    let q = peer.queue;
+    feed(datagram, capacity, q, m, bytes, ring, table);
+    fed_ends(datagram, capacity, one, own, peer, m)
+}
+
+// A write by the end of a handle, but for the visit of the waits. The ring and the table are the peer's.
+pub fn write_ends(p: Ends, handle: u32, ring: &mut [u8], table: &mut [u32], bytes: &[u8]) -> Outcome
+    ensures { λ r. ⌜ EndsWrote p handle (now (bytes .entry)) (now (ring .entry)) (now (ring .exit)) (now (table .entry)) (now (table .exit)) r ⌝ }
+{
+    let a = write_answer(p, handle, ring, table, bytes.len());
+    let m = status::count_of(a);
+    let one = handle == 1;
+    let own = p.own(one);
+    let peer = p.peer(one);
+    let moved = feed_ends(
+        p.datagram,
+        p.capacity,
+        one,
+        own,
+        peer,
+        m,
+        bytes,
+        ring,
+        table,
+    );
+    ends::put_back(one, a, moved, ends::no_visits())
+}
