@@ -1,0 +1,32 @@
+-- One change of an end's word, and a call that changes both ends or none. 01 "Signal word and packets".
+use Prim.Native.Nat.{ℕ}
+use mathlib.Core.Bool.{Bool, not}
+use Rattle.status.specs.declared.Answer.{Answer}
+use Rattle.status.specs.Choice.{pick}
+use Rattle.status.specs.Answer.{isDone}
+use Rattle.port.specs.Signal.{changedWord}
+use Rattle.endpoint.specs.declared.Endpoint.{Endpoint}
+use Rattle.endpoint.specs.Endpoint.{withSignals}
+use Rattle.endpoint.specs.Write.{bitIf}
+use Rattle.ends.specs.declared.Ends.{Ends}
+use Rattle.ends.specs.declared.Pending.{Pending}
+use Rattle.ends.specs.declared.Moved.{Moved}
+use Rattle.ends.specs.declared.Outcome.{Outcome}
+use Rattle.ends.specs.Ends.{isOne}
+use Rattle.ends.specs.Outcome.{noVisit, noVisits, outcomeOf, unchangedEnds}
+
+-- one bit set if the test holds, else cleared
+unfoldable pub bitVisit : Bool → (word : ℕ) → (on : Bool) → (bit : ℕ) → Pending
+bitVisit t w on bit = record { one = t; word = w; clear = bitIf (not on) bit; set = bitIf on bit }
+
+-- the end with its word changed
+unfoldable pub changedEnd : Pending → Endpoint → Endpoint
+changedEnd a e = withSignals (changedWord (a .clear) (a .set) (a .word)) e
+
+-- the two ends after a call with one change
+unfoldable pub firstOnly : (own peer : Endpoint) → Pending → Moved
+firstOnly a b v = record { own = a; peer = b; visits = record { first = v; second = noVisit } }
+
+-- the outcome by the answer: a refused call changes nothing
+unfoldable pub movedIf : Ends → (h : ℕ) → Answer → Moved → Outcome
+movedIf e h a m = pick (isDone a) (outcomeOf (isOne h) a m noVisits) (unchangedEnds e a)

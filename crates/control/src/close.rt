@@ -1,0 +1,47 @@
+// Close, but for the waits of the end that closes.
+use crate::signal;
+use endpoint::Endpoint;
+use ends::Ends;
+use ends::Moved;
+use ends::Outcome;
+use ends::Pending;
+use port::PEER_CLOSED;
+use port::WRITABLE;
+ghost use mathlib.Core.Path.{_≡_};
+ghost use Rattle.control.specs.Close.{closeVisit, closeMoved, closeEnds};
+
+// What an open peer is told.
+fn close_visit(one: bool, word: u32) -> Pending
+    ensures { λ r. ⌜ r ≡ closeVisit one word ⌝ }
+{
+    Pending {
+        one,
+        word,
+        clear: WRITABLE,
+        set: PEER_CLOSED,
+    }
+}
+
+fn close_moved(one: bool, own: Endpoint, peer: Endpoint) -> Moved
+    ensures { λ r. ⌜ r ≡ closeMoved one own peer ⌝ }
+{
+    let gone = own.into_closed();
+    if peer.closed {
+        return ends::kept_ends(gone, peer);
+    }
+    let first = close_visit(!one, peer.signals);
+    signal::first_only(gone, signal::changed_end(peer, first), first)
+}
+
+// Closes an end: its queue is gone, and an open peer is told.
+pub fn close_ends(e: Ends, handle: u32) -> Outcome
+    ensures { λ r. ⌜ r ≡ closeEnds e handle ⌝ }
+{
+    let a = ends::opening_test(e, handle);
+    if !status::is_done(a) {
+        return ends::unchanged(e, a);
+    }
+    let one = handle == 1;
+    let moved = close_moved(one, e.own(one), e.peer(one));
+    ends::put_back(one, a, moved, ends::no_visits())
+}

@@ -1,0 +1,114 @@
+// Disposition: whether each end may write.
+use crate::signal;
+use endpoint::Disposition;
+use endpoint::Endpoint;
+use ends::Ends;
+use ends::Moved;
+use ends::Outcome;
+use ends::Pending;
+use ends::Visits;
+use port::PEER_WRITE_DISABLED;
+use port::WRITABLE;
+use port::WRITE_DISABLED;
+ghost use mathlib.Core.Path.{_≡_};
+ghost use Rattle.control.specs.Disposition.{writingVisit, ownDisposed, peerDisposed, ownMoved, peerMoved, disposeEnds};
+
+// The writing of an end, disabled or enabled.
+fn writing_visit(one: bool, word: u32, off: bool) -> Pending
+    ensures { λ r. ⌜ r ≡ writingVisit one word off ⌝ }
+{
+    if off {
+        return Pending {
+            one,
+            word,
+            clear: WRITABLE,
+            set: WRITE_DISABLED,
+        };
+    }
+    Pending {
+        one,
+        word,
+        clear: WRITE_DISABLED,
+        set: WRITABLE,
+    }
+}
+
+// The writing of this end; an open peer's reading flag and PEER_WRITE_DISABLED follow.
+fn own_disposed(one: bool, own: Endpoint, peer: Endpoint, off: bool) -> Moved
+    ensures { λ r. ⌜ r ≡ ownDisposed one own peer off ⌝ }
+{
+    let first = writing_visit(one, own.signals, off);
+    let next = signal::changed_end(own, first);
+    if peer.closed {
+        return signal::first_only(next, peer, first);
+    }
+    let second = signal::bit_visit(!one, peer.signals, off, PEER_WRITE_DISABLED);
+    Moved {
+        own: next,
+        peer: signal::changed_end(peer.with_read_disabled(off), second),
+        visits: Visits { first, second },
+    }
+}
+
+// The reading flag of this end in any case; with an open peer its writing, then this end's PEER_WRITE_DISABLED.
+fn peer_disposed(one: bool, own: Endpoint, peer: Endpoint, off: bool) -> Moved
+    ensures { λ r. ⌜ r ≡ peerDisposed one own peer off ⌝ }
+{
+    let flagged = own.with_read_disabled(off);
+    if peer.closed {
+        return ends::kept_ends(flagged, peer);
+    }
+    let first = writing_visit(!one, peer.signals, off);
+    let second = signal::bit_visit(one, own.signals, off, PEER_WRITE_DISABLED);
+    Moved {
+        own: signal::changed_end(flagged, second),
+        peer: signal::changed_end(peer, first),
+        visits: Visits { first, second },
+    }
+}
+
+fn own_moved(one: bool, own: Endpoint, peer: Endpoint, d: Disposition) -> Moved
+    ensures { λ r. ⌜ r ≡ ownMoved one own peer d ⌝ }
+{
+    match d {
+        Disposition::Unchanged => ends::kept_ends(own, peer),
+        Disposition::Disable => own_disposed(one, own, peer, true),
+        Disposition::Enable => own_disposed(one, own, peer, false),
+    }
+}
+
+fn peer_moved(one: bool, own: Endpoint, peer: Endpoint, d: Disposition) -> Moved
+    ensures { λ r. ⌜ r ≡ peerMoved one own peer d ⌝ }
+{
+    match d {
+        Disposition::Unchanged => ends::kept_ends(own, peer),
+        Disposition::Disable => peer_disposed(one, own, peer, true),
+        Disposition::Enable => peer_disposed(one, own, peer, false),
+    }
+}
+
+// Disables or enables the writing of this end, then of its peer.
+pub fn dispose_ends(
+    e: Ends,
+    handle: u32,
+    disposition: Disposition,
+    peer_disposition: Disposition,
+) -> Outcome
+    ensures { λ r. ⌜ r ≡ disposeEnds e handle disposition «peer_disposition» ⌝ }
+{
+    let a = ends::dispose_answer(e, handle, disposition, peer_disposition);
+    if !status::is_done(a) {
+        return ends::unchanged(e, a);
+    }
+    let one = handle == 1;
+    let m = own_moved(one, e.own(one), e.peer(one), disposition);
+    let visits = m.visits;
+    let n = peer_moved(one, m.own, m.peer, peer_disposition);
+    let more = n.visits;
+    let moved = Moved {
+        own: n.own,
+        peer: n.peer,
+        visits,
+    };
+    ends::put_back(one, a, moved, more)
+}

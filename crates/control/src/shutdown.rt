@@ -1,0 +1,68 @@
+// Shutdown.
+use crate::signal;
+use endpoint::Endpoint;
+use endpoint::bit_if;
+use ends::Ends;
+use ends::Moved;
+use ends::Outcome;
+use ends::Pending;
+use ends::Visits;
+use port::PEER_WRITE_DISABLED;
+use port::WRITABLE;
+use port::WRITE_DISABLED;
+ghost use mathlib.Core.Path.{_≡_};
+ghost use Rattle.status.specs.Choice.{pick};
+ghost use Rattle.endpoint.specs.Endpoint.{withReadDisabled};
+ghost use mathlib.Core.Bool.{true};
+ghost use Rattle.control.specs.Shutdown.{shutVisit, shutMoved, shutEnds};
+
+// One end's change.
+fn shut_visit(one: bool, word: u32, read: bool, write: bool) -> Pending
+    ensures { λ r. ⌜ r ≡ shutVisit one word read write ⌝ }
+{
+    Pending {
+        one,
+        word,
+        clear: bit_if(write, WRITABLE),
+        set: bit_if(read, PEER_WRITE_DISABLED) | bit_if(write, WRITE_DISABLED),
+    }
+}
+
+fn without_reading(e: Endpoint, read: bool) -> Endpoint
+    ensures { λ r. ⌜ r ≡ pick read (withReadDisabled true e) e ⌝ }
+{
+    if read {
+        return e.with_read_disabled(true);
+    }
+    e
+}
+
+// This end's part, then an open peer's with both flags negated.
+fn shut_moved(one: bool, own: Endpoint, peer: Endpoint, read: bool, write: bool) -> Moved
+    ensures { λ r. ⌜ r ≡ shutMoved one own peer read write ⌝ }
+{
+    let first = shut_visit(one, own.signals, read, write);
+    let next = signal::changed_end(without_reading(own, read), first);
+    if peer.closed {
+        return signal::first_only(next, peer, first);
+    }
+    let second = shut_visit(!one, peer.signals, !read, !write);
+    Moved {
+        own: next,
+        peer: signal::changed_end(without_reading(peer, !read), second),
+        visits: Visits { first, second },
+    }
+}
+
+// Ends reading, writing or both at this end; an open peer gets the same with both flags negated.
+pub fn shutdown_ends(e: Ends, handle: u32, read: bool, write: bool) -> Outcome
+    ensures { λ r. ⌜ r ≡ shutEnds e handle read write ⌝ }
+{
+    let a = ends::opening_test(e, handle);
+    if !status::is_done(a) {
+        return ends::unchanged(e, a);
+    }
+    let one = handle == 1;
+    let moved = shut_moved(one, e.own(one), e.peer(one), read, write);
+    ends::put_back(one, a, moved, ends::no_visits())
+}

@@ -1,0 +1,41 @@
+// One change of an end's word.
+use endpoint::Endpoint;
+use endpoint::bit_if;
+use ends::Moved;
+use ends::NO_VISIT;
+use ends::Pending;
+use ends::Visits;
+use port::changed;
+ghost use mathlib.Core.Path.{_≡_};
+ghost use Rattle.control.specs.Signal.{bitVisit, changedEnd, firstOnly};
+
+// One bit of a word, set or cleared.
+pub fn bit_visit(one: bool, word: u32, on: bool, bit: u32) -> Pending
+    ensures { λ r. ⌜ r ≡ bitVisit one word on bit ⌝ }
+{
+    Pending {
+        one,
+        word,
+        clear: bit_if(!on, bit),
+        set: bit_if(on, bit),
+    }
+}
+
+// The end with its word changed.
+pub fn changed_end(e: Endpoint, a: Pending) -> Endpoint
+    ensures { λ r. ⌜ r ≡ changedEnd a e ⌝ }
+{
+    e.with_signals(changed(a.word, a.clear, a.set))
+}
+
+// The two ends after a call with one change.
+pub fn first_only(own: Endpoint, peer: Endpoint, first: Pending) -> Moved
+    ensures { λ r. ⌜ r ≡ firstOnly own peer first ⌝ }
+{
+    let second = NO_VISIT;
+    Moved {
+        own,
+        peer,
+        visits: Visits { first, second },
+    }
+}

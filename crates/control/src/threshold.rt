@@ -1,0 +1,72 @@
+// The thresholds.
+use crate::signal;
+use endpoint::Endpoint;
+use endpoint::is_reached;
+use ends::Ends;
+use ends::Moved;
+use ends::Outcome;
+use port::READ_THRESHOLD;
+use port::WRITE_THRESHOLD;
+use status::Thresholds;
+ghost use mathlib.Core.Path.{_≡_};
+ghost use Prim.Native.Nat.{_≤_};
+ghost use Rattle.control.specs.Threshold.{readThresholdMoved, writeThresholdMoved, readThresholdEnds, writeThresholdEnds};
+
+fn read_threshold_moved(one: bool, own: Endpoint, peer: Endpoint, threshold: u64) -> Moved
+    ensures { λ r. ⌜ r ≡ readThresholdMoved one own peer threshold ⌝ }
+{
+    let thresholds = Thresholds {
+        read: threshold,
+        write: own.thresholds.write,
+    };
+    let reached = is_reached(threshold, own.queue.bytes.count);
+    let first = signal::bit_visit(one, own.signals, reached, READ_THRESHOLD);
+    let next = signal::changed_end(own.with_thresholds(thresholds), first);
+    signal::first_only(next, peer, first)
+}
+
+fn write_threshold_moved(
+    capacity: u32,
+    one: bool,
+    own: Endpoint,
+    peer: Endpoint,
+    threshold: u64,
+) -> Moved
+    requires { ⌜ peer .queue .bytes .count ≤ capacity ⌝ }
+    ensures { λ r. ⌜ r ≡ writeThresholdMoved capacity one own peer threshold ⌝ }
+{
+    let thresholds = Thresholds {
+        read: own.thresholds.read,
+        write: threshold,
+    };
+    let reached = is_reached(threshold, capacity - peer.queue.bytes.count);
+    let first = signal::bit_visit(one, own.signals, reached, WRITE_THRESHOLD);
+    let next = signal::changed_end(own.with_thresholds(thresholds), first);
+    signal::first_only(next, peer, first)
+}
+
+// READ_THRESHOLD shows while at least so many bytes are queued at this end; 0 is none.
+pub fn read_threshold_ends(e: Ends, handle: u32, threshold: u64) -> Outcome
+    ensures { λ r. ⌜ r ≡ readThresholdEnds e handle threshold ⌝ }
+{
+    let a = ends::read_threshold_answer(e, handle, threshold);
+    if !status::is_done(a) {
+        return ends::unchanged(e, a);
+    }
+    let one = handle == 1;
+    let moved = read_threshold_moved(one, e.own(one), e.peer(one), threshold);
+    ends::put_back(one, a, moved, ends::no_visits())
+}
+
+// WRITE_THRESHOLD shows while the peer's queue has at least so much space; 0 is none.
+pub fn write_threshold_ends(e: Ends, handle: u32, threshold: u64) -> Outcome
+    ensures { λ r. ⌜ r ≡ writeThresholdEnds e handle threshold ⌝ }
+{
+    let a = ends::write_threshold_answer(e, handle, threshold);
+    if !status::is_done(a) {
+        return ends::unchanged(e, a);
+    }
+    let one = handle == 1;
+    let moved = write_threshold_moved(e.capacity, one, e.own(one), e.peer(one), threshold);
+    ends::put_back(one, a, moved, ends::no_visits())
+}
