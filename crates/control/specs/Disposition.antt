@@ -61,7 +61,7 @@ unfoldable pub disposedEnds : Ends → Bool → Answer → (disposition peerDisp
 disposedEnds e t a d f =
     let m : Moved = ownMoved t (own t e) (peer t e) d in
     let n : Moved = peerMoved t (m .own) (m .peer) f in
-    outcomeOf t a (record { own = n .own; peer = n .peer; visits = m .visits }) (n .visits)
+    outcomeOf (e .waits) t a (record { own = n .own; peer = n .peer; visits = m .visits }) (n .visits)
 
 -- the outcome by the answer: a refused call changes nothing
 unfoldable pub disposeEnds : Ends → (h : ℕ) → (disposition peerDisposition : Disposition) → Outcome

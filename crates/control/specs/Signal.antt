@@ -29,4 +29,4 @@ firstOnly a b v = record { own = a; peer = b; visits = record { first = v; secon
 
 -- the outcome by the answer: a refused call changes nothing
 unfoldable pub movedIf : Ends → (h : ℕ) → Answer → Moved → Outcome
-movedIf e h a m = pick (isDone a) (outcomeOf (isOne h) a m noVisits) (unchangedEnds e a)
+movedIf e h a m = pick (isDone a) (outcomeOf (e .waits) (isOne h) a m noVisits) (unchangedEnds e a)

@@ -43,5 +43,5 @@ pub fn close_ends(e: Ends, handle: u32) -> Outcome
     }
     let one = handle == 1;
     let moved = close_moved(one, e.own(one), e.peer(one));
-    ends::put_back(one, a, moved, ends::no_visits())
+    ends::put_back(e.waits, one, a, moved, ends::no_visits())
 }

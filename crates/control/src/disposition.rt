@@ -110,5 +110,5 @@ pub fn dispose_ends(
         peer: n.peer,
         visits,
     };
-    ends::put_back(one, a, moved, more)
+    ends::put_back(e.waits, one, a, moved, more)
 }

@@ -64,5 +64,5 @@ pub fn shutdown_ends(e: Ends, handle: u32, read: bool, write: bool) -> Outcome
     }
     let one = handle == 1;
     let moved = shut_moved(one, e.own(one), e.peer(one), read, write);
-    ends::put_back(one, a, moved, ends::no_visits())
+    ends::put_back(e.waits, one, a, moved, ends::no_visits())
 }

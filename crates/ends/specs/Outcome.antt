@@ -1,8 +1,11 @@
--- What a call leaves of the two ends, and the changes of their words. 01 "Signal word and packets": a change of a word visits the end's waits.
+-- What a call leaves of the two ends, the changes of their words, and whether a wait can fire. 01 "Signal word and packets": a change of a word visits the end's waits.
 -- The visit itself is in the crate socket.
-use mathlib.Core.Bool.{Bool, true}
+use Prim.Native.Nat.{ℕ}
+use mathlib.Core.Bool.{Bool, true, false, not}
+use lib.Dec.{eqb}
 use Rattle.status.specs.declared.Answer.{Answer}
-use Rattle.status.specs.Choice.{pick}
+use Rattle.status.specs.Choice.{pick, _or_}
+use Rattle.port.specs.Signal.{changedWord}
 use Rattle.endpoint.specs.declared.Endpoint.{Endpoint}
 use Rattle.ends.specs.declared.Ends.{Ends}
 use Rattle.ends.specs.declared.Pending.{Pending}
@@ -17,13 +20,26 @@ noVisit = record { one = true; word = 0; clear = 0; set = 0 }
 abbrev pub noVisits : Visits
 noVisits = record { first = noVisit; second = noVisit }
 
+-- whether a change leaves the word as it is
+unfoldable pub keepsWord : Pending → Bool
+keepsWord a = eqb (changedWord (a .clear) (a .set) (a .word)) (a .word)
+
+-- whether a visit can fire a wait: there are waits, and a word has changed
+unfoldable pub canFire : (waits : ℕ) → Visits → Bool
+canFire waits v = pick (eqb waits 0) false (pick (keepsWord (v .first)) (not (keepsWord (v .second))) true)
+
+-- whether one of all changes can
+unfoldable pub anyFires : (waits : ℕ) → (visits more : Visits) → Bool
+anyFires waits v more = canFire waits v or canFire waits more
+
 -- the outcome of a call by end t: its own end and its peer, put back by the handle, and the changes, `more` last
-unfoldable pub outcomeOf : Bool → Answer → Moved → (more : Visits) → Outcome
-outcomeOf t a d more =
+unfoldable pub outcomeOf : (waits : ℕ) → Bool → Answer → Moved → (more : Visits) → Outcome
+outcomeOf waits t a d more =
     record {
       one = pick t (d .own) (d .peer);
       two = pick t (d .peer) (d .own);
       answer = a;
+      fires = anyFires waits (d .visits) more;
       visits = d .visits;
       more = more;
     }
@@ -34,4 +50,5 @@ keptEnds a b = record { own = a; peer = b; visits = noVisits }
 
 -- its outcome
 unfoldable pub unchangedEnds : Ends → Answer → Outcome
-unchangedEnds e a = record { one = e .one; two = e .two; answer = a; visits = noVisits; more = noVisits }
+unchangedEnds e a =
+    record { one = e .one; two = e .two; answer = a; fires = false; visits = noVisits; more = noVisits }

@@ -1,14 +1,16 @@
-// The outcome of a call on the two ends.
+// The outcome of a call on the two ends, and whether a wait can fire.
 use crate::Ends;
 use crate::Moved;
 use crate::NO_VISIT;
 use crate::Outcome;
+use crate::Pending;
 use crate::Visits;
 use endpoint::Endpoint;
+use port::changed;
 use status::Answer;
 ghost use mathlib.Core.Path.{_≡_};
 ghost use Rattle.status.specs.Choice.{pick};
-ghost use Rattle.ends.specs.Outcome.{noVisits, outcomeOf, keptEnds, unchangedEnds};
+ghost use Rattle.ends.specs.Outcome.{noVisits, keepsWord, canFire, anyFires, outcomeOf, keptEnds, unchangedEnds};
 
 // No changes.
 pub fn no_visits() -> Visits
@@ -17,6 +19,38 @@ pub fn no_visits() -> Visits
     let first = NO_VISIT;
     let second = NO_VISIT;
     Visits { first, second }
+}
+
+// Whether a change leaves the word as it is.
+fn keeps_word(a: Pending) -> bool
+    ensures { λ r. ⌜ r ≡ keepsWord a ⌝ }
+{
+    changed(a.word, a.clear, a.set) == a.word
+}
+
+// Whether a visit can fire a wait: there are waits, and a word has changed.
+fn can_fire(waits: usize, v: Visits) -> bool
+    ensures { λ r. ⌜ r ≡ canFire waits v ⌝ }
+{
+    if waits == 0 {
+        return false;
+    }
+    let a = v.first;
+    if !keeps_word(a) {
+        return true;
+    }
+    let b = v.second;
+    !keeps_word(b)
+}
+
+// Whether one of all changes can.
+fn any_fires(waits: usize, v: Visits, more: Visits) -> bool
+    ensures { λ r. ⌜ r ≡ anyFires waits v more ⌝ }
+{
+    if can_fire(waits, v) {
+        return true;
+    }
+    can_fire(waits, more)
 }
 
 fn chosen(one: bool, a: Endpoint, b: Endpoint) -> Endpoint
@@ -29,8 +63,8 @@ fn chosen(one: bool, a: Endpoint, b: Endpoint) -> Endpoint
 }
 
 // The caller's end and its peer, put back by the caller's handle.
-pub fn put_back(one: bool, answer: Answer, moved: Moved, more: Visits) -> Outcome
-    ensures { λ r. ⌜ r ≡ outcomeOf one answer moved more ⌝ }
+pub fn put_back(waits: usize, one: bool, answer: Answer, moved: Moved, more: Visits) -> Outcome
+    ensures { λ r. ⌜ r ≡ outcomeOf waits one answer moved more ⌝ }
 {
     let own = moved.own;
     let peer = moved.peer;
@@ -39,6 +73,7 @@ pub fn put_back(one: bool, answer: Answer, moved: Moved, more: Visits) -> Outcom
         one: chosen(one, own, peer),
         two: chosen(one, peer, own),
         answer,
+        fires: any_fires(waits, visits, more),
         visits,
         more,
     }
@@ -65,6 +100,7 @@ pub fn unchanged(p: Ends, answer: Answer) -> Outcome
         one,
         two,
         answer,
+        fires: false,
         visits: no_visits(),
         more: no_visits(),
     }

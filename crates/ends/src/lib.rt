@@ -69,11 +69,13 @@ pub struct Moved {
     pub visits: Visits,
 }
 
-// The two ends after a call, its answer, and the changes whose waits are then to be visited: those of `visits`, then those of `more`.
+// The two ends after a call, its answer, whether a wait can fire, and the changes whose waits are then to be visited: those of `visits`, then
+// those of `more`, which only a disposition has.
 pub struct Outcome {
     pub one: Endpoint,
     pub two: Endpoint,
     pub answer: Answer,
+    pub fires: bool,
     pub visits: Visits,
     pub more: Visits,
 }

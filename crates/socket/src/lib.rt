@@ -17,6 +17,9 @@ mod threshold;
 mod wait;
 mod write;
 
+pub use deferred::close_waits;
+pub use deferred::has_waits;
+pub use deferred::is_due;
 pub use deferred::settle;
 pub use deferred::visit;
 pub use deferred::with_outcome;

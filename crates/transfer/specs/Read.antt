@@ -67,7 +67,7 @@ unfoldable pub readEnds : Ends → (h : ℕ) → (peek : Bool) → (first : ℕ)
 readEnds e h peek first a =
     let o = own (isOne h) e in
     let t = peer (isOne h) e in
-    outcomeOf (isOne h) a
+    outcomeOf (e .waits) (isOne h) a
     (pick (peek or eqb (countOf a) 0) (keptEnds o t)
     (drainedEnds (e .datagram) (e .capacity) (isOne h) o t (leaving (e .datagram) first (countOf a))))
     noVisits

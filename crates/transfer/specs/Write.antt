@@ -57,7 +57,7 @@ unfoldable pub wroteEnds : Ends → (h : ℕ) → Answer → Outcome
 wroteEnds e h a =
     let o = own (isOne h) e in
     let t = peer (isOne h) e in
-    outcomeOf (isOne h) a
+    outcomeOf (e .waits) (isOne h) a
     (pick (eqb (countOf a) 0) (keptEnds o t) (fedEnds (e .datagram) (e .capacity) (isOne h) o t (countOf a)))
     noVisits
 

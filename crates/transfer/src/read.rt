@@ -182,5 +182,5 @@ pub fn read_ends(
     let first = q.first_length(p.datagram, table);
     deliver(p.capacity, q.bytes.start, k, ring, buffer);
     let moved = consumed_ends(p.datagram, p.capacity, one, own, peer, peek, first, k);
-    ends::put_back(one, a, moved, ends::no_visits())
+    ends::put_back(p.waits, one, a, moved, ends::no_visits())
 }

@@ -177,5 +177,5 @@ pub fn write_ends(p: Ends, handle: u32, ring: &mut [u8], table: &mut [u32], byte
         ring,
         table,
     );
-    ends::put_back(one, a, moved, ends::no_visits())
+    ends::put_back(p.waits, one, a, moved, ends::no_visits())
 }

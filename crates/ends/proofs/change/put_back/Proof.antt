@@ -10,9 +10,12 @@ chosen-requires c κs = search needs
 chosen-requires-2 : tie.Need-chosen-requires-2
 chosen-requires-2 c κs = search needs
 
+any-fires-requires : tie.Need-any-fires-requires
+any-fires-requires c κs = search needs
+
 returns : tie.Need-returns
 unfolding outcomeOf
-returns c = rw (← c .before .chosen .ensures, ← c .chosen2 .ensures) refl
+returns c = rw (← c .before .before .chosen .ensures, ← c .before .chosen2 .ensures, ← c .any-fires .ensures) refl
 
 pub put-back-spec : {M : Type 1} → statement M
-put-back-spec = tie.close (tie.spec chosen-requires chosen-requires-2 returns)
+put-back-spec = tie.close (tie.spec chosen-requires chosen-requires-2 any-fires-requires returns)
