@@ -16,9 +16,9 @@ use Rattle.port.specs.Table.{used}
 use Rattle.endpoint.specs.declared.Endpoint.{Endpoint}
 use Rattle.endpoint.specs.Write.{datagramSize, writeSize}
 use Rattle.endpoint.specs.Read.{emptyAnswer, availableIn, readSize}
-use Rattle.ends.specs.Read.{readAnswer as endsReadAnswer}
+use Rattle.transfer.specs.Read.{readAnswer as endsReadAnswer}
 use Rattle.ends.specs.Wait.{waitAnswer as endsWaitAnswer}
-use Rattle.ends.specs.Write.{writeAnswer as endsWriteAnswer}
+use Rattle.transfer.specs.Write.{writeAnswer as endsWriteAnswer}
 use Rattle.socket.specs.declared.Pair.{Pair}
 use Rattle.socket.specs.Pair.{isOne, own, peer}
 use Rattle.socket.specs.Tests.{Lent}

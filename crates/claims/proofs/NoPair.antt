@@ -12,11 +12,11 @@ use Rattle.status.specs.Choice.{_and_}
 use Rattle.status.specs.Answer.{refuseUnless, _then_}
 use Rattle.ends.specs.Disposition.{disposeAnswer}
 use Rattle.ends.specs.Info.{infoAnswer}
-use Rattle.ends.specs.Read.{readAnswer}
+use Rattle.transfer.specs.Read.{readAnswer}
 use Rattle.ends.specs.Tests.{soundEnds, soundTest, openingTest}
 use Rattle.ends.specs.Threshold.{readThresholdAnswer, writeThresholdAnswer, thresholdsAnswer}
 use Rattle.ends.specs.Wait.{waitAnswer}
-use Rattle.ends.specs.Write.{writeAnswer}
+use Rattle.transfer.specs.Write.{writeAnswer}
 use Rattle.socket.specs.Pair.{noPair}
 use Rattle.socket.specs.Tests.{Lent}
 use Rattle.socket.specs.Disposition.{shutdownAnswer}

@@ -24,11 +24,11 @@ use Rattle.endpoint.specs.Read.{emptyAnswer, readSize}
 use Rattle.endpoint.specs.Disposition.{disposeChecks}
 use Rattle.ends.specs.Disposition.{disposeAnswer}
 use Rattle.ends.specs.Info.{infoAnswer}
-use Rattle.ends.specs.Read.{readAnswer}
+use Rattle.transfer.specs.Read.{readAnswer}
 use Rattle.ends.specs.Tests.{soundEnds, isOpen, soundTest as endsSoundTest, handleTest as endsHandleTest, openingTest as endsOpeningTest}
 use Rattle.ends.specs.Threshold.{readThresholdAnswer, writeThresholdAnswer, thresholdsAnswer}
 use Rattle.ends.specs.Wait.{waitAnswer}
-use Rattle.ends.specs.Write.{writeAnswer}
+use Rattle.transfer.specs.Write.{writeAnswer}
 use Rattle.socket.specs.declared.Pair.{Pair}
 use Rattle.socket.specs.Pair.{isOne, endsOf, own, peer}
 use Rattle.socket.specs.Tests.{soundPair, soundTest, Lent, lentOf, slicesTest, tableTest, handleTest, openingTest}

@@ -29,11 +29,11 @@ use Rattle.endpoint.specs.Write.{datagramSize, writeSize, reached, missed, bitI
 use Rattle.ends.specs.Create.{numbersAnswer, createAnswer}
 use Rattle.ends.specs.Disposition.{disposeAnswer}
 use Rattle.ends.specs.Info.{infoAnswer}
-use Rattle.ends.specs.Read.{leaving, drainedQueue, readAnswer, bufferRead}
+use Rattle.transfer.specs.Read.{leaving, drainedQueue, readAnswer, bufferRead}
 use Rattle.ends.specs.Tests.{soundEnds, isOpen, soundTest, handleTest, openingTest}
 use Rattle.ends.specs.Threshold.{readThresholdAnswer, writeThresholdAnswer, thresholdsAnswer}
 use Rattle.ends.specs.Wait.{waitAnswer}
-use Rattle.ends.specs.Write.{fedQueue, ringFed, tableFed, writeAnswer, ringWritten, tableWritten}
+use Rattle.transfer.specs.Write.{fedQueue, ringFed, tableFed, writeAnswer, ringWritten, tableWritten}
 use Rattle.socket.specs.Disposition.{switchWriting, disposeOwn, disposePeer, disposedOwn, disposedPeer, disposed, shutdownAnswer, shutEnd, shut}
 use Rattle.socket.specs.Pair.{isHandle, withEnd, withPlaces, withChange, signalChange, putBit, switchReading, newPair, noPair}
 use Rattle.socket.specs.Read.{consumed, pairRead}

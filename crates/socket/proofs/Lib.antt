@@ -1,3 +1,5 @@
 pub mod Steps
 pub mod Visiting
+pub mod Control
 pub mod Settled
+pub mod Disposed

@@ -8,25 +8,30 @@ use lib.Dec.{eqb}
 use borrow.Author.Tests.{eqb-false}
 use Rattle.status.specs.declared.Answer.{Answer}
 use Rattle.status.specs.Choice.{pick, _or_}
-use Rattle.status.specs.Answer.{countOf}
+use Rattle.status.specs.Answer.{isDone, countOf}
 use Rattle.status.proofs.Chains.{counted, neither}
 use Rattle.port.specs.Table.{sound}
 use Rattle.endpoint.specs.Queue.{firstLength}
 use Rattle.ends.specs.declared.Ends.{Ends}
+use Rattle.ends.specs.declared.Moved.{Moved}
 use Rattle.ends.specs.declared.Outcome.{Outcome}
 use Rattle.ends.specs.Tests.{lentOf}
-use Rattle.ends.specs.Outcome.{keptEnds}
-use Rattle.ends.specs.Write.{fedEnds, wroteEnds, EndsWrote}
-use Rattle.ends.specs.Write as W
-use Rattle.ends.specs.Read.{leaving, drainedEnds, readEnds, EndsRead}
-use Rattle.ends.specs.Read as R
+use Rattle.ends.specs.Outcome.{keptEnds, unchangedEnds}
+use Rattle.transfer.specs.Write.{fedEnds, wroteEnds, EndsWrote}
+use Rattle.transfer.specs.Write as W
+use Rattle.transfer.specs.Read.{leaving, drainedEnds, readEnds, EndsRead}
+use Rattle.transfer.specs.Read as R
 use Rattle.ends.proofs.Sound.{passed}
 use Rattle.socket.specs.declared.Pair.{Pair}
 use Rattle.socket.specs.declared.Step.{Step}
 use Rattle.socket.specs.Pair.{isOne, own, peer, endsOf}
 use Rattle.socket.specs.Write.{wrote, pairWritten, Wrote}
 use Rattle.socket.specs.Read.{consumed, pairRead, Read}
-use Rattle.socket.specs.Deferred.{settled}
+use Rattle.control.specs.Signal.{movedIf}
+use Rattle.control.proofs.Outcomes.{refused, done}
+use Rattle.socket.specs.Tests.{Steps}
+use Rattle.socket.specs.Deferred.{settled, withEnds}
+use Rattle.socket.proofs.Steps.{steps-refused, steps-done}
 use Rattle.socket.proofs.Visiting.{movedPair, kept-visited, fed-visited, drained-visited, settled-moved}
 
 moved-wrote : (b t : Bool) (m : ℕ) (p : Pair) → (b ≡ false → sound (p .places) ≡ true)
@@ -81,3 +86,21 @@ read-whole p h peek ring table buffer buffer′ e r l f v =
     let first = firstLength (p .datagram) (own (isOne h) p .queue) table in
     subst (λ (k : Step). Read p h peek ring table buffer buffer′ k) (sym (read-settled p h (r .answer) r l s peek first (w .next)))
     (record { answer = w .answer; pair = refl; bytes = w .bytes })
+
+-- ---- a call that changes both ends or none
+
+unchanged-settled : (p : Pair) (a : Answer) → settled (unchangedEnds (endsOf p) a) p ≡ record { pair = p; answer = a }
+unfolding settled unchangedEnds withEnds pick
+unchanged-settled p a = refl
+
+pub moved-whole : (p : Pair) (h : ℕ) (a : Answer) (m : Moved) (q : Pair) (e : Ends) (r : Outcome) → length (p .places .table) ≡ 128
+    → e ≡ endsOf p → r ≡ movedIf (endsOf p) h a m → (isDone a ≡ true → movedPair (isOne h) m p ≡ q) → Steps p a q (settled r p)
+moved-whole p h a m q e r l f g w = by (isDone a) refl
+  where
+    by : (b : Bool) → isDone a ≡ b → Steps p a q (settled r p)
+    by true d =
+        subst (Steps p a q) (sym (ap (λ (k : Outcome). settled k p) (g ∙ done (endsOf p) h a a m refl d) ∙ settled-moved p (isOne h) a m l))
+        (steps-done p q (movedPair (isOne h) m p) a a refl d (w d))
+    by false d =
+        subst (Steps p a q) (sym (ap (λ (k : Outcome). settled k p) (g ∙ refused (endsOf p) h a a m refl d) ∙ unchanged-settled p a))
+        (steps-refused p p q a a refl d refl)

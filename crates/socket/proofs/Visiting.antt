@@ -1,4 +1,4 @@
--- The visit of the waits can wait until both words have changed. Assumes nothing.
+-- The visit of the waits can wait until the words of both ends have changed. Assumes nothing.
 use Prim.Native.Nat.{ℕ}
 use mathlib.Core.Path.{_≡_, refl, sym, ap, _∙_}
 use mathlib.Core.Bool.{Bool, true, false, not, false≢true}
@@ -11,8 +11,9 @@ use lib.ListN.{length}
 use lib.Dec.{eqb}
 use borrow.Author.Tests.{eqb-true}
 use Rattle.status.specs.declared.Answer.{Answer}
-use Rattle.status.specs.Choice.{pick}
+use Rattle.status.specs.Choice.{pick, _or_}
 use Rattle.status.proofs.Rules.{pick-on, pick-off}
+use Rattle.status.proofs.Chains.{neither}
 use Rattle.port.specs.declared.Places.{Places}
 use Rattle.port.specs.Signal.{changedWord}
 use Rattle.port.specs.Table.{sound}
@@ -26,10 +27,10 @@ use Rattle.endpoint.specs.Endpoint.{withQueue, withSignals}
 use Rattle.ends.specs.declared.Pending.{Pending}
 use Rattle.ends.specs.declared.Visits.{Visits}
 use Rattle.ends.specs.declared.Outcome.{Outcome}
-use Rattle.ends.specs.declared.change.Moved.{Moved}
-use Rattle.ends.specs.Outcome.{noVisit, keepsWord, canFire, outcomeOf, keptEnds}
-use Rattle.ends.specs.Write.{fedQueue, fedEnds}
-use Rattle.ends.specs.Read.{drainedQueue, drainedEnds}
+use Rattle.ends.specs.declared.Moved.{Moved}
+use Rattle.ends.specs.Outcome.{noVisit, noVisits, keepsWord, canFire, anyFires, outcomeOf, keptEnds}
+use Rattle.transfer.specs.Write.{fedQueue, fedEnds}
+use Rattle.transfer.specs.Read.{drainedQueue, drainedEnds}
 use Rattle.socket.specs.declared.Pair.{Pair}
 use Rattle.socket.proofs.Pair as T
 use Rattle.socket.proofs.Pair.Laws as T′
@@ -73,7 +74,7 @@ visited-both v p e f = rw (e, f) refl
 changed-word : (one : Bool) (w clear set : ℕ) (t : Places) → sound t ≡ true → changeOf one w clear set t .word ≡ changedWord clear set w
 changed-word one w clear set t s = ap (λ c. c .word) (change-sound one w clear set t s)
 
-signal-visited : (t : Bool) (clear set : ℕ) (p : Pair) → sound (p .places) ≡ true
+pub signal-visited : (t : Bool) (clear set : ℕ) (p : Pair) → sound (p .places) ≡ true
     → signalChange t clear set p
     ≡ withPlaces (changeOf t (own t p .signals) clear set (p .places) .places) (withEnd t (withSignals (changedWord clear set (own t p .signals)) (own t p)) p)
 unfolding signalChange withChange
@@ -84,7 +85,7 @@ abbrev pub movedPair : Bool → Moved → Pair → Pair
 movedPair t d p = visitedPair (d .visits) (withEnds (pick t (d .own) (d .peer)) (pick t (d .peer) (d .own)) p)
 
 -- two changes, one of each end
-two-visited : (t : Bool) (clear set clear′ set′ : ℕ) (p : Pair) → sound (p .places) ≡ true
+pub two-visited : (t : Bool) (clear set clear′ set′ : ℕ) (p : Pair) → sound (p .places) ≡ true
     → signalChange (not t) clear′ set′ (signalChange t clear set p)
     ≡ movedPair t
     (record {
@@ -116,8 +117,8 @@ unfolding keptEnds visitedPair withEnds withPlaces pick
 kept-visited true p = rw (visited-none (p .places), visited-none (p .places)) refl
 kept-visited false p = rw (visited-none (p .places), visited-none (p .places)) refl
 
--- one change, of a reader whose peer is closed
-one-visited : (t : Bool) (clear set : ℕ) (p : Pair) → sound (p .places) ≡ true
+-- one change
+pub one-visited : (t : Bool) (clear set : ℕ) (p : Pair) → sound (p .places) ≡ true
     → signalChange t clear set p
     ≡ movedPair t
     (record {
@@ -175,7 +176,7 @@ neither-changed false true true z e = (refl, refl)
 neither-changed false true false z e = absurd (false≢true (sym e))
 neither-changed false false b z e = absurd (false≢true (sym e))
 
-cannot-fire : (v : Visits) (p : Pair) → length (p .places .table) ≡ 128 → canFire (p .places .waits) v ≡ false → visitedPair v p ≡ p
+pub cannot-fire : (v : Visits) (p : Pair) → length (p .places .table) ≡ 128 → canFire (p .places .waits) v ≡ false → visitedPair v p ≡ p
 unfolding canFire keepsWord
 cannot-fire v p l e =
     ⊎-elim
@@ -187,12 +188,11 @@ cannot-fire v p l e =
     visited-both v p (visited-same (v .first) (p .places) (eqb-true _ _ (w .0))) (visited-same (v .second) (p .places) (eqb-true _ _ (w .1))))
     (either (eqb (p .places .waits) 0))
 
-settled-pair : (f : Bool) (p q : Pair) → (f ≡ false → p ≡ q) → pick f p q ≡ p
+pub settled-pair : (f : Bool) (p q : Pair) → (f ≡ false → p ≡ q) → pick f p q ≡ p
 unfolding pick
 settled-pair true p q g = refl
 settled-pair false p q g = sym (g refl)
 
--- a call that is settled
 pub settled-on : (r : Outcome) (p q q′ : Pair) → r .fires ≡ true → q ≡ withOutcome r p → q′ ≡ visitedPair (r .visits) q
     → record { pair = q′; answer = r .answer } ≡ settled r p
 unfolding settled
@@ -204,12 +204,12 @@ unfolding settled
 settled-off r p q f e = ap (λ (k : Pair). record { pair = k; answer = r .answer }) (pick-off _ _ _ _ _ f e)
 
 pub settled-moved : (p : Pair) (t : Bool) (a : Answer) (d : Moved) → length (p .places .table) ≡ 128
-    → settled (outcomeOf (p .places .waits) t a d) p ≡ record { pair = movedPair t d p; answer = a }
-unfolding settled outcomeOf withEnds
+    → settled (outcomeOf (p .places .waits) t a d noVisits) p ≡ record { pair = movedPair t d p; answer = a }
+unfolding settled outcomeOf withEnds anyFires
 settled-moved p t a d l =
     let q = withEnds (pick t (d .own) (d .peer)) (pick t (d .peer) (d .own)) p in
     ap (λ (k : Pair). record { pair = k; answer = a })
-    (settled-pair (canFire (p .places .waits) (d .visits)) (visitedPair (d .visits) q) q (cannot-fire (d .visits) q l))
+    (settled-pair (anyFires (p .places .waits) (d .visits) noVisits) (visitedPair (d .visits) q) q (λ f. cannot-fire (d .visits) q l (neither _ _ f .0)))
 
 -- ---- the places of a pair that is owned
 

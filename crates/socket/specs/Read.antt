@@ -12,8 +12,8 @@ use Rattle.endpoint.specs.Queue.{firstLength}
 use Rattle.endpoint.specs.Endpoint.{withQueue}
 use Rattle.endpoint.specs.Read.{lostByReader, gainedByWriter}
 use Rattle.ends.specs.Tests.{Lent, lentOf}
-use Rattle.ends.specs.Read.{leaving, drainedQueue}
-use Rattle.ends.specs.Read as E
+use Rattle.transfer.specs.Read.{leaving, drainedQueue}
+use Rattle.transfer.specs.Read as E
 use Rattle.socket.specs.declared.Pair.{Pair}
 use Rattle.socket.specs.declared.Step.{Step}
 use Rattle.socket.specs.Pair.{isOne, endsOf, own, peer, withEnd, signalChange}

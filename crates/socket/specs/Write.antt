@@ -11,8 +11,8 @@ use Rattle.status.specs.Answer.{countOf}
 use Rattle.endpoint.specs.Endpoint.{withQueue}
 use Rattle.endpoint.specs.Write.{gainedByPeer, lostByWriter}
 use Rattle.ends.specs.Tests.{Lent, lentOf}
-use Rattle.ends.specs.Write.{fedQueue}
-use Rattle.ends.specs.Write as E
+use Rattle.transfer.specs.Write.{fedQueue}
+use Rattle.transfer.specs.Write as E
 use Rattle.socket.specs.declared.Pair.{Pair}
 use Rattle.socket.specs.declared.Step.{Step}
 use Rattle.socket.specs.Pair.{isOne, endsOf, own, peer, withEnd, signalChange}

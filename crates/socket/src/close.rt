@@ -15,9 +15,10 @@ impl Pair {
         let r = control::close_ends(parts::ends_of(self), handle);
         let pair = deferred::with_outcome(self, r);
         let answer = r.answer;
-        if deferred::has_waits(pair, answer) {
+        if r.fires {
+            let visits = r.visits;
             return Step {
-                pair: deferred::close_waits(pair, handle == 1, r),
+                pair: deferred::close_waits(pair, handle, visits),
                 answer,
             };
         }

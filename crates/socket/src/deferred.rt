@@ -1,64 +1,61 @@
-// A call whose waits are visited last. A caller that keeps the pair in place so passes the table of places on only where a wait fires.
+// A call whose waits are visited last. A caller that keeps the pair in place so passes the table of places on only where a wait can fire, and
+// the table is rebuilt only where one does.
 use crate::Pair;
 use crate::Step;
 use crate::parts;
 use ends::Outcome;
 use ends::Pending;
+use ends::Visits;
 use port::Places;
 use port::changed;
-use status::Answer;
 ghost use mathlib.Core.Path.{_≡_};
-ghost use Rattle.socket.specs.Deferred.{due, isDue, visited, visitedPair, settled, withOutcome, hasWaits, closedWaits};
+ghost use Rattle.socket.specs.Pair.{isOne};
+ghost use Rattle.port.specs.Port.{dropOf};
+ghost use Rattle.socket.specs.Deferred.{due, visited, visitedPair, visitedAll, withOutcome, settled, settledAll, closedWaits};
 
 // Whether a change fires a wait. The table is only read.
-fn fires(p: Pair, a: Pending) -> bool
-    ensures { λ r. ⌜ r ≡ due a (p .places) ⌝ }
+fn is_due(t: Places, a: Pending) -> bool
+    ensures { λ r. ⌜ r ≡ due a t ⌝ }
 {
     let next = changed(a.word, a.clear, a.set);
     if next == a.word {
         return false;
     }
-    let places = p.places;
-    places.fires(a.one, next)
-}
-
-// Whether any change of a call fires a wait.
-pub fn is_due(p: Pair, r: Outcome) -> bool
-    ensures { λ b. ⌜ b ≡ isDue r (p .places) ⌝ }
-{
-    if p.places.waits == 0 {
-        return false;
-    }
-    if fires(p, r.visits.first) {
-        return true;
-    }
-    if fires(p, r.visits.second) {
-        return true;
-    }
-    if fires(p, r.more.first) {
-        return true;
-    }
-    fires(p, r.more.second)
+    t.fires(a.one, next)
 }
 
 // Visits the waits of a change.
 fn visited(t: Places, a: Pending) -> Places
     ensures { λ r. ⌜ r ≡ visited a t ⌝ }
 {
-    let c = t.change(a.one, a.word, a.clear, a.set);
-    let places = c.places;
-    places
+    if is_due(t, a) {
+        let c = t.change(a.one, a.word, a.clear, a.set);
+        let places = c.places;
+        return places;
+    }
+    t
 }
 
-// Visits the waits of each change.
-pub fn visit(p: Pair, r: Outcome) -> Pair
-    ensures { λ q. ⌜ q ≡ visitedPair r p ⌝ }
+// Visits the waits of two changes.
+pub fn visit(p: Pair, v: Visits) -> Pair
+    ensures { λ r. ⌜ r ≡ visitedPair v p ⌝ }
 {
-    let places = p.places;
-    let once = visited(places, r.visits.first);
-    let twice = visited(once, r.visits.second);
-    let thrice = visited(twice, r.more.first);
-    parts::with_places(p, visited(thrice, r.more.second))
+    let mut t = p.places;
+    t = visited(t, v.first);
+    t = visited(t, v.second);
+    parts::with_places(p, t)
+}
+
+// Visits the waits of all changes of a call.
+pub fn visit_all(p: Pair, r: Outcome) -> Pair
+    ensures { λ q. ⌜ q ≡ visitedAll r p ⌝ }
+{
+    let mut t = p.places;
+    t = visited(t, r.visits.first);
+    t = visited(t, r.visits.second);
+    t = visited(t, r.more.first);
+    t = visited(t, r.more.second);
+    parts::with_places(p, t)
 }
 
 // The pair with both ends put anew.
@@ -72,38 +69,51 @@ pub fn with_outcome(mut p: Pair, r: Outcome) -> Pair
     p
 }
 
-// The step of a call with this outcome: the waits are visited where one fires.
+// The step of a call with this outcome and two changes: the waits are visited where one can fire.
 pub fn settle(p: Pair, r: Outcome) -> Step
     ensures { λ s. ⌜ s ≡ settled r p ⌝ }
 {
     let pair = with_outcome(p, r);
     let answer = r.answer;
-    if is_due(pair, r) {
+    if r.fires {
+        let visits = r.visits;
         return Step {
-            pair: visit(pair, r),
+            pair: visit(pair, visits),
             answer,
         };
     }
     Step { pair, answer }
 }
 
-// Whether a close with this answer has waits to look at.
-pub fn has_waits(p: Pair, a: Answer) -> bool
-    ensures { λ r. ⌜ r ≡ hasWaits a (p .places) ⌝ }
+// The same with all its changes.
+pub fn settle_all(p: Pair, r: Outcome) -> Step
+    ensures { λ s. ⌜ s ≡ settledAll r p ⌝ }
 {
-    if p.places.waits == 0 {
-        return false;
+    let pair = with_outcome(p, r);
+    let answer = r.answer;
+    if r.fires {
+        return Step {
+            pair: visit_all(pair, r),
+            answer,
+        };
     }
-    status::is_done(a)
+    Step { pair, answer }
+}
+
+fn without_waits(t: Places, one: bool) -> Places
+    ensures { λ r. ⌜ r ≡ dropOf one t .places ⌝ }
+{
+    let n = t.drop_waits(one);
+    let places = n.places;
+    places
 }
 
 // Drops the waits of the end that closes, then visits those of its peer.
-pub fn close_waits(p: Pair, one: bool, r: Outcome) -> Pair
-    ensures { λ q. ⌜ q ≡ closedWaits one r p ⌝ }
+pub fn close_waits(p: Pair, handle: u32, v: Visits) -> Pair
+    ensures { λ r. ⌜ r ≡ closedWaits (isOne handle) v p ⌝ }
 {
-    let places = p.places;
-    let left = places.drop_waits(one);
-    let kept = left.places;
-    let told = visited(kept, r.visits.first);
-    parts::with_places(p, told)
+    let mut t = p.places;
+    t = without_waits(t, handle == 1);
+    t = visited(t, v.first);
+    parts::with_places(p, t)
 }

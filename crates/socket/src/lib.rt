@@ -18,10 +18,10 @@ mod wait;
 mod write;
 
 pub use deferred::close_waits;
-pub use deferred::has_waits;
-pub use deferred::is_due;
 pub use deferred::settle;
+pub use deferred::settle_all;
 pub use deferred::visit;
+pub use deferred::visit_all;
 pub use deferred::with_outcome;
 pub use parts::ends_of;
 

@@ -18,11 +18,11 @@ use Rattle.endpoint.specs.declared.Endpoint.{Endpoint}
 use Rattle.endpoint.specs.Write.{datagramSize, writeSize}
 use Rattle.endpoint.specs.Read.{readSize}
 use Rattle.ends.specs.Disposition.{disposeAnswer as endsDisposeAnswer}
-use Rattle.ends.specs.Read.{readAnswer as endsReadAnswer}
+use Rattle.transfer.specs.Read.{readAnswer as endsReadAnswer}
 use Rattle.ends.specs.Tests.{openingTest, handleTest as endsHandleTest}
-use Rattle.ends.specs.Write.{writeAnswer}
+use Rattle.transfer.specs.Write.{writeAnswer}
 use Rattle.ends.proofs.Sound.{SoundEnds, sound-passed}
-use Rattle.ends.proofs.Moved.{write-fits, read-fits}
+use Rattle.transfer.proofs.Moved.{write-fits, read-fits}
 use Rattle.socket.specs.declared.Pair.{Pair}
 use Rattle.socket.specs.Pair.{isOne, endsOf, own, peer}
 use Rattle.socket.specs.Tests.{Lent, handleTest}

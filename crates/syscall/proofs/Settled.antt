@@ -9,8 +9,8 @@ use Rattle.status.specs.Answer.{countOf, isDone}
 use Rattle.status.proofs.Chains.{counted}
 use Rattle.port.specs.Table.{sound}
 use Rattle.endpoint.specs.Queue.{firstLength}
-use Rattle.ends.specs.Read.{readEnds}
-use Rattle.ends.specs.Write.{wroteEnds}
+use Rattle.transfer.specs.Read.{readEnds}
+use Rattle.transfer.specs.Write.{wroteEnds}
 use Rattle.ends.specs.declared.Ends.{Ends}
 use Rattle.ends.specs.declared.Outcome.{Outcome}
 use Rattle.socket.specs.declared.Pair.{Pair}

@@ -86,7 +86,7 @@ use Rattle.status.proofs.word.Symbol.{name as #word}
 use Rattle.status.proofs.word.Met as word-thm
 use Rattle.socket.specs.Read.{Read}
 use Rattle.socket.specs.Pair.{endsOf}
-use Rattle.ends.specs.Read.{EndsRead}
+use Rattle.transfer.specs.Read.{EndsRead}
 use Rattle.socket.proofs.Settled.{read-whole}
 use Rattle.ends.proofs.read_ends as step
 use Rattle.ends.proofs.read_ends.Symbol as step-def

@@ -85,7 +85,7 @@ use Rattle.status.proofs.word.Symbol.{name as #word}
 use Rattle.status.proofs.word.Met as word-thm
 use Rattle.socket.specs.Write.{Wrote}
 use Rattle.socket.specs.Pair.{endsOf}
-use Rattle.ends.specs.Write.{EndsWrote}
+use Rattle.transfer.specs.Write.{EndsWrote}
 use Rattle.socket.proofs.Settled.{wrote-whole}
 use Rattle.ends.proofs.write_ends as step
 use Rattle.ends.proofs.write_ends.Symbol as step-def

@@ -85,7 +85,7 @@ use Rattle.status.proofs.word.Symbol.{name as #word}
 use Rattle.status.proofs.word.Met as word-thm
 use Rattle.syscall.specs.Read.{isPeek, UserRead}
 use Rattle.endpoint.specs.Queue.{firstLength}
-use Rattle.ends.specs.Read.{readEnds}
+use Rattle.transfer.specs.Read.{readEnds}
 use Rattle.socket.specs.Pair.{isOne, own, endsOf}
 use Rattle.syscall.specs.Ends.{pairOf, readStep}
 use Rattle.syscall.proofs.Settled.{read-whole}

@@ -84,7 +84,7 @@ use Rattle.status.proofs.word.Symbol as word-def
 use Rattle.status.proofs.word.Symbol.{name as #word}
 use Rattle.status.proofs.word.Met as word-thm
 use Rattle.syscall.specs.Write.{UserWrote}
-use Rattle.ends.specs.Write.{wroteEnds}
+use Rattle.transfer.specs.Write.{wroteEnds}
 use Rattle.socket.specs.Pair.{endsOf}
 use Rattle.syscall.specs.Ends.{pairOf, wroteStep}
 use Rattle.syscall.proofs.Settled.{wrote-whole}
