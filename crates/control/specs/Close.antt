@@ -1,7 +1,10 @@
 -- Close. 01 "Delivered bytes", close.
 use Prim.Native.Nat.{ℕ}
 use mathlib.Core.Bool.{Bool, not}
+use lib.Dec.{eqb}
+use Rattle.status.specs.declared.Answer.{Answer}
 use Rattle.status.specs.Choice.{pick}
+use Rattle.status.specs.Answer.{isDone}
 use Rattle.port.specs.Signal.{WRITABLE, «PEER_CLOSED»}
 use Rattle.endpoint.specs.declared.Endpoint.{Endpoint}
 use Rattle.endpoint.specs.Endpoint.{closedEnd}
@@ -10,9 +13,9 @@ use Rattle.ends.specs.declared.Pending.{Pending}
 use Rattle.ends.specs.declared.Moved.{Moved}
 use Rattle.ends.specs.declared.Outcome.{Outcome}
 use Rattle.ends.specs.Ends.{isOne, own, peer}
-use Rattle.ends.specs.Outcome.{keptEnds}
+use Rattle.ends.specs.Outcome.{noVisits, outcomeOf, keptEnds, unchangedEnds}
 use Rattle.ends.specs.Tests.{openingTest}
-use Rattle.control.specs.Signal.{changedEnd, firstOnly, movedIf}
+use Rattle.control.specs.Signal.{changedEnd, firstOnly}
 
 -- an open peer loses WRITABLE and gains PEER_CLOSED
 unfoldable pub closeVisit : Bool → (word : ℕ) → Pending
@@ -24,5 +27,14 @@ closeMoved t a b =
     let first = closeVisit (not t) (b .signals) in
     pick (b .closed) (keptEnds (closedEnd a) b) (firstOnly (closedEnd a) (changedEnd first b) first)
 
+-- a close looks at the waits wherever there are any, as those of its end vanish
+unfoldable pub closeOutcome : (waits : ℕ) → Bool → Answer → Moved → Outcome
+closeOutcome waits t a m =
+    let r : Outcome = outcomeOf waits t a m noVisits in
+    record { one = r .one; two = r .two; answer = r .answer; fires = not (eqb waits 0); visits = r .visits; more = r .more }
+
+-- the outcome by the answer: a refused call changes nothing
 unfoldable pub closeEnds : Ends → (h : ℕ) → Outcome
-closeEnds e h = movedIf e h (openingTest e h) (closeMoved (isOne h) (own (isOne h) e) (peer (isOne h) e))
+closeEnds e h =
+    let a = openingTest e h in
+    pick (isDone a) (closeOutcome (e .waits) (isOne h) a (closeMoved (isOne h) (own (isOne h) e) (peer (isOne h) e))) (unchangedEnds e a)

@@ -7,8 +7,9 @@ use ends::Outcome;
 use ends::Pending;
 use port::PEER_CLOSED;
 use port::WRITABLE;
+use status::Answer;
 ghost use mathlib.Core.Path.{_≡_};
-ghost use Rattle.control.specs.Close.{closeVisit, closeMoved, closeEnds};
+ghost use Rattle.control.specs.Close.{closeVisit, closeMoved, closeOutcome, closeEnds};
 
 // What an open peer is told.
 fn close_visit(one: bool, word: u32) -> Pending
@@ -33,6 +34,15 @@ fn close_moved(one: bool, own: Endpoint, peer: Endpoint) -> Moved
     signal::first_only(gone, signal::changed_end(peer, first), first)
 }
 
+// A close looks at the waits wherever there are any, as those of its end vanish.
+fn close_outcome(waits: usize, one: bool, answer: Answer, moved: Moved) -> Outcome
+    ensures { λ r. ⌜ r ≡ closeOutcome waits one answer moved ⌝ }
+{
+    let mut r = signal::put_both(waits, one, answer, moved);
+    r.fires = waits != 0;
+    r
+}
+
 // Closes an end: its queue is gone, and an open peer is told.
 pub fn close_ends(e: Ends, handle: u32) -> Outcome
     ensures { λ r. ⌜ r ≡ closeEnds e handle ⌝ }
@@ -43,5 +53,5 @@ pub fn close_ends(e: Ends, handle: u32) -> Outcome
     }
     let one = handle == 1;
     let moved = close_moved(one, e.own(one), e.peer(one));
-    ends::put_back(e.waits, one, a, moved, ends::no_visits())
+    close_outcome(e.waits, one, a, moved)
 }

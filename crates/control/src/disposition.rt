@@ -10,8 +10,9 @@ use ends::Visits;
 use port::PEER_WRITE_DISABLED;
 use port::WRITABLE;
 use port::WRITE_DISABLED;
+use status::Answer;
 ghost use mathlib.Core.Path.{_≡_};
-ghost use Rattle.control.specs.Disposition.{writingVisit, ownDisposed, peerDisposed, ownMoved, peerMoved, disposeEnds};
+ghost use Rattle.control.specs.Disposition.{writingVisit, ownDisposed, peerDisposed, ownMoved, peerMoved, disposedEnds, disposeEnds};
 
 // The writing of an end, disabled or enabled.
 fn writing_visit(one: bool, word: u32, off: bool) -> Pending
@@ -87,6 +88,18 @@ fn peer_moved(one: bool, own: Endpoint, peer: Endpoint, d: Disposition) -> Moved
     }
 }
 
+// Own first, then peer.
+fn disposed_ends(e: Ends, one: bool, answer: Answer, d: Disposition, f: Disposition) -> Outcome
+    ensures { λ r. ⌜ r ≡ disposedEnds e one answer d f ⌝ }
+{
+    let m = own_moved(one, e.own(one), e.peer(one), d);
+    let visits = m.visits;
+    let mut n = peer_moved(one, m.own, m.peer, f);
+    let more = n.visits;
+    n.visits = visits;
+    ends::put_back(e.waits, one, answer, n, more)
+}
+
 // Disables or enables the writing of this end, then of its peer.
 pub fn dispose_ends(
     e: Ends,
@@ -100,15 +113,5 @@ pub fn dispose_ends(
     if !status::is_done(a) {
         return ends::unchanged(e, a);
     }
-    let one = handle == 1;
-    let m = own_moved(one, e.own(one), e.peer(one), disposition);
-    let visits = m.visits;
-    let n = peer_moved(one, m.own, m.peer, peer_disposition);
-    let more = n.visits;
-    let moved = Moved {
-        own: n.own,
-        peer: n.peer,
-        visits,
-    };
-    ends::put_back(e.waits, one, a, moved, more)
+    disposed_ends(e, handle == 1, a, disposition, peer_disposition)
 }

@@ -14,6 +14,7 @@ ghost use mathlib.Core.Path.{_≡_};
 ghost use Rattle.status.specs.Choice.{pick};
 ghost use Rattle.endpoint.specs.Endpoint.{withReadDisabled};
 ghost use mathlib.Core.Bool.{true};
+ghost use Rattle.control.specs.Signal.{changedEnd};
 ghost use Rattle.control.specs.Shutdown.{shutVisit, shutMoved, shutEnds};
 
 // One end's change.
@@ -28,13 +29,14 @@ fn shut_visit(one: bool, word: u32, read: bool, write: bool) -> Pending
     }
 }
 
-fn without_reading(e: Endpoint, read: bool) -> Endpoint
-    ensures { λ r. ⌜ r ≡ pick read (withReadDisabled true e) e ⌝ }
+// The end after its change, its reading flag set before its word.
+fn shut_end(e: Endpoint, read: bool, change: Pending) -> Endpoint
+    ensures { λ r. ⌜ r ≡ changedEnd change (pick read (withReadDisabled true e) e) ⌝ }
 {
     if read {
-        return e.with_read_disabled(true);
+        return signal::changed_end(e.with_read_disabled(true), change);
     }
-    e
+    signal::changed_end(e, change)
 }
 
 // This end's part, then an open peer's with both flags negated.
@@ -42,14 +44,14 @@ fn shut_moved(one: bool, own: Endpoint, peer: Endpoint, read: bool, write: bool)
     ensures { λ r. ⌜ r ≡ shutMoved one own peer read write ⌝ }
 {
     let first = shut_visit(one, own.signals, read, write);
-    let next = signal::changed_end(without_reading(own, read), first);
+    let next = shut_end(own, read, first);
     if peer.closed {
         return signal::first_only(next, peer, first);
     }
     let second = shut_visit(!one, peer.signals, !read, !write);
     Moved {
         own: next,
-        peer: signal::changed_end(without_reading(peer, !read), second),
+        peer: shut_end(peer, !read, second),
         visits: Visits { first, second },
     }
 }
@@ -64,5 +66,5 @@ pub fn shutdown_ends(e: Ends, handle: u32, read: bool, write: bool) -> Outcome
     }
     let one = handle == 1;
     let moved = shut_moved(one, e.own(one), e.peer(one), read, write);
-    ends::put_back(e.waits, one, a, moved, ends::no_visits())
+    signal::put_both(e.waits, one, a, moved)
 }

@@ -3,10 +3,13 @@ use endpoint::Endpoint;
 use endpoint::bit_if;
 use ends::Moved;
 use ends::NO_VISIT;
+use ends::Outcome;
 use ends::Pending;
 use ends::Visits;
 use port::changed;
+use status::Answer;
 ghost use mathlib.Core.Path.{_≡_};
+ghost use Rattle.ends.specs.Outcome.{noVisits, outcomeOf};
 ghost use Rattle.control.specs.Signal.{bitVisit, changedEnd, firstOnly};
 
 // One bit of a word, set or cleared.
@@ -38,4 +41,11 @@ pub fn first_only(own: Endpoint, peer: Endpoint, first: Pending) -> Moved
         peer,
         visits: Visits { first, second },
     }
+}
+
+// The outcome of a call with at most two changes.
+pub fn put_both(waits: usize, one: bool, answer: Answer, moved: Moved) -> Outcome
+    ensures { λ r. ⌜ r ≡ outcomeOf waits one answer moved noVisits ⌝ }
+{
+    ends::put_back(waits, one, answer, moved, ends::no_visits())
 }

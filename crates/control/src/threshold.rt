@@ -55,7 +55,7 @@ pub fn read_threshold_ends(e: Ends, handle: u32, threshold: u64) -> Outcome
     }
     let one = handle == 1;
     let moved = read_threshold_moved(one, e.own(one), e.peer(one), threshold);
-    ends::put_back(e.waits, one, a, moved, ends::no_visits())
+    signal::put_both(e.waits, one, a, moved)
 }
 
 // WRITE_THRESHOLD shows while the peer's queue has at least so much space; 0 is none.
@@ -68,5 +68,5 @@ pub fn write_threshold_ends(e: Ends, handle: u32, threshold: u64) -> Outcome
     }
     let one = handle == 1;
     let moved = write_threshold_moved(e.capacity, one, e.own(one), e.peer(one), threshold);
-    ends::put_back(e.waits, one, a, moved, ends::no_visits())
+    signal::put_both(e.waits, one, a, moved)
 }

@@ -1,0 +1,40 @@
+use mathlib.Core.Path.{refl}
+use Rattle.status.proofs.Rules.{pick-on, pick-off}
+use Rattle.control.specs.Shutdown.{shutEnd, shutMoved}
+use Rattle.control.proofs.shutdown.shut_moved.Statement.{statement}
+use Rattle.control.proofs.shutdown.shut_moved.Tie as tie
+
+shut-visit-requires : tie.Need-shut-visit-requires
+shut-visit-requires c κs = tt
+
+shut-end-requires : tie.Need-shut-end-requires
+shut-end-requires c κs = tt
+
+first-only-requires : tie.Need-first-only-requires
+first-only-requires c κs = tt
+
+returns : tie.Need-returns
+unfolding shutEnd shutMoved
+returns c = pick-on _ _ _ _ _ (c .before .if1 .taken) (rw (← c .before .before .before .shut-visit .ensures, ← c .before .before .shut-end .ensures) (c .first-only .ensures))
+
+shut-visit-requires-2 : tie.Need-shut-visit-requires-2
+shut-visit-requires-2 c κs = tt
+
+shut-end-requires-2 : tie.Need-shut-end-requires-2
+shut-end-requires-2 c κs = tt
+
+returns-2 : tie.Need-returns-2
+unfolding shutEnd shutMoved
+returns-2 c = pick-off _ _ _ _ _ (c .before .before .if1 .left) (rw (← c .before .before .before .before .shut-visit .ensures, ← c .before .before .before .shut-end .ensures, ← c .before .shut-visit2 .ensures, ← c .shut-end2 .ensures) refl)
+
+pub shut-moved-spec : {M : Type 1} → statement M
+shut-moved-spec =
+    tie.close
+    (tie.spec
+    shut-visit-requires
+    shut-end-requires
+    first-only-requires
+    returns
+    shut-visit-requires-2
+    shut-end-requires-2
+    returns-2)
