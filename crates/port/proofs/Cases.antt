@@ -11,7 +11,7 @@ use Rattle.port.specs.declared.Place.{Place}
 use Rattle.port.specs.declared.Places.{Places}
 use Rattle.port.specs.Lists.{filter}
 use Rattle.port.specs.Signal.{READABLE, WRITABLE, changedWord, meets}
-use Rattle.port.specs.Table.{packetsOf, waitsOf, unusedOf, tableOf, newPlaces, waitOf, observe, packetOf, fires, fired, kept}
+use Rattle.port.specs.Table.{packetsOf, waitsOf, unusedOf, tableOf, newPlaces, endNumber, waitOf, observe, packetOf, fires, fired, kept}
 use Rattle.port.specs.Port.{firedOf, insertedOf, appendedOf, registeredOf, refused, done, registerOf, changeOf, takeOf}
 
 -- a wait of end 2 on READABLE, while the end's word is WRITABLE
@@ -26,13 +26,13 @@ keysAfter t = map (λ (p : Place). p .key) (packetsOf (changeOf false WRITABLE 0
 
 -- P12: waits with keys 1 and 2 give the packets 2, 1
 pub newest-first : keysAfter (wait 2 (wait 1 newPlaces)) ≡ 2 ∷ 1 ∷ []
-unfolding keysAfter wait newPlaces
+unfolding endNumber keysAfter wait newPlaces
 newest-first = refl
 
 -- the first packet taken then has the mask as its trigger and the new word as observed
 pub first-taken : takeOf (changeOf false WRITABLE 0 READABLE (wait 2 (wait 1 newPlaces)) .places) .answer
     ≡ Done (Packet (record { key = 2; trigger = READABLE; observed = 3; count = 1; timestamp = 0 }))
-unfolding pick _and_ filter changedWord meets packetsOf waitsOf unusedOf tableOf observe fires fired kept firedOf changeOf packetOf takeOf wait newPlaces
+unfolding pick _and_ filter changedWord meets packetsOf waitsOf unusedOf tableOf endNumber observe fires fired kept firedOf changeOf packetOf takeOf wait newPlaces
 first-taken = refl
 
 -- a change that leaves the word the same fires nothing
@@ -57,5 +57,5 @@ full = refl
 
 -- 128 waits fire at once, the newest, of key 1, first
 pub all-fire : keysAfter (waits 128 newPlaces) ≡ keysFrom 1 128
-unfolding waits wait keysAfter keysFrom newPlaces
+unfolding endNumber waits wait keysAfter keysFrom newPlaces
 all-fire = refl

@@ -1,22 +1,22 @@
--- Where no wait of the end meets its new word, firing leaves the table as it is. Assumes nothing.
-use Prim.Native.Nat.{ℕ, _+_, _≤_}
+-- Where no wait of the end meets its new word, firing leaves the table as it is; where there are no waits, so does dropping them. Assumes nothing.
+use Prim.Native.Nat.{ℕ, _+_, _-_, _≤_}
 use mathlib.Core.Path.{_≡_, refl, ap, _∙_}
 use mathlib.Core.Bool.{Bool, true, false}
 use mathlib.Core.Logic.{⊎-elim}
-use mathlib.Core.List.{append-nil}
+use mathlib.Core.List.{[], _++_, append-nil}
 use native.Mathlib.Omega.{arith}
-use lib.ListN.{length}
+use lib.ListN.{length, replicate}
 use lib.Seq.{slice-empty}
 use lib.Dec.{eqb}
 use borrow.Author.Tests.{leb-true}
 use Rattle.status.specs.Choice.{pick, _and_}
 use Rattle.port.specs.declared.Places.{Places}
-use Rattle.port.specs.Lists.{any}
+use Rattle.port.specs.Lists.{filter, any}
 use Rattle.port.specs.Signal.{changedWord}
-use Rattle.port.specs.Table.{used, sound, fires, anyFires, fired, kept, packetsOf, waitsOf}
-use Rattle.port.specs.Port.{firedOf, firesOf, changeOf}
+use Rattle.port.specs.Table.{free, used, sound, fires, anyFires, fired, kept, others, packetsOf, waitsOf, unusedOf, tableOf}
+use Rattle.port.specs.Port.{firedOf, droppedOf, refused, done, firesOf, changeOf, dropOf}
 use Rattle.port.proofs.Lists.{either, filter-none, filter-all}
-use Rattle.port.proofs.Operations.{change-sound, change-unsound}
+use Rattle.port.proofs.Operations.{change-sound, change-unsound, drop-done, drop-unsound}
 use Rattle.port.proofs.Views.{as-table}
 
 -- ---- the waits of a table
@@ -37,9 +37,13 @@ idle one w t h e =
     rw (filter-none (fires one w) (waitsOf t) e, filter-all (fires one w) (waitsOf t) e, append-nil (packetsOf t)) (as-table t h)
 
 -- a table without waits
+none-waiting : (t : Places) → t .waits ≡ 0 → waitsOf t ≡ []
+unfolding waitsOf
+none-waiting t e = let s : t .packets + t .waits ≡ t .packets = omega arith in rw s (slice-empty (t .packets) (t .table))
+
 pub no-waits : (one : Bool) (w : ℕ) (t : Places) → t .waits ≡ 0 → anyFires one w (waitsOf t) ≡ false
-unfolding anyFires waitsOf any
-no-waits one w t e = let s : t .packets + t .waits ≡ t .packets = omega arith in rw (s, slice-empty (t .packets) (t .table)) refl
+unfolding anyFires any
+no-waits one w t e = rw (none-waiting t e) refl
 
 pub nothing-fires : (one : Bool) (w : ℕ) (t : Places) → t .waits ≡ 0 → firesOf one w t ≡ false
 unfolding firesOf
@@ -57,4 +61,23 @@ idle-change one w clear set t l e =
     ap (λ c. c .places) (change-sound one w clear set t s)
     ∙ same-either (eqb (changedWord clear set w) w) (idle one (changedWord clear set w) t (rw l (leb-true _ _ s)) (rw s at e)))
     (λ (s : sound t ≡ false). ap (λ c. c .places) (change-unsound one w clear set t s))
+    (either (sound t))
+
+-- ---- dropping an end's waits
+
+pub dropped-idle : (one : Bool) (t : Places) → t .waits ≡ 0 → length (t .table) ≡ 128 → sound t ≡ true → droppedOf one t ≡ t
+unfolding droppedOf others filter
+dropped-idle one t e l s =
+    let none = none-waiting t e in
+    rw none
+    (ap (λ (n : ℕ). tableOf (packetsOf t) [] (replicate (n - 0) free ++ unusedOf t)) e
+    ∙ rw none at (as-table t (rw l (leb-true _ _ s))))
+
+-- for every table
+pub idle-drop : (one : Bool) (t : Places) → t .waits ≡ 0 → length (t .table) ≡ 128 → dropOf one t .places ≡ t
+unfolding done refused
+idle-drop one t e l =
+    ⊎-elim
+    (λ (s : sound t ≡ true). rw (drop-done one t s) (dropped-idle one t e l s))
+    (λ (s : sound t ≡ false). rw (drop-unsound one t s) refl)
     (either (sound t))

@@ -3,6 +3,7 @@ pub mod Partition
 pub mod Shift
 pub mod Compact
 pub mod Size
+pub mod Insertion
 pub mod Tests
 pub mod Operations
 pub mod Refused

@@ -95,9 +95,10 @@ module _ {A : Type 0} where
         let s : drop (suc u) tab ≡ drop 1 (drop u tab) = rw (← add-one u) (sym (drop-drop 1 u tab)) in
         set-split out p x room ∙ rw (f, r, s) (sym (append-assoc (take p tab) (x ∷ []) (slice p u tab ++ drop 1 (drop u tab))))
 
-    pub put-behind : (x : A) → p ≤ u → u < length tab → set tab u x ≡ take p tab ++ ((slice p u tab ++ (x ∷ [])) ++ drop 1 (drop u tab))
-    put-behind x h k =
-        let s : drop (suc u) tab ≡ drop 1 (drop u tab) = rw (← add-one u) (sym (drop-drop 1 u tab)) in
-        set-split tab u x k
-        ∙ ap (λ (l : List A). l ++ (x ∷ drop (suc u) tab)) (two-parts tab p u h)
-        ∙ rw (s, append-assoc (take p tab) (slice p u tab) (x ∷ drop 1 (drop u tab)), append-assoc (slice p u tab) (x ∷ []) (drop 1 (drop u tab))) refl
+    -- what is put behind the part from p to u
+    pub put-behind : (x : A) → p ≤ u
+        → (take u tab ++ (x ∷ [])) ++ (slice u u tab ++ drop 1 (drop u tab)) ≡ take p tab ++ ((slice p u tab ++ (x ∷ [])) ++ drop 1 (drop u tab))
+    put-behind x h =
+        ap (λ (l : List A). (take u tab ++ (x ∷ [])) ++ (l ++ drop 1 (drop u tab))) (slice-empty u tab)
+        ∙ ap (λ (l : List A). (l ++ (x ∷ [])) ++ drop 1 (drop u tab)) (two-parts tab p u h)
+        ∙ rw (append-assoc (take p tab) (slice p u tab) (x ∷ []), append-assoc (take p tab) (slice p u tab ++ (x ∷ [])) (drop 1 (drop u tab))) refl

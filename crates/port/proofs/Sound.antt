@@ -129,6 +129,9 @@ module _ (t : Places) (s : sound t ≡ true) where
   pub sound-fired : (one : Bool) (w : ℕ) → sound (firedOf one w t) ≡ true
   sound-fired one w = sound-below (firedOf one w t) (omega (arith, within, most-fired t one w))
 
+  pub sound-dropped : (one : Bool) → sound (droppedOf one t) ≡ true
+  sound-dropped one = sound-below (droppedOf one t) (omega (arith, within, most-dropped t one))
+
   pub sound-register : (one : Bool) (w key mask : ℕ) (edge : Bool) → sound (registerOf one w key mask edge t .places) ≡ true
   unfolding refused done
   sound-register one w key mask edge =
@@ -161,4 +164,4 @@ module _ (t : Places) (s : sound t ≡ true) where
 
   pub sound-drop : (one : Bool) → sound (dropOf one t .places) ≡ true
   unfolding done
-  sound-drop one = rw (drop-done one t s) (sound-below (droppedOf one t) (omega (arith, within, most-dropped t one)))
+  sound-drop one = rw (drop-done one t s) (sound-dropped one)

@@ -1,11 +1,11 @@
 -- The table of 128 places: its packets, its waits and its unused places; a wait and its packet. 01 "Signal word and packets".
--- An end is named by a Bool: true is end 1, false is end 2.
+-- An end is named by a Bool, true for end 1 and false for end 2; a place holds the end's number.
 use Prim.Native.Nat.{ℕ, _+_}
-use mathlib.Core.Bool.{Bool, false, not, Bool·beq}
+use mathlib.Core.Bool.{Bool, not}
 use mathlib.Core.List.{List, _++_, map, reverse}
 use lib.ListN.{length, take, drop, replicate}
-use lib.Dec.{leb}
-use Rattle.status.specs.Choice.{_and_}
+use lib.Dec.{leb, eqb}
+use Rattle.status.specs.Choice.{pick, _and_}
 use Rattle.status.specs.declared.PortPacket.{PortPacket}
 use Rattle.port.specs.declared.Place.{Place}
 use Rattle.port.specs.declared.Places.{Places}
@@ -16,7 +16,7 @@ use Rattle.port.specs.Lists.{filter, any}
 
 -- a place that no run has used yet, or that was freed
 abbrev pub free : Place
-free = record { key = 0; mask = 0; observed = 0; one = false }
+free = record { key = 0; mask = 0; observed = 0; end = 0 }
 
 -- 01 "Signal word and packets": a place is used while it holds a packet or a wait
 abbrev pub used : Places → ℕ
@@ -48,13 +48,17 @@ newPlaces = record { packets = 0; waits = 0; table = replicate 128 free }
 
 -- ---- a wait and its packet
 
+-- the number of an end; a place that no wait has holds 0
+unfoldable pub endNumber : Bool → ℕ
+endNumber one = pick one 1 2
+
 -- a wait of end 1 or of end 2; it has observed nothing yet
 unfoldable pub waitOf : Bool → ℕ → ℕ → Place
-waitOf one key mask = record { key = key; mask = mask; observed = 0; one = one }
+waitOf one key mask = record { key = key; mask = mask; observed = 0; end = endNumber one }
 
 -- the wait as a packet: it has observed this word
 unfoldable pub observe : ℕ → Place → Place
-observe w p = record { key = p .key; mask = p .mask; observed = w; one = p .one }
+observe w p = record { key = p .key; mask = p .mask; observed = w; end = p .end }
 
 -- 01 "Signal word and packets": the packet has the wait's key, its mask as the trigger, the observed word, count 1 and timestamp 0
 unfoldable pub packetOf : Place → PortPacket
@@ -62,7 +66,7 @@ packetOf p = record { key = p .key; trigger = p .mask; observed = p .observed; c
 
 -- whether the wait is of that end and its mask meets the end's word
 unfoldable pub fires : Bool → ℕ → Place → Bool
-fires one w p = Bool·beq (p .one) one and meets w (p .mask)
+fires one w p = eqb (p .end) (endNumber one) and meets w (p .mask)
 
 -- whether any of the waits fires
 unfoldable pub anyFires : Bool → ℕ → List Place → Bool
@@ -76,9 +80,9 @@ fired one w ws = map (observe w) (reverse (filter (fires one w) ws))
 unfoldable pub kept : Bool → ℕ → List Place → List Place
 kept one w ws = filter (λ p. not (fires one w p)) ws
 
--- whether the wait is of the other end
+-- whether the wait is not of that end
 unfoldable pub ofOther : Bool → Place → Bool
-ofOther one p = not (Bool·beq (p .one) one)
+ofOther one p = not (eqb (p .end) (endNumber one))
 
 -- the waits of the other end, in their order
 unfoldable pub others : Bool → List Place → List Place

@@ -5,11 +5,15 @@ use status::PortPacket;
 use status::Record;
 use status::Status;
 ghost use mathlib.Core.Path.{_≡_};
+ghost use mathlib.Core.Bool.{true, not};
 ghost use Prim.Native.Nat.{_+_, _≤_, _<_};
-ghost use lib.Dec.{leb};
-ghost use Rattle.port.specs.Signal.{changedWord};
-ghost use Rattle.port.specs.Table.{fires, anyFires, observe, newPlaces, waitsOf};
-ghost use Rattle.port.specs.Port.{registeredOf, firedOf, droppedOf, takenOf, insertedOf, appendedOf, registerOf, firesOf, changeOf, takeOf, dropOf};
+ghost use lib.Dec.{leb, ltb, eqb};
+ghost use Rattle.status.specs.Choice.{pick, _and_};
+ghost use Rattle.status.specs.Answer.{refuseIf, refuseUnless, _then_};
+ghost use Rattle.status.specs.declared.Status.the-variants.{Internal, NoResources};
+ghost use Rattle.port.specs.Signal.{changedWord, meets};
+ghost use Rattle.port.specs.Table.{endNumber, fires, anyFires, observe, newPlaces, waitsOf};
+ghost use Rattle.port.specs.Port.{firedOf, droppedOf, insertedOf, appendedOf, registerOf, firesOf, changeOf, takeOf, dropOf};
 
 // The signals of a socket, by the bits of the public header.
 pub const READABLE: u32 = 0x1;
@@ -26,14 +30,15 @@ pub const READ_THRESHOLD: u32 = 0x400;
 
 pub const WRITE_THRESHOLD: u32 = 0x800;
 
-// A wait or its packet. `one` says whether the wait is of end 1 or of end 2; its packet keeps that.
-// `observed` is the word at which the wait fired, and 0 until then.
+// A wait or its packet. `observed` is the word at which the wait fired, and 0 until then.
+// `end` is the number of the wait's end, 1 or 2, and 0 in a place that no wait has; its packet keeps it.
+// It is as wide as the key so that a place has no padding: a new table is then one fill with zeros.
 #[repr(C)]
 pub struct Place {
     pub key: u64,
     pub mask: u32,
     pub observed: u32,
-    pub one: bool,
+    pub end: u64,
 }
 
 // A place that is not used.
@@ -41,7 +46,7 @@ const FREE: Place = Place {
     key: 0,
     mask: 0,
     observed: 0,
-    one: false,
+    end: 0,
 };
 
 // The packets stand first, oldest first; behind them the waits, oldest first; the other places are unused.
@@ -72,6 +77,26 @@ pub fn changed(word: u32, clear: u32, set: u32) -> u32
     word & !clear | set
 }
 
+// One of two words.
+fn word_if(test: bool, yes: u32, no: u32) -> u32
+    ensures { λ r. ⌜ r ≡ pick test yes no ⌝ }
+{
+    if test {
+        return yes;
+    }
+    no
+}
+
+// One of two counts.
+fn count_if(test: bool, yes: usize, no: usize) -> usize
+    ensures { λ r. ⌜ r ≡ pick test yes no ⌝ }
+{
+    if test {
+        return yes;
+    }
+    no
+}
+
 // Whether no more than 128 places are used. The sum of the two counts is never taken, as it can be too large.
 pub fn is_sound(packets: usize, waits: usize) -> bool
     ensures { λ r. ⌜ r ≡ leb (packets + waits) 128 ⌝ }
@@ -82,11 +107,21 @@ pub fn is_sound(packets: usize, waits: usize) -> bool
     waits <= 128 - packets
 }
 
+// The number of an end in a place.
+fn end_number(one: bool) -> u64
+    ensures { λ r. ⌜ r ≡ endNumber one ⌝ }
+{
+    if one {
+        return 1;
+    }
+    2
+}
+
 // Whether the wait is of that end and its mask meets the word.
 fn is_fired(p: Place, one: bool, word: u32) -> bool
     ensures { λ r. ⌜ r ≡ fires one word p ⌝ }
 {
-    if p.one == one {
+    if p.end == end_number(one) {
         return word & p.mask != 0;
     }
     false
@@ -100,7 +135,7 @@ fn observed_at(p: Place, word: u32) -> Place
         key: p.key,
         mask: p.mask,
         observed: word,
-        one: p.one,
+        end: p.end,
     }
 }
 
@@ -121,121 +156,209 @@ fn any_fires(t: Places, one: bool, word: u32) -> bool
     false
 }
 
-// Visits the waits from the newest to the oldest. Those that fire go behind the packets, the others to the end of the used places.
-fn fired(t: Places, one: bool, word: u32) -> Places
-    requires { ⌜ t .packets + t .waits ≤ 128 ⌝ }
-    ensures { λ r. ⌜ r ≡ firedOf one word t ⌝ }
+// Visits the waits from the newest to the oldest, if `visit` says so. Those that fire go behind the packets, the others to the end of the used places.
+fn fired(t: Places, one: bool, word: u32, visit: bool) -> Places
+    requires { ⌜ (visit ≡ true → t .packets + t .waits ≤ 128) ⌝ }
+    ensures { λ r. ⌜ r ≡ pick visit (firedOf one word t) t ⌝ }
 {
     let packets = t.packets;
-    let used = packets + t.waits;
-    let mut out = t;
-    let mut front = packets;
-    let mut back = used;
-    let mut i = used;
-    while packets < i {
-        i = i - 1;
-        let p = t.table[i];
-        if is_fired(p, one, word) {
-            let q = observed_at(p, word);
-            out.table[front] = q;
-            front = front + 1;
-        } else {
-            back = back - 1;
-            out.table[back] = p;
-        }
-    }
-    out.packets = front;
-    out.waits = used - front;
-    out
-}
-
-// Removes that end's waits: each wait's place is freed, and a wait of the other end goes behind those kept so far.
-fn dropped(t: Places, one: bool) -> Places
-    requires { ⌜ t .packets + t .waits ≤ 128 ⌝ }
-    ensures { λ r. ⌜ r ≡ droppedOf one t ⌝ }
-{
-    let packets = t.packets;
-    let used = packets + t.waits;
-    let mut out = t;
-    let mut n = packets;
-    let mut i = packets;
-    while i < used {
-        let p = out.table[i];
-        let free = FREE;
-        out.table[i] = free;
-        i = i + 1;
-        if p.one != one {
-            out.table[n] = p;
-            n = n + 1;
-        }
-    }
-    out.waits = n - packets;
-    out
-}
-
-// Removes the oldest packet: what stands behind it moves by one place to the front.
-fn taken(t: Places) -> Places
-    requires { ⌜ (0 < t .packets) × (t .packets + t .waits ≤ 128) ⌝ }
-    ensures { λ r. ⌜ r ≡ takenOf t ⌝ }
-{
-    let packets = t.packets;
-    let last = packets + t.waits - 1;
-    let mut out = t;
-    let mut i: usize = 0;
-    while i < last {
-        let p = out.table[i + 1];
-        out.table[i] = p;
-        i = i + 1;
-    }
-    let free = FREE;
-    out.table[last] = free;
-    out.packets = packets - 1;
-    out
-}
-
-// Puts a packet behind the packets: the waits move by one place to the back.
-fn inserted(t: Places, p: Place) -> Places
-    requires { ⌜ t .packets + t .waits < 128 ⌝ }
-    ensures { λ r. ⌜ r ≡ insertedOf p t ⌝ }
-{
-    let packets = t.packets;
-    let mut out = t;
-    let mut i = packets + t.waits;
-    while packets < i {
-        let q = out.table[i - 1];
-        out.table[i] = q;
-        i = i - 1;
-    }
-    out.table[packets] = p;
-    out.packets = packets + 1;
-    out
-}
-
-// Puts a wait behind the waits.
-fn appended(t: Places, p: Place) -> Places
-    requires { ⌜ t .packets + t .waits < 128 ⌝ }
-    ensures { λ r. ⌜ r ≡ appendedOf p t ⌝ }
-{
     let waits = t.waits;
-    let used = t.packets + waits;
     let mut out = t;
-    out.table[used] = p;
-    out.waits = waits + 1;
+    if visit {
+        let used = packets + waits;
+        let mut front = packets;
+        let mut back = used;
+        let mut i = used;
+        while packets < i {
+            i = i - 1;
+            let p = t.table[i];
+            if is_fired(p, one, word) {
+                let q = observed_at(p, word);
+                out.table[front] = q;
+                front = front + 1;
+            } else {
+                back = back - 1;
+                out.table[back] = p;
+            }
+        }
+        out.packets = front;
+        out.waits = used - front;
+    }
     out
 }
 
-// The table with a wait more, or with its packet where it fires at once.
-fn registered(t: Places, p: Place, word: u32, edge: bool) -> Places
-    requires { ⌜ t .packets + t .waits < 128 ⌝ }
-    ensures { λ r. ⌜ r ≡ registeredOf p word edge t ⌝ }
+// Removes that end's waits, if the table is sound: each wait's place is freed, and a wait of the other end goes behind those kept so far.
+fn dropped(t: Places, one: bool, sound: bool) -> Places
+    requires { ⌜ (sound ≡ true → t .packets + t .waits ≤ 128) ⌝ }
+    ensures { λ r. ⌜ r ≡ pick sound (droppedOf one t) t ⌝ }
+{
+    let end = end_number(one);
+    let packets = t.packets;
+    let waits = t.waits;
+    let mut out = t;
+    if sound {
+        let used = packets + waits;
+        let mut n = packets;
+        let mut i = packets;
+        while i < used {
+            let p = out.table[i];
+            let free = FREE;
+            out.table[i] = free;
+            i = i + 1;
+            if p.end != end {
+                out.table[n] = p;
+                n = n + 1;
+            }
+        }
+        out.waits = n - packets;
+    }
+    out
+}
+
+// Whether a packet is to be taken and there is one, in a sound table.
+fn has_packet(asked: bool, packets: usize, waits: usize) -> bool
+    ensures { λ r. ⌜ r ≡ (asked and leb (packets + waits) 128 and not (eqb packets 0)) ⌝ }
+{
+    if asked {
+        if is_sound(packets, waits) {
+            return packets != 0;
+        }
+    }
+    false
+}
+
+// Removes the oldest packet, if that is asked and possible: what stands behind it moves by one place to the front.
+pub fn taken(t: Places, asked: bool) -> Places
+    ensures { λ r. ⌜ r ≡ pick asked (takeOf t .places) t ⌝ }
+{
+    let packets = t.packets;
+    let waits = t.waits;
+    let mut out = t;
+    if has_packet(asked, packets, waits) {
+        let last = packets + waits - 1;
+        let mut i: usize = 0;
+        while i < last {
+            let p = out.table[i + 1];
+            out.table[i] = p;
+            i = i + 1;
+        }
+        let free = FREE;
+        out.table[last] = free;
+        out.packets = packets - 1;
+    }
+    out
+}
+
+// The answer to taking the oldest packet.
+pub fn oldest(t: Places) -> Answer
+    ensures { λ r. ⌜ r ≡ takeOf t .answer ⌝ }
+{
+    if !is_sound(t.packets, t.waits) {
+        return Answer::Refused(Status::Internal);
+    }
+    if t.packets == 0 {
+        return Answer::Refused(Status::ShouldWait);
+    }
+    let p = t.table[0];
+    let packet = PortPacket {
+        key: p.key,
+        trigger: p.mask,
+        observed: p.observed,
+        count: 1,
+        timestamp: 0,
+    };
+    Answer::Done(Record::Packet(packet))
+}
+
+// Whether a place is to be used and fewer than 128 are. The sum of the two counts is never taken, as it can be too large.
+fn has_room(asked: bool, packets: usize, waits: usize) -> bool
+    ensures { λ r. ⌜ r ≡ (asked and ltb (packets + waits) 128) ⌝ }
+{
+    if asked {
+        if packets < 128 {
+            return waits < 128 - packets;
+        }
+    }
+    false
+}
+
+// Whether a wait fires as it is registered.
+fn fires_at_once(word: u32, mask: u32, edge: bool) -> bool
+    ensures { λ r. ⌜ r ≡ (not edge and meets word mask) ⌝ }
 {
     if edge {
-        return appended(t, p);
+        return false;
     }
-    if word & p.mask != 0 {
-        return inserted(t, observed_at(p, word));
+    word & mask != 0
+}
+
+// Puts a packet behind the packets, or a wait behind the waits, if there is room: what stands behind it moves by one place to the back.
+fn placed(t: Places, p: Place, packet: bool, room: bool) -> Places
+    requires { ⌜ (room ≡ true → t .packets + t .waits < 128) ⌝ }
+    ensures { λ r. ⌜ r ≡ pick room (pick packet (insertedOf p t) (appendedOf p t)) t ⌝ }
+{
+    let packets = t.packets;
+    let waits = t.waits;
+    let mut out = t;
+    if room {
+        let mut i = packets + waits;
+        let at = count_if(packet, packets, i);
+        let more = count_if(packet, 1, 0);
+        while at < i {
+            let q = out.table[i - 1];
+            out.table[i] = q;
+            i = i - 1;
+        }
+        out.table[at] = p;
+        out.packets = packets + more;
+        out.waits = waits + 1 - more;
     }
-    appended(t, p)
+    out
+}
+
+// The table with a wait more, or with its packet where it fires at once, if that is asked and there is room.
+pub fn registered(
+    t: Places,
+    asked: bool,
+    one: bool,
+    word: u32,
+    key: u64,
+    mask: u32,
+    edge: bool,
+) -> Places
+    ensures { λ r. ⌜ r ≡ pick asked (registerOf one word key mask edge t .places) t ⌝ }
+{
+    let now = fires_at_once(word, mask, edge);
+    let p = Place {
+        key: key,
+        mask: mask,
+        observed: word_if(now, word, 0),
+        end: end_number(one),
+    };
+    placed(t, p, now, has_room(asked, t.packets, t.waits))
+}
+
+// The answer to the registration of a wait.
+fn register_answer(packets: usize, waits: usize) -> Answer
+    ensures { λ r. ⌜ r ≡ (refuseUnless (leb (packets + waits) 128) Internal then refuseIf (eqb (packets + waits) 128) NoResources) ⌝ }
+{
+    if !is_sound(packets, waits) {
+        return Answer::Refused(Status::Internal);
+    }
+    if packets + waits == 128 {
+        return Answer::Refused(Status::NoResources);
+    }
+    Answer::Done(Record::Empty)
+}
+
+// The answer to an operation that every sound table allows.
+fn sound_answer(sound: bool) -> Answer
+    ensures { λ r. ⌜ r ≡ refuseUnless sound Internal ⌝ }
+{
+    if sound {
+        return Answer::Done(Record::Empty);
+    }
+    Answer::Refused(Status::Internal)
 }
 
 impl Places {
@@ -254,27 +377,9 @@ impl Places {
     pub fn register(self, one: bool, word: u32, key: u64, mask: u32, edge: bool) -> Next
         ensures { λ r. ⌜ r ≡ registerOf one word key mask edge self ⌝ }
     {
-        if is_sound(self.packets, self.waits) {
-            if self.packets + self.waits == 128 {
-                return Next {
-                    places: self,
-                    answer: Answer::Refused(Status::NoResources),
-                };
-            }
-            let p = Place {
-                key: key,
-                mask: mask,
-                observed: 0,
-                one: one,
-            };
-            return Next {
-                places: registered(self, p, word, edge),
-                answer: Answer::Done(Record::Empty),
-            };
-        }
         Next {
-            places: self,
-            answer: Answer::Refused(Status::Internal),
+            places: registered(self, true, one, word, key, mask, edge),
+            answer: register_answer(self.packets, self.waits),
         }
     }
 
@@ -292,25 +397,12 @@ impl Places {
     pub fn change(self, one: bool, word: u32, clear: u32, set: u32) -> Change
         ensures { λ r. ⌜ r ≡ changeOf one word clear set self ⌝ }
     {
-        if is_sound(self.packets, self.waits) {
-            let next = changed(word, clear, set);
-            if next == word {
-                return Change {
-                    places: self,
-                    word: next,
-                    answer: Answer::Done(Record::Empty),
-                };
-            }
-            return Change {
-                places: fired(self, one, next),
-                word: next,
-                answer: Answer::Done(Record::Empty),
-            };
-        }
+        let sound = is_sound(self.packets, self.waits);
+        let next = word_if(sound, changed(word, clear, set), word);
         Change {
-            places: self,
-            word: word,
-            answer: Answer::Refused(Status::Internal),
+            places: fired(self, one, next, next != word),
+            word: next,
+            answer: sound_answer(sound),
         }
     }
 
@@ -318,29 +410,9 @@ impl Places {
     pub fn take(self) -> Next
         ensures { λ r. ⌜ r ≡ takeOf self ⌝ }
     {
-        if is_sound(self.packets, self.waits) {
-            if self.packets == 0 {
-                return Next {
-                    places: self,
-                    answer: Answer::Refused(Status::ShouldWait),
-                };
-            }
-            let p = self.table[0];
-            let packet = PortPacket {
-                key: p.key,
-                trigger: p.mask,
-                observed: p.observed,
-                count: 1,
-                timestamp: 0,
-            };
-            return Next {
-                places: taken(self),
-                answer: Answer::Done(Record::Packet(packet)),
-            };
-        }
         Next {
-            places: self,
-            answer: Answer::Refused(Status::Internal),
+            places: taken(self, true),
+            answer: oldest(self),
         }
     }
 
@@ -348,15 +420,10 @@ impl Places {
     pub fn drop_waits(self, one: bool) -> Next
         ensures { λ r. ⌜ r ≡ dropOf one self ⌝ }
     {
-        if is_sound(self.packets, self.waits) {
-            return Next {
-                places: dropped(self, one),
-                answer: Answer::Done(Record::Empty),
-            };
-        }
+        let sound = is_sound(self.packets, self.waits);
         Next {
-            places: self,
-            answer: Answer::Refused(Status::Internal),
+            places: dropped(self, one, sound),
+            answer: sound_answer(sound),
         }
     }
 }

@@ -87,6 +87,7 @@ dispose-whole p h d f e r l i g = by (isDone (disposeAnswer p h d f)) refl
   where
     is : r ≡ disposeEnds (endsOf p) h d f
     is = g ∙ ap (λ (k : Ends). disposeEnds k h d f) i
+
     by : (b : Bool) → isDone (disposeAnswer p h d f) ≡ b → Steps p (disposeAnswer p h d f) (disposed (isOne h) d f p) (settledAll r p)
     by true c =
         subst (Steps p (disposeAnswer p h d f) (disposed (isOne h) d f p))

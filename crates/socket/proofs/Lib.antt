@@ -3,3 +3,5 @@ pub mod Visiting
 pub mod Control
 pub mod Settled
 pub mod Disposed
+pub mod Closed
+pub mod Waits

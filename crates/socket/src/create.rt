@@ -2,34 +2,48 @@
 use crate::Pair;
 use crate::Step;
 use endpoint::Endpoint;
+use endpoint::bit_if;
 use port::Places;
 ghost use mathlib.Core.Path.{_≡_};
+ghost use mathlib.Core.Bool.{false};
 ghost use lib.ListN.{length};
 ghost use lib.Dec.{eqb};
+ghost use Rattle.status.specs.Choice.{pick};
+ghost use Rattle.endpoint.specs.Endpoint.{newEnd, noEnd};
 ghost use Rattle.ends.specs.Create.{createAnswer};
 ghost use Rattle.socket.specs.Pair.{newPair, noPair};
 ghost use Rattle.socket.specs.Tests.{Steps};
 
-fn new_pair(datagram: bool, capacity: u32, rights_one: u32, rights_two: u32) -> Pair
-    ensures { λ r. ⌜ r ≡ newPair datagram capacity «rights_one» «rights_two» ⌝ }
+// A new end, or one that was never made.
+fn end_if(made: bool, rights: u32) -> Endpoint
+    ensures { λ r. ⌜ r ≡ pick made (newEnd rights) noEnd ⌝ }
 {
-    Pair {
-        datagram,
-        capacity,
-        one: Endpoint::new(rights_one),
-        two: Endpoint::new(rights_two),
-        places: Places::new(),
+    if made {
+        return Endpoint::new(rights);
     }
+    Endpoint::none()
 }
 
-fn no_pair() -> Pair
-    ensures { λ r. ⌜ r ≡ noPair ⌝ }
+fn datagram_if(made: bool, datagram: bool) -> bool
+    ensures { λ r. ⌜ r ≡ pick made datagram false ⌝ }
 {
+    if made {
+        return datagram;
+    }
+    false
+}
+
+// A new pair, or the record of a refused create. Both are put together on one way, so that the compiler fills the table where it is to stand.
+fn pair_if(made: bool, datagram: bool, capacity: u32, rights_one: u32, rights_two: u32) -> Pair
+    ensures { λ r. ⌜ r ≡ pick made (newPair datagram capacity «rights_one» «rights_two») noPair ⌝ }
+{
+    let one = end_if(made, rights_one);
+    let two = end_if(made, rights_two);
     Pair {
-        datagram: false,
-        capacity: 0,
-        one: Endpoint::none(),
-        two: Endpoint::none(),
+        datagram: datagram_if(made, datagram),
+        capacity: bit_if(made, capacity),
+        one,
+        two,
         places: Places::new(),
     }
 }
@@ -58,14 +72,9 @@ impl Pair {
             ring_two.len(),
             table_two.len(),
         );
-        if !status::is_done(a) {
-            return Step {
-                pair: no_pair(),
-                answer: a,
-            };
-        }
+        let made = status::is_done(a);
         Step {
-            pair: new_pair(kind == 1, capacity, rights_one, rights_two),
+            pair: pair_if(made, kind == 1, capacity, rights_one, rights_two),
             answer: a,
         }
     }

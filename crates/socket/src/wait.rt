@@ -1,24 +1,43 @@
-// Waits and their packets.
+// Waits and their packets. Whether a call is done is passed on to the table, which then has one way from the old one to the next.
 use crate::Pair;
 use crate::Step;
 use crate::parts;
 use status::Answer;
-use status::Status;
 ghost use mathlib.Core.Path.{_≡_};
-ghost use Prim.Native.Nat.{_<_};
-ghost use Rattle.port.specs.Table.{used};
-ghost use Rattle.socket.specs.Pair.{isOne};
+ghost use lib.Dec.{eqb};
+ghost use Rattle.status.specs.Choice.{pick};
+ghost use Rattle.port.specs.Port.{registerOf, takeOf};
+ghost use Rattle.socket.specs.Pair.{isOne, own, withPlaces};
 ghost use Rattle.socket.specs.Tests.{Steps};
 ghost use Rattle.socket.specs.Wait.{waitAnswer, waited, takeAnswer, took};
 
-fn waited_pair(p: Pair, one: bool, key: u64, mask: u32, edge: u8) -> Pair
-    requires { ⌜ used (p .places) < 128 ⌝ }
-    ensures { λ r. ⌜ r ≡ waited one key mask edge p ⌝ }
+fn waited_pair(p: Pair, asked: bool, one: bool, key: u64, mask: u32, edge: u8) -> Pair
+    ensures { λ r. ⌜ r ≡ withPlaces (pick asked (registerOf one (own one p .signals) key mask (eqb edge 1) (p .places) .places) (p .places)) p ⌝ }
 {
     let e = parts::own(p, one);
     let places = p.places;
-    let next = places.register(one, e.signals, key, mask, edge == 1);
-    parts::with_places(p, next.places)
+    let next = port::registered(places, asked, one, e.signals, key, mask, edge == 1);
+    parts::with_places(p, next)
+}
+
+// The tests of a take, then the oldest packet.
+fn take_answer(p: Pair) -> Answer
+    ensures { λ r. ⌜ r ≡ takeAnswer p ⌝ }
+{
+    let a = ends::sound_test(parts::ends_of(p));
+    if !status::is_done(a) {
+        return a;
+    }
+    let places = p.places;
+    port::oldest(places)
+}
+
+fn taken_pair(p: Pair, asked: bool) -> Pair
+    ensures { λ r. ⌜ r ≡ withPlaces (pick asked (takeOf (p .places) .places) (p .places)) p ⌝ }
+{
+    let places = p.places;
+    let next = port::taken(places, asked);
+    parts::with_places(p, next)
 }
 
 impl Pair {
@@ -27,14 +46,9 @@ impl Pair {
         ensures { λ r. ⌜ Steps self (waitAnswer self handle edge) (waited (isOne handle) key mask edge self) r ⌝ }
     {
         let a = ends::wait_answer(parts::ends_of(self), handle, edge);
-        if !status::is_done(a) {
-            return Step {
-                pair: self,
-                answer: a,
-            };
-        }
+        let asked = status::is_done(a);
         Step {
-            pair: waited_pair(self, handle == 1, key, mask, edge),
+            pair: waited_pair(self, asked, handle == 1, key, mask, edge),
             answer: a,
         }
     }
@@ -43,26 +57,11 @@ impl Pair {
     pub fn take(self) -> Step
         ensures { λ r. ⌜ Steps self (takeAnswer self) (took self) r ⌝ }
     {
-        let a = ends::sound_test(parts::ends_of(self));
-        if !status::is_done(a) {
-            return Step {
-                pair: self,
-                answer: a,
-            };
-        }
-        if self.places.packets == 0 {
-            return Step {
-                pair: self,
-                answer: Answer::Refused(Status::ShouldWait),
-            };
-        }
-        let places = self.places;
-        let next = places.take();
-        let left = next.places;
-        let answer = next.answer;
+        let a = take_answer(self);
+        let asked = status::is_done(a);
         Step {
-            pair: parts::with_places(self, left),
-            answer,
+            pair: taken_pair(self, asked),
+            answer: a,
         }
     }
 }

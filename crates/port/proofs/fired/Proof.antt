@@ -1,3 +1,4 @@
+use Rattle.status.specs.Choice.{pick}
 use Rattle.port.specs.Table.{free, fires, observe, fired, kept, packetsOf, waitsOf, unusedOf, tableOf}
 use Rattle.port.specs.Port.{firedOf}
 use Rattle.port.proofs.Partition.{Partitioned, partition-start, step-hit, step-miss, partition-all, partition-front, partition-back}
@@ -12,19 +13,25 @@ use Rattle.port.proofs.fired.Tie as tie
 
 -- The waits from i on are visited: those that fire stand from the packets on, newest first, and the kept ones end at the last used place.
 abbrev Inv-loop : tie.InvT-loop
-Inv-loop one word t packets used out₀ front₀ back₀ i₀ out front back i = Partitioned (fires one word) (observe word) (t .table) packets used (out .table) front back i
+Inv-loop one word visit t packets waits out₀ used front₀ back₀ i₀ out front back i =
+    Partitioned (fires one word) (observe word) (t .table) packets used (out .table) front back i × (used ≤ 128)
 
 abbrev μ-loop : tie.MeasureT-loop
-μ-loop one word t packets used out₀ front₀ back₀ i₀ out front back i = i
+μ-loop one word visit t packets waits out₀ used front₀ back₀ i₀ out front back i = i
 
 add-used : tie.Need-add-used Inv-loop μ-loop
-add-used c = search needs
+add-used c =
+    let t = c .before .args .t1 in
+    let h : t .packets + t .waits ≤ 128 = c .before .pre (c .if1 .taken) in
+    omega arith
 
 loop-holds : tie.Need-loop-holds Inv-loop μ-loop
 loop-holds c =
-    let t = c .args .t1 in
-    let l : length (t .table) ≡ 128 = table-128 t _ (c .good .0) in
-    partition-start (fires (c .args .one) (c .args .word)) (observe (c .args .word)) (t .table) (t .packets) (t .packets + t .waits) (omega arith) (omega arith)
+    let a = c .before .args in
+    let t = a .t1 in
+    let l : length (t .table) ≡ 128 = table-128 t _ (c .before .good .0) in
+    let h : t .packets + t .waits ≤ 128 = c .before .pre (c .if1 .taken) in
+    (partition-start (fires (a .one) (a .word)) (observe (a .word)) (t .table) (t .packets) (t .packets + t .waits) (omega arith) (omega arith), h)
 
 sub-i : tie.Need-sub-i Inv-loop μ-loop
 sub-i c = search needs
@@ -55,12 +62,14 @@ loop-less c = search needs
 
 loop-again : tie.Need-loop-again Inv-loop μ-loop
 loop-again c =
-    let a = c .before .before .before .before .before .before .args in
+    let a = c .before .before .before .before .before .before .before .args in
     let t = a .t1 in
     let o = c .before .before .before .before .before .loop in
-    let m = c .before .before .is-fired in
-    step-hit (fires (a .one) (a .word)) (observe (a .word)) (t .table) (t .packets) (t .packets + t .waits) (o .out .table) (o .front) (o .back) (o .i) free (c .observed-at .result) (o .inv)
-    (c .before .before .before .before .loop-test .taken) (sym (m .ensures) ∙ c .before .if1 .taken) (c .observed-at .ensures)
+    let m = c .before .before .is-fired in (
+      step-hit (fires (a .one) (a .word)) (observe (a .word)) (t .table) (t .packets) (t .packets + t .waits) (o .out .table) (o .front) (o .back) (o .i) free (c .observed-at .result) (o .inv .0)
+          (c .before .before .before .before .loop-test .taken) (sym (m .ensures) ∙ c .before .if2 .taken) (c .observed-at .ensures),
+      o .inv .1,
+    )
 
 sub-back : tie.Need-sub-back Inv-loop μ-loop
 sub-back c = search needs
@@ -76,20 +85,22 @@ loop-less-2 c = search needs
 
 loop-again-2 : tie.Need-loop-again-2 Inv-loop μ-loop
 loop-again-2 c =
-    let a = c .before .before .before .before .before .args in
+    let a = c .before .before .before .before .before .before .args in
     let t = a .t1 in
     let o = c .before .before .before .before .loop in
-    let m = c .before .is-fired in
-    step-miss (fires (a .one) (a .word)) (observe (a .word)) (t .table) (t .packets) (t .packets + t .waits) (o .out .table) (o .front) (o .back) (o .i) free (o .inv)
-    (c .before .before .before .loop-test .taken) (sym (m .ensures) ∙ c .if1 .left)
+    let m = c .before .is-fired in (
+      step-miss (fires (a .one) (a .word)) (observe (a .word)) (t .table) (t .packets) (t .packets + t .waits) (o .out .table) (o .front) (o .back) (o .i) free (o .inv .0)
+          (c .before .before .before .loop-test .taken) (sym (m .ensures) ∙ c .if2 .left),
+      o .inv .1,
+    )
 
 sub-out : tie.Need-sub-out Inv-loop μ-loop
 sub-out c = search needs
 
 returns : tie.Need-returns Inv-loop μ-loop
-unfolding firedOf tableOf packetsOf waitsOf unusedOf fired kept
+unfolding pick firedOf tableOf packetsOf waitsOf unusedOf fired kept
 returns c =
-    let a = c .before .before .args in
+    let a = c .before .before .before .args in
     let t = a .t1 in
     let o = c .before .loop in
     let f = fires (a .one) (a .word) in
@@ -97,10 +108,15 @@ returns c =
     let u = t .packets + t .waits in
     let done : o .i ≤ t .packets = c .loop-test .left in
     rw (
-      partition-back f g (t .table) (t .packets) u (o .out .table) (o .front) (o .back) (o .i) (o .inv) done,
-      partition-front f g (t .table) (t .packets) u (o .out .table) (o .front) (o .back) (o .i) (o .inv) done,
-      partition-all f g (t .table) (t .packets) u (o .out .table) (o .front) (o .back) (o .i) (o .inv) done,
+      c .before .before .if1 .taken,
+      partition-back f g (t .table) (t .packets) u (o .out .table) (o .front) (o .back) (o .i) (o .inv .0) done,
+      partition-front f g (t .table) (t .packets) u (o .out .table) (o .front) (o .back) (o .i) (o .inv .0) done,
+      partition-all f g (t .table) (t .packets) u (o .out .table) (o .front) (o .back) (o .i) (o .inv .0) done,
     ) refl
+
+returns-2 : tie.Need-returns-2 Inv-loop μ-loop
+unfolding pick
+returns-2 c = rw (c .if1 .left) refl
 
 pub fired-spec : {M : Type 1} → statement M
 fired-spec =
@@ -126,4 +142,5 @@ fired-spec =
     loop-less-2
     loop-again-2
     sub-out
-    returns)
+    returns
+    returns-2)

@@ -1,53 +1,44 @@
 use borrow.Author.Needs.{needs}
-use borrow.Author.Tests.{eq-eqb, ne-eqb}
-use mathlib.Core.Path.{_≡_, refl, ap}
-use mathlib.Core.Bool.{true, false, not}
-use lib.Dec.{eqb}
-use lib.Bits.{bitAnd}
-use Rattle.status.specs.Choice.{pick}
-use Rattle.port.specs.Signal.{meets}
-use Rattle.port.specs.Port.{registeredOf}
+use borrow.Author.Tests.{ltb-true}
+use mathlib.Core.Path.{sym, _∙_}
+use Rattle.status.proofs.Chains.{both}
+use Rattle.port.proofs.Operations.{register-if}
 use Rattle.port.proofs.registered.Statement.{statement}
 use Rattle.port.proofs.registered.Tie as tie
 
-appended-requires : tie.Need-appended-requires
-appended-requires c κs = search needs
+fires-at-once-requires : tie.Need-fires-at-once-requires
+fires-at-once-requires c κs = search needs
+
+word-if-requires : tie.Need-word-if-requires
+word-if-requires c κs = search needs
+
+end-number-requires : tie.Need-end-number-requires
+end-number-requires c κs = search needs
+
+has-room-requires : tie.Need-has-room-requires
+has-room-requires c κs = search needs
+
+placed-requires : tie.Need-placed-requires
+placed-requires c κs e = ltb-true _ _ (both _ _ (sym (c .has-room .ensures) ∙ e) .1)
 
 returns : tie.Need-returns
-unfolding registeredOf pick
-returns c = rw (c .before .if1 .taken, c .appended .ensures) refl
-
-observed-at-requires : tie.Need-observed-at-requires
-observed-at-requires c κs = search needs
-
-inserted-requires : tie.Need-inserted-requires
-inserted-requires c κs = search needs
-
-returns-2 : tie.Need-returns-2
-unfolding registeredOf pick meets
-returns-2 c =
+returns c =
     let a = c .before .before .before .before .before .args in
-    let m : not (eqb (bitAnd (a .word) (a .p .mask)) 0) ≡ true = ap not (ne-eqb (bitAnd (a .word) (a .p .mask)) 0 (c .before .before .if2 .taken)) in
-    rw (c .before .before .before .before .if1 .left, m, c .inserted .ensures, c .before .observed-at .ensures) refl
-
-appended-requires-2 : tie.Need-appended-requires-2
-appended-requires-2 c κs = search needs
-
-returns-3 : tie.Need-returns-3
-unfolding registeredOf pick meets
-returns-3 c =
-    let a = c .before .before .before .before .args in
-    let m : not (eqb (bitAnd (a .word) (a .p .mask)) 0) ≡ false = ap not (eq-eqb (bitAnd (a .word) (a .p .mask)) 0 (c .before .if2 .left)) in
-    rw (c .before .before .before .if1 .left, m, c .appended2 .ensures) refl
+    rw (
+      c .placed .ensures,
+      c .before .has-room .ensures,
+      c .before .before .end-number .ensures,
+      c .before .before .before .word-if .ensures,
+      c .before .before .before .before .fires-at-once .ensures,
+    ) (register-if (a .asked) (a .one) (a .word) (a .key) (a .mask) (a .edge) (a .t))
 
 pub registered-spec : {M : Type 1} → statement M
 registered-spec =
     tie.close
     (tie.spec
-    appended-requires
-    returns
-    observed-at-requires
-    inserted-requires
-    returns-2
-    appended-requires-2
-    returns-3)
+    fires-at-once-requires
+    word-if-requires
+    end-number-requires
+    has-room-requires
+    placed-requires
+    returns)

@@ -1,5 +1,8 @@
-use Rattle.socket.proofs.Steps.{steps-refused, steps-done}
-use Rattle.status.proofs.Rules.{via-not, via-not-not}
+use mathlib.Core.Path.{ap, _∙_}
+use mathlib.Core.Bool.{Bool}
+use Rattle.status.specs.Choice.{pick}
+use Rattle.status.specs.Answer.{isDone}
+use Rattle.socket.specs.Pair.{noPair}
 use borrow.Author.Needs.{needs}
 use Rattle.socket.proofs.Pair.create.Statement.{statement}
 use Rattle.socket.proofs.Pair.create.Tie as tie
@@ -8,27 +11,15 @@ create-answer-requires : tie.Need-create-answer-requires
 create-answer-requires c κs = search needs
 
 is-done-requires : tie.Need-is-done-requires
-is-done-requires c κs = search needs
+is-done-requires c κs = tt
 
-no-pair-requires : tie.Need-no-pair-requires
-no-pair-requires c κs = search needs
+pair-if-requires : tie.Need-pair-if-requires
+pair-if-requires c κs = tt
 
 returns : tie.Need-returns
-returns c = steps-refused _ _ _ _ _ (c .before .before .before .create-answer .ensures) (via-not (c .before .before .is-done .ensures) (c .before .if1 .taken)) (c .no-pair .ensures)
-
-new-pair-requires : tie.Need-new-pair-requires
-new-pair-requires c κs = search needs
-
-returns-2 : tie.Need-returns-2
-returns-2 c = steps-done _ _ _ _ _ (c .before .before .before .create-answer .ensures) (via-not-not (c .before .before .is-done .ensures) (c .before .if1 .left)) (c .new-pair .ensures)
+returns c =
+    let a = c .before .before .create-answer .ensures in
+    record { answer = a; pair = rw (c .before .is-done .ensures, a) at (c .pair-if .ensures) }
 
 pub create-spec : {M : Type 1} → statement M
-create-spec =
-    tie.close
-    (tie.spec
-    create-answer-requires
-    is-done-requires
-    no-pair-requires
-    returns
-    new-pair-requires
-    returns-2)
+create-spec = tie.close (tie.spec create-answer-requires is-done-requires pair-if-requires returns)

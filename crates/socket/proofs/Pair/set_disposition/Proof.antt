@@ -1,7 +1,5 @@
-use Rattle.socket.proofs.Steps.{steps-refused, steps-done}
-use Rattle.status.proofs.Rules.{via-not, via-not-not}
-use mathlib.Core.Path.{refl}
-use Rattle.socket.specs.Disposition.{disposed}
+use Rattle.socket.proofs.Visiting.{places-128}
+use Rattle.socket.proofs.Disposed.{dispose-whole}
 use borrow.Author.Needs.{needs}
 use Rattle.socket.proofs.Pair.set_disposition.Statement.{statement}
 use Rattle.socket.proofs.Pair.set_disposition.Tie as tie
@@ -9,34 +7,16 @@ use Rattle.socket.proofs.Pair.set_disposition.Tie as tie
 ends-of-requires : tie.Need-ends-of-requires
 ends-of-requires c κs = search needs
 
-dispose-answer-requires : tie.Need-dispose-answer-requires
-dispose-answer-requires c κs = search needs
+dispose-ends-requires : tie.Need-dispose-ends-requires
+dispose-ends-requires c κs = search needs
 
-is-done-requires : tie.Need-is-done-requires
-is-done-requires c κs = search needs
+settle-all-requires : tie.Need-settle-all-requires
+settle-all-requires c κs = search needs
 
 returns : tie.Need-returns
-unfolding disposed
-returns c = steps-refused _ _ _ _ _ (rw (c .before .before .before .ends-of .ensures) at (c .before .before .dispose-answer .ensures)) (via-not (c .before .is-done .ensures) (c .if1 .taken)) refl
-
-disposed-own-requires : tie.Need-disposed-own-requires
-disposed-own-requires c κs = search needs
-
-disposed-peer-requires : tie.Need-disposed-peer-requires
-disposed-peer-requires c κs = search needs
-
-returns-2 : tie.Need-returns-2
-unfolding disposed
-returns-2 c = steps-done _ _ _ _ _ (rw (c .before .before .before .before .before .ends-of .ensures) at (c .before .before .before .before .dispose-answer .ensures)) (via-not-not (c .before .before .before .is-done .ensures) (c .before .before .if1 .left)) (rw (← c .before .disposed-own .ensures) (c .disposed-peer .ensures))
+returns c = let s = c .before .before .before in
+    rw (c .settle-all .ensures)
+    (dispose-whole (s .args .self) (s .args .handle) (s .args .disposition) (s .args .peer-disposition) _ _ (places-128 (s .args .self) _ (s .good .0)) (c .before .before .ends-of .ensures) (c .before .dispose-ends .ensures))
 
 pub set-disposition-spec : {M : Type 1} → statement M
-set-disposition-spec =
-    tie.close
-    (tie.spec
-    ends-of-requires
-    dispose-answer-requires
-    is-done-requires
-    returns
-    disposed-own-requires
-    disposed-peer-requires
-    returns-2)
+set-disposition-spec = tie.close (tie.spec ends-of-requires dispose-ends-requires settle-all-requires returns)

@@ -20,8 +20,8 @@ fires-requires c κs = search needs
 returns-2 : tie.Need-returns-2
 unfolding due keepsWord
 returns-2 c =
-    let w = c .before .before .before .before .changed .ensures in
-    pick-off _ _ _ _ _ (ne-eqb _ _ (λ e. c .before .before .if1 .left (w ∙ e))) (rw w at (c .fires .ensures))
+    let w = c .before .before .before .changed .ensures in
+    pick-off _ _ _ _ _ (ne-eqb _ _ (λ e. c .before .if1 .left (w ∙ e))) (rw w at (c .fires .ensures))
 
 pub is-due-spec : {M : Type 1} → statement M
 is-due-spec = tie.close (tie.spec changed-requires returns fires-requires returns-2)

@@ -1,0 +1,116 @@
+-- A close, which drops the waits of its end before it visits those of its peer. Assumes nothing.
+use Prim.Native.Nat.{ℕ}
+use mathlib.Core.Path.{_≡_, refl, sym, ap, subst, _∙_}
+use mathlib.Core.Bool.{Bool, true, false, not, false≢true}
+use mathlib.Core.Logic.{⊎-elim}
+use lib.ListN.{length}
+use lib.Dec.{eqb}
+use borrow.Author.Tests.{eqb-true}
+use Rattle.status.specs.declared.Answer.{Answer}
+use Rattle.status.specs.Choice.{pick}
+use Rattle.status.specs.Answer.{isDone}
+use Rattle.status.proofs.Rules.{pick-on, pick-off}
+use Rattle.port.specs.declared.Next.{Next}
+use Rattle.port.specs.Signal.{WRITABLE, «PEER_CLOSED»}
+use Rattle.port.specs.Table.{sound}
+use Rattle.port.specs.Port.{done, droppedOf, dropOf}
+use Rattle.port.proofs.Lists.{either}
+use Rattle.port.proofs.Operations.{drop-done}
+use Rattle.port.proofs.Idle.{idle-drop}
+use Rattle.port.proofs.Sound.{sound-drop}
+use Rattle.endpoint.specs.Endpoint.{withSignals, closedEnd}
+use Rattle.ends.specs.declared.Ends.{Ends}
+use Rattle.ends.specs.declared.Moved.{Moved}
+use Rattle.ends.specs.declared.Visits.{Visits}
+use Rattle.ends.specs.declared.Outcome.{Outcome}
+use Rattle.ends.specs.Outcome.{noVisits, outcomeOf, keptEnds, unchangedEnds}
+use Rattle.ends.proofs.Sound.{opening-passed}
+use Rattle.control.specs.Signal.{changedEnd, firstOnly}
+use Rattle.control.specs.Close.{closeVisit, closeMoved, closeOutcome, closeEnds}
+use Rattle.socket.specs.declared.Pair.{Pair}
+use Rattle.socket.specs.Pair.{isOne, own, peer, endsOf, withEnd, withPlaces, signalChange}
+use Rattle.socket.specs.Tests.{Steps}
+use Rattle.socket.specs.Wait.{closeAnswer, closed}
+use Rattle.socket.specs.Deferred.{visited, withEnds, withOutcome, closedWaits, settledClose}
+use Rattle.socket.proofs.Visiting.{visited-none, visited-idle, signal-visited, settled-pair}
+use Rattle.socket.proofs.Steps.{steps-refused, steps-done}
+
+-- ---- the code's step
+
+pub close-on : (t : Bool) (r : Outcome) (p q q′ : Pair) → r .fires ≡ true → q ≡ withOutcome r p → q′ ≡ closedWaits t (r .visits) q
+    → record { pair = q′; answer = r .answer } ≡ settledClose t r p
+unfolding settledClose
+close-on t r p q q′ f e g =
+    ap (λ (k : Pair). record { pair = k; answer = r .answer }) (pick-on _ _ _ _ _ f (g ∙ ap (closedWaits t (r .visits)) e))
+
+pub close-off : (t : Bool) (r : Outcome) (p q : Pair) → r .fires ≡ false → q ≡ withOutcome r p → record { pair = q; answer = r .answer } ≡ settledClose t r p
+unfolding settledClose
+close-off t r p q f e = ap (λ (k : Pair). record { pair = k; answer = r .answer }) (pick-off _ _ _ _ _ f e)
+
+-- ---- the waits dropped, then the peer told
+
+dropped : (t : Bool) (p : Pair) → sound (p .places) ≡ true → dropOf t (p .places) .places ≡ droppedOf t (p .places)
+unfolding done
+dropped t p s = ap (λ (n : Next). n .places) (drop-done t (p .places) s)
+
+-- the pair after the visits of a close, its waits being dropped
+abbrev closedPair : Bool → Moved → Pair → Pair
+closedPair t m p = closedWaits t (m .visits) (withEnds (pick t (m .own) (m .peer)) (pick t (m .peer) (m .own)) p)
+
+by-closed : (c t : Bool) (m n : Moved) (p q r : Pair) → closedPair t m p ≡ q → closedPair t n p ≡ r → closedPair t (pick c m n) p ≡ pick c q r
+unfolding pick
+by-closed true t m n p q r e g = e
+by-closed false t m n p q r e g = g
+
+closed-visited : (t : Bool) (p : Pair) → sound (p .places) ≡ true → closedPair t (closeMoved t (own t p) (peer t p)) p ≡ closed t p
+unfolding closeMoved closed closedWaits closeVisit firstOnly keptEnds changedEnd visited withEnds withEnd withPlaces pick
+closed-visited true p s =
+    by-closed (p .two .closed) true _ _ p _ _
+    (ap (λ u. withPlaces u (withEnd true (closedEnd (p .one)) p)) (visited-none _ ∙ dropped true p s))
+    (sym (signal-visited false WRITABLE «PEER_CLOSED» (withPlaces (droppedOf true (p .places)) (withEnd true (closedEnd (p .one)) p)) (subst (λ u. sound u ≡ true) (dropped true p s) (sound-drop (p .places) s true))
+    ∙ rw (dropped true p s) refl))
+closed-visited false p s =
+    by-closed (p .one .closed) false _ _ p _ _
+    (ap (λ u. withPlaces u (withEnd false (closedEnd (p .two)) p)) (visited-none _ ∙ dropped false p s))
+    (sym (signal-visited true WRITABLE «PEER_CLOSED» (withPlaces (droppedOf false (p .places)) (withEnd false (closedEnd (p .two)) p)) (subst (λ u. sound u ≡ true) (dropped false p s) (sound-drop (p .places) s false))
+    ∙ rw (dropped false p s) refl))
+
+-- where there are no waits, nothing is to be done with them
+no-waits : (t : Bool) (v : Visits) (p : Pair) → length (p .places .table) ≡ 128 → p .places .waits ≡ 0 → closedWaits t v p ≡ p
+unfolding closedWaits withPlaces
+no-waits t v p l w =
+    ap (λ u. withPlaces (visited (v .first) u) p) (idle-drop t (p .places) w l) ∙ ap (λ u. withPlaces u p) (visited-idle (v .first) (p .places) w l)
+
+none : (n : ℕ) → not (eqb n 0) ≡ false → n ≡ 0
+none n e = ⊎-elim (λ (z : eqb n 0 ≡ true). eqb-true n 0 z) (λ (z : eqb n 0 ≡ false). absurd (false≢true (sym (rw z at e)))) (either (eqb n 0))
+
+closed-settled : (p : Pair) (t : Bool) (a : Answer) → length (p .places .table) ≡ 128 → sound (p .places) ≡ true
+    → settledClose t (closeOutcome (p .places .waits) t a (closeMoved t (own t p) (peer t p))) p ≡ record { pair = closed t p; answer = a }
+unfolding settledClose closeOutcome outcomeOf withEnds
+closed-settled p t a l s =
+    let m = closeMoved t (own t p) (peer t p) in
+    let q = withEnds (pick t (m .own) (m .peer)) (pick t (m .peer) (m .own)) p in
+    ap (λ (k : Pair). record { pair = k; answer = a })
+    (settled-pair (not (eqb (p .places .waits) 0)) (closedWaits t (m .visits) q) q (λ f. no-waits t (m .visits) q l (none _ f)) ∙ closed-visited t p s)
+
+unchanged-settled : (t : Bool) (p : Pair) (a : Answer) → settledClose t (unchangedEnds (endsOf p) a) p ≡ record { pair = p; answer = a }
+unfolding settledClose unchangedEnds withEnds pick
+unchanged-settled t p a = refl
+
+pub close-whole : (p : Pair) (h : ℕ) (e : Ends) (r : Outcome) → length (p .places .table) ≡ 128
+    → e ≡ endsOf p → r ≡ closeEnds e h → Steps p (closeAnswer p h) (closed (isOne h) p) (settledClose (isOne h) r p)
+unfolding closeEnds closeAnswer
+close-whole p h e r l i g = by (isDone (closeAnswer p h)) refl
+  where
+    is : r ≡ closeEnds (endsOf p) h
+    is = g ∙ ap (λ (k : Ends). closeEnds k h) i
+
+    by : (b : Bool) → isDone (closeAnswer p h) ≡ b → Steps p (closeAnswer p h) (closed (isOne h) p) (settledClose (isOne h) r p)
+    by true c =
+        subst (Steps p (closeAnswer p h) (closed (isOne h) p))
+        (sym (ap (λ (k : Outcome). settledClose (isOne h) k p) (is ∙ sym (pick-on _ _ _ _ _ c refl)) ∙ closed-settled p (isOne h) (closeAnswer p h) l (opening-passed (endsOf p) h c .places)))
+        (steps-done p _ _ _ _ refl c refl)
+    by false c =
+        subst (Steps p (closeAnswer p h) (closed (isOne h) p))
+        (sym (ap (λ (k : Outcome). settledClose (isOne h) k p) (is ∙ sym (pick-off _ _ _ _ _ c refl)) ∙ unchanged-settled (isOne h) p (closeAnswer p h)))
+        (steps-refused p p _ _ _ refl c refl)

@@ -1,0 +1,72 @@
+-- A wait and a take, put together from the answer and the table. Assumes nothing.
+use Prim.Native.Nat.{ℕ, _<_}
+use mathlib.Core.Path.{_≡_, refl, sym, ap, _∙_}
+use mathlib.Core.Bool.{Bool, true, false}
+use mathlib.Core.Logic.{⊎-elim}
+use native.Mathlib.Omega.{arith}
+use lib.ListN.{getD}
+use lib.Dec.{eqb}
+use borrow.Author.Tests.{eqb-true, eqb-false}
+use Rattle.status.specs.declared.Status.the-variants.{ShouldWait}
+use Rattle.status.specs.declared.Record.the-variants.{Packet}
+use Rattle.status.specs.declared.Answer.{Answer}
+use Rattle.status.specs.declared.Answer.the-variants.{Done}
+use Rattle.status.specs.Choice.{pick}
+use Rattle.status.specs.Answer.{isDone, refuseIf, _then_}
+use Rattle.status.proofs.Chains.{then-both, refuse-passed}
+use Rattle.port.specs.declared.Places.{Places}
+use Rattle.port.specs.declared.Next.{Next}
+use Rattle.port.specs.Table.{sound, free, packetsOf, packetOf}
+use Rattle.port.specs.Port.{done, refused, registerOf, takeOf}
+use Rattle.port.proofs.Lists.{either}
+use Rattle.port.proofs.Operations.{register-done, take-none, take-done}
+use Rattle.ends.proofs.Sound.{sound-passed, wait-room}
+use Rattle.socket.specs.declared.Pair.{Pair}
+use Rattle.socket.specs.Pair.{isOne, own, endsOf, withPlaces}
+use Rattle.socket.specs.Tests.{Steps}
+use Rattle.socket.specs.Wait.{waitAnswer, waited, takeAnswer, took}
+
+-- the next pair by the answer: the next table where the call is done, else the same pair
+by-answer : (b c : Bool) (p q p′ : Pair) (t : Places) → c ≡ b → p′ ≡ withPlaces (pick c t (p .places)) p → (b ≡ true → withPlaces t p ≡ q) → p′ ≡ pick b q p
+unfolding pick withPlaces
+by-answer true c p q p′ t e f g = f ∙ rw e (g refl)
+by-answer false c p q p′ t e f g = f ∙ rw e refl
+
+pub wait-steps : (p : Pair) (h key mask edge : ℕ) (x : Answer) (b : Bool) (p′ : Pair) → x ≡ waitAnswer p h edge → b ≡ isDone x
+    → p′ ≡ withPlaces (pick b (registerOf (isOne h) (own (isOne h) p .signals) key mask (eqb edge 1) (p .places) .places) (p .places)) p
+    → Steps p (waitAnswer p h edge) (waited (isOne h) key mask edge p) (record { pair = p′; answer = x })
+unfolding waited done
+wait-steps p h key mask edge x b p′ e d f =
+    record {
+      answer = e;
+      pair =
+          by-answer _ b p _ p′ _ (d ∙ ap isDone e) f
+          (λ w. ap (λ (n : Next). withPlaces (n .places) p)
+          (register-done (isOne h) (own (isOne h) p .signals) key mask (eqb edge 1) (p .places) (wait-room (endsOf p) h edge _ refl w)));
+    }
+
+-- ---- take
+
+-- the answer of a sound table
+pub oldest-answer : (t : Places) → sound t ≡ true
+    → takeOf t .answer ≡ (refuseIf (eqb (t .packets) 0) ShouldWait then Done (Packet (packetOf (getD (packetsOf t) 0 free))))
+unfolding takeOf pick refused refuseIf _then_
+oldest-answer t s =
+    ⊎-elim
+    (λ (z : eqb (t .packets) 0 ≡ true). rw (s, z) refl)
+    (λ (z : eqb (t .packets) 0 ≡ false). rw (s, z) refl)
+    (either (eqb (t .packets) 0))
+
+pub take-steps : (p : Pair) (x : Answer) (b : Bool) (p′ : Pair) → x ≡ takeAnswer p → b ≡ isDone x
+    → p′ ≡ withPlaces (pick b (takeOf (p .places) .places) (p .places)) p → Steps p (takeAnswer p) (took p) (record { pair = p′; answer = x })
+unfolding takeAnswer took
+take-steps p x b p′ e d f =
+    record {
+      answer = e;
+      pair =
+          by-answer _ b p _ p′ _ (d ∙ ap isDone e) f
+          (λ w.
+          let v = then-both _ _ w in
+          let some : 0 < p .places .packets = omega (arith, eqb-false (p .places .packets) 0 (refuse-passed (eqb (p .places .packets) 0) ShouldWait (then-both _ _ (v .1) .0))) in
+          ap (λ (n : Next). withPlaces (n .places) p) (take-done (p .places) (sound-passed (endsOf p) (v .0) .places) some));
+    }
