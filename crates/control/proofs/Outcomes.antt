@@ -1,6 +1,6 @@
 -- The outcome of a call that changes both ends or none, by the answer x of its tests g. Assumes nothing.
 use Prim.Native.Nat.{ℕ}
-use mathlib.Core.Path.{_≡_, sym}
+use mathlib.Core.Path.{_≡_}
 use mathlib.Core.Bool.{true, false}
 use Rattle.status.specs.declared.Answer.{Answer}
 use Rattle.status.specs.Answer.{isDone}

@@ -6,7 +6,6 @@ use ends::Ends;
 use ends::Moved;
 use ends::Outcome;
 use ends::Pending;
-use ends::Visits;
 use port::PEER_WRITE_DISABLED;
 use port::WRITABLE;
 use port::WRITE_DISABLED;
@@ -44,11 +43,8 @@ fn own_disposed(one: bool, own: Endpoint, peer: Endpoint, off: bool) -> Moved
         return signal::first_only(next, peer, first);
     }
     let second = signal::bit_visit(!one, peer.signals, off, PEER_WRITE_DISABLED);
-    Moved {
-        own: next,
-        peer: signal::changed_end(peer.with_read_disabled(off), second),
-        visits: Visits { first, second },
-    }
+    let next_peer = signal::changed_end(peer.with_read_disabled(off), second);
+    signal::with_visits(next, next_peer, first, second)
 }
 
 // The reading flag of this end in any case; with an open peer its writing, then this end's PEER_WRITE_DISABLED.
@@ -61,11 +57,9 @@ fn peer_disposed(one: bool, own: Endpoint, peer: Endpoint, off: bool) -> Moved
     }
     let first = writing_visit(!one, peer.signals, off);
     let second = signal::bit_visit(one, own.signals, off, PEER_WRITE_DISABLED);
-    Moved {
-        own: signal::changed_end(flagged, second),
-        peer: signal::changed_end(peer, first),
-        visits: Visits { first, second },
-    }
+    let next_peer = signal::changed_end(peer, first);
+    let next = signal::changed_end(flagged, second);
+    signal::with_visits(next, next_peer, first, second)
 }
 
 fn own_moved(one: bool, own: Endpoint, peer: Endpoint, d: Disposition) -> Moved

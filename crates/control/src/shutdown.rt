@@ -6,7 +6,6 @@ use ends::Ends;
 use ends::Moved;
 use ends::Outcome;
 use ends::Pending;
-use ends::Visits;
 use port::PEER_WRITE_DISABLED;
 use port::WRITABLE;
 use port::WRITE_DISABLED;
@@ -49,11 +48,8 @@ fn shut_moved(one: bool, own: Endpoint, peer: Endpoint, read: bool, write: bool)
         return signal::first_only(next, peer, first);
     }
     let second = shut_visit(!one, peer.signals, !read, !write);
-    Moved {
-        own: next,
-        peer: shut_end(peer, !read, second),
-        visits: Visits { first, second },
-    }
+    let next_peer = shut_end(peer, !read, second);
+    signal::with_visits(next, next_peer, first, second)
 }
 
 // Ends reading, writing or both at this end; an open peer gets the same with both flags negated.

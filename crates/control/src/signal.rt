@@ -31,16 +31,22 @@ pub fn changed_end(e: Endpoint, a: Pending) -> Endpoint
     e.with_signals(changed(a.word, a.clear, a.set))
 }
 
-// The two ends after a call with one change.
-pub fn first_only(own: Endpoint, peer: Endpoint, first: Pending) -> Moved
-    ensures { λ r. ⌜ r ≡ firstOnly own peer first ⌝ }
+// The two ends after a call with two changes.
+pub fn with_visits(own: Endpoint, peer: Endpoint, first: Pending, second: Pending) -> Moved
+    ensures { λ r. ⌜ r ≡ record { own = own; peer = peer; visits = record { first = first; second = second } } ⌝ }
 {
-    let second = NO_VISIT;
     Moved {
         own,
         peer,
         visits: Visits { first, second },
     }
+}
+
+// The two ends after a call with one change.
+pub fn first_only(own: Endpoint, peer: Endpoint, first: Pending) -> Moved
+    ensures { λ r. ⌜ r ≡ firstOnly own peer first ⌝ }
+{
+    with_visits(own, peer, first, NO_VISIT)
 }
 
 // The outcome of a call with at most two changes.

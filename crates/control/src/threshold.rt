@@ -10,7 +10,25 @@ use port::WRITE_THRESHOLD;
 use status::Thresholds;
 ghost use mathlib.Core.Path.{_≡_};
 ghost use Prim.Native.Nat.{_≤_};
+ghost use Rattle.endpoint.specs.Endpoint.{withThresholds};
+ghost use Rattle.control.specs.Signal.{bitVisit, changedEnd, firstOnly};
 ghost use Rattle.control.specs.Threshold.{readThresholdMoved, writeThresholdMoved, readThresholdEnds, writeThresholdEnds};
+
+// This end with its thresholds put anew, and the bit of the one that changed.
+fn thresholds_moved(
+    one: bool,
+    own: Endpoint,
+    peer: Endpoint,
+    thresholds: Thresholds,
+    reached: bool,
+    bit: u32,
+) -> Moved
+    ensures { λ r. ⌜ r ≡ firstOnly (changedEnd (bitVisit one (own .signals) reached bit) (withThresholds thresholds own)) peer (bitVisit one (own .signals) reached bit) ⌝ }
+{
+    let first = signal::bit_visit(one, own.signals, reached, bit);
+    let next = signal::changed_end(own.with_thresholds(thresholds), first);
+    signal::first_only(next, peer, first)
+}
 
 fn read_threshold_moved(one: bool, own: Endpoint, peer: Endpoint, threshold: u64) -> Moved
     ensures { λ r. ⌜ r ≡ readThresholdMoved one own peer threshold ⌝ }
@@ -20,9 +38,7 @@ fn read_threshold_moved(one: bool, own: Endpoint, peer: Endpoint, threshold: u64
         write: own.thresholds.write,
     };
     let reached = is_reached(threshold, own.queue.bytes.count);
-    let first = signal::bit_visit(one, own.signals, reached, READ_THRESHOLD);
-    let next = signal::changed_end(own.with_thresholds(thresholds), first);
-    signal::first_only(next, peer, first)
+    thresholds_moved(one, own, peer, thresholds, reached, READ_THRESHOLD)
 }
 
 fn write_threshold_moved(
@@ -40,9 +56,7 @@ fn write_threshold_moved(
         write: threshold,
     };
     let reached = is_reached(threshold, capacity - peer.queue.bytes.count);
-    let first = signal::bit_visit(one, own.signals, reached, WRITE_THRESHOLD);
-    let next = signal::changed_end(own.with_thresholds(thresholds), first);
-    signal::first_only(next, peer, first)
+    thresholds_moved(one, own, peer, thresholds, reached, WRITE_THRESHOLD)
 }
 
 // READ_THRESHOLD shows while at least so many bytes are queued at this end; 0 is none.

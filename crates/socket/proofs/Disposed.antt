@@ -1,4 +1,4 @@
--- A disposition, whose four changes are visited last, and a close, which drops the waits of its end first. Assumes nothing.
+-- A disposition, whose four changes are visited last. Assumes nothing.
 use Prim.Native.Nat.{ℕ}
 use mathlib.Core.Path.{_≡_, refl, sym, ap, subst, _∙_}
 use mathlib.Core.Bool.{Bool, true, false}
@@ -72,9 +72,9 @@ disposed-settled p t a d f l s =
     all-moved t a m (peerMoved t (m .own) (m .peer) f) p l
     ∙ ap (λ (k : Pair). record { pair = k; answer = a }) (peer-after t f m p s ∙ ap (disposedPeer t f) (own-disposed t d p s))
 
-unchanged-settled : (p : Pair) (a : Answer) → settledAll (unchangedEnds (endsOf p) a) p ≡ record { pair = p; answer = a }
+pub unchanged-all : (p : Pair) (a : Answer) → settledAll (unchangedEnds (endsOf p) a) p ≡ record { pair = p; answer = a }
 unfolding settledAll unchangedEnds withEnds pick
-unchanged-settled p a = refl
+unchanged-all p a = refl
 
 dispose-sound : (p : Pair) (h : ℕ) (d f : Disposition) → isDone (disposeAnswer p h d f) ≡ true → sound (p .places) ≡ true
 unfolding E.disposeAnswer
@@ -95,5 +95,5 @@ dispose-whole p h d f e r l i g = by (isDone (disposeAnswer p h d f)) refl
         (steps-done p _ _ _ _ refl c refl)
     by false c =
         subst (Steps p (disposeAnswer p h d f) (disposed (isOne h) d f p))
-        (sym (ap (λ (k : Outcome). settledAll k p) (is ∙ sym (pick-off _ _ _ _ _ c refl)) ∙ unchanged-settled p (disposeAnswer p h d f)))
+        (sym (ap (λ (k : Outcome). settledAll k p) (is ∙ sym (pick-off _ _ _ _ _ c refl)) ∙ unchanged-all p (disposeAnswer p h d f)))
         (steps-refused p p _ _ _ refl c refl)

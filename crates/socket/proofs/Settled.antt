@@ -9,7 +9,7 @@ use borrow.Author.Tests.{eqb-false}
 use Rattle.status.specs.declared.Answer.{Answer}
 use Rattle.status.specs.Choice.{pick, _or_}
 use Rattle.status.specs.Answer.{isDone, countOf}
-use Rattle.status.proofs.Chains.{counted, neither}
+use Rattle.status.proofs.Chains.{counted, neither, then-both}
 use Rattle.port.specs.Table.{sound}
 use Rattle.endpoint.specs.Queue.{firstLength}
 use Rattle.ends.specs.declared.Ends.{Ends}
@@ -21,15 +21,21 @@ use Rattle.transfer.specs.Write.{fedEnds, wroteEnds, EndsWrote}
 use Rattle.transfer.specs.Write as W
 use Rattle.transfer.specs.Read.{leaving, drainedEnds, readEnds, EndsRead}
 use Rattle.transfer.specs.Read as R
-use Rattle.ends.proofs.Sound.{passed}
 use Rattle.socket.specs.declared.Pair.{Pair}
 use Rattle.socket.specs.declared.Step.{Step}
 use Rattle.socket.specs.Pair.{isOne, own, peer, endsOf}
 use Rattle.socket.specs.Write.{wrote, pairWritten, Wrote}
 use Rattle.socket.specs.Read.{consumed, pairRead, Read}
+use Rattle.ends.specs.Threshold.{readThresholdAnswer, writeThresholdAnswer}
+use Rattle.ends.proofs.Sound.{passed, opening-passed}
 use Rattle.control.specs.Signal.{movedIf}
+use Rattle.control.specs.Shutdown.{shutEnds}
+use Rattle.control.specs.Threshold.{readThresholdEnds, writeThresholdEnds}
 use Rattle.control.proofs.Outcomes.{refused, done}
 use Rattle.socket.specs.Tests.{Steps}
+use Rattle.socket.specs.Disposition.{shutdownAnswer, shut}
+use Rattle.socket.specs.Threshold.{readThresholdSet, writeThresholdSet}
+use Rattle.socket.proofs.Control.{shut-visited, read-threshold-visited, write-threshold-visited}
 use Rattle.socket.specs.Deferred.{settled, withEnds}
 use Rattle.socket.proofs.Steps.{steps-refused, steps-done}
 use Rattle.socket.proofs.Visiting.{movedPair, kept-visited, fed-visited, drained-visited, settled-moved}
@@ -89,13 +95,13 @@ read-whole p h peek ring table buffer buffer′ e r l f v =
 
 -- ---- a call that changes both ends or none
 
-unchanged-settled : (p : Pair) (a : Answer) → settled (unchangedEnds (endsOf p) a) p ≡ record { pair = p; answer = a }
+pub unchanged-settled : (p : Pair) (a : Answer) → settled (unchangedEnds (endsOf p) a) p ≡ record { pair = p; answer = a }
 unfolding settled unchangedEnds withEnds pick
 unchanged-settled p a = refl
 
-pub moved-whole : (p : Pair) (h : ℕ) (a : Answer) (m : Moved) (q : Pair) (e : Ends) (r : Outcome) → length (p .places .table) ≡ 128
-    → e ≡ endsOf p → r ≡ movedIf (endsOf p) h a m → (isDone a ≡ true → movedPair (isOne h) m p ≡ q) → Steps p a q (settled r p)
-moved-whole p h a m q e r l f g w = by (isDone a) refl
+pub moved-whole : (p : Pair) (h : ℕ) (a : Answer) (m : Moved) (q : Pair) (r : Outcome) → length (p .places .table) ≡ 128
+    → r ≡ movedIf (endsOf p) h a m → (isDone a ≡ true → movedPair (isOne h) m p ≡ q) → Steps p a q (settled r p)
+moved-whole p h a m q r l g w = by (isDone a) refl
   where
     by : (b : Bool) → isDone a ≡ b → Steps p a q (settled r p)
     by true d =
@@ -104,3 +110,25 @@ moved-whole p h a m q e r l f g w = by (isDone a) refl
     by false d =
         subst (Steps p a q) (sym (ap (λ (k : Outcome). settled k p) (g ∙ refused (endsOf p) h a a m refl d) ∙ unchanged-settled p a))
         (steps-refused p p q a a refl d refl)
+
+module _ (p : Pair) (h : ℕ) where
+  pub shutdown-whole : (read write : Bool) (e : Ends) (r : Outcome) → length (p .places .table) ≡ 128 → e ≡ endsOf p → r ≡ shutEnds e h read write
+      → Steps p (shutdownAnswer p h) (shut (isOne h) read write p) (settled r p)
+  unfolding shutEnds shutdownAnswer
+  shutdown-whole read write e r l f g =
+      moved-whole p h _ _ _ r l (g ∙ ap (λ (k : Ends). shutEnds k h read write) f)
+      (λ d. shut-visited (isOne h) read write p (opening-passed (endsOf p) h d .places))
+
+  pub read-threshold-whole : (n : ℕ) (e : Ends) (r : Outcome) → length (p .places .table) ≡ 128 → e ≡ endsOf p → r ≡ readThresholdEnds e h n
+      → Steps p (readThresholdAnswer (endsOf p) h n) (readThresholdSet (isOne h) n p) (settled r p)
+  unfolding readThresholdEnds readThresholdAnswer
+  read-threshold-whole n e r l f g =
+      moved-whole p h _ _ _ r l (g ∙ ap (λ (k : Ends). readThresholdEnds k h n) f)
+      (λ d. read-threshold-visited (isOne h) n p (opening-passed (endsOf p) h (then-both _ _ d .0) .places))
+
+  pub write-threshold-whole : (n : ℕ) (e : Ends) (r : Outcome) → length (p .places .table) ≡ 128 → e ≡ endsOf p → r ≡ writeThresholdEnds e h n
+      → Steps p (writeThresholdAnswer (endsOf p) h n) (writeThresholdSet (isOne h) n p) (settled r p)
+  unfolding writeThresholdEnds writeThresholdAnswer
+  write-threshold-whole n e r l f g =
+      moved-whole p h _ _ _ r l (g ∙ ap (λ (k : Ends). writeThresholdEnds k h n) f)
+      (λ d. write-threshold-visited (isOne h) n p (opening-passed (endsOf p) h (then-both _ _ d .0) .places))

@@ -4,3 +4,4 @@ pub mod Passed
 pub mod Calls
 pub mod Same
 pub mod Settled
+pub mod Controlled

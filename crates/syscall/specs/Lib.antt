@@ -2,7 +2,7 @@
 --   Memory: ranges, the count, lookup
 --   Write, Read: write and read over user memory
 --   Control: disposition and shutdown by their numbers
---   Ends: a pair of two ends, for a write and a read but for the visit of the waits
+--   Ends: a pair of two ends, and the calls but for the visit of the waits
 pub mod Memory
 pub mod Write
 pub mod Read

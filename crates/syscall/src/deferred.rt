@@ -1,4 +1,4 @@
-// A write and a read over user memory that change the two ends and leave the visit of the waits for later.
+// The calls over user memory that change the two ends and leave the visit of the waits for later.
 use crate::memory::land_count;
 use crate::tests;
 use crate::tests::Buffer;
@@ -17,9 +17,14 @@ ghost use Rattle.transfer.specs.Write.{wroteEnds};
 ghost use Rattle.socket.specs.Pair.{isOne, own, peer};
 ghost use Rattle.socket.specs.Tests.{lentOf};
 ghost use Rattle.socket.specs.Write.{ringWritten, tableWritten};
-ghost use Rattle.syscall.specs.Ends.{pairOf, wroteStep, readStep};
+ghost use Rattle.syscall.specs.Ends.{pairOf, wroteStep, readStep, userDisposeEnds, userShutEnds};
 ghost use Rattle.syscall.specs.Write.{Taking, UserWrote};
 ghost use Rattle.syscall.specs.Read.{isPeek, BytesRead, UserRead};
+
+// The bits of a shutdown's options; others are ignored.
+const SHUTDOWN_WRITE: u32 = 1;
+
+const SHUTDOWN_READ: u32 = 2;
 
 // Writes the bytes of memory, from an address on, that a write with this answer takes.
 fn write_bytes(
@@ -41,7 +46,7 @@ fn write_bytes(
     }
     let from = (address - base) as usize;
     let to = from + m as usize;
-    ends::write_ends(p, handle, ring, table, &memory[from..to])
+    transfer::write_ends(p, handle, ring, table, &memory[from..to])
 }
 
 // Writes the bytes of user memory to the peer's queue and lands the count of those taken, but leaves the visit of the waits for later.
@@ -103,7 +108,7 @@ pub fn bytes_ends(
     }
     let from = (address - base) as usize;
     let to = from + count as usize;
-    ends::read_ends(
+    transfer::read_ends(
         p,
         handle,
         options == SOCKET_PEEK,
@@ -146,4 +151,33 @@ pub fn read_ends(
         return r;
     }
     r
+}
+
+// Disables or enables the writing of an end and of its peer, by numbers, but leaves the visit of the waits for later.
+pub fn dispose_ends(e: Ends, handle: u32, disposition: u32, peer_disposition: u32) -> Outcome
+    ensures { λ r. ⌜ r ≡ userDisposeEnds e handle disposition «peer_disposition» ⌝ }
+{
+    let a = tests::dispose_answer(e, handle, disposition, peer_disposition);
+    if !status::is_done(a) {
+        return unchanged(e, a);
+    }
+    control::dispose_ends(
+        e,
+        handle,
+        tests::disposition_of(disposition),
+        tests::disposition_of(peer_disposition),
+    )
+}
+
+// Prevents reading or writing by the end of a handle, by bits, but leaves the visit of the waits for later.
+pub fn shutdown_ends(e: Ends, handle: u32, options: u32) -> Outcome
+    ensures { λ r. ⌜ r ≡ userShutEnds e handle options ⌝ }
+{
+    let a = tests::shutdown_answer(e, handle);
+    if !status::is_done(a) {
+        return unchanged(e, a);
+    }
+    let read = endpoint::has_bit(options, SHUTDOWN_READ);
+    let write = endpoint::has_bit(options, SHUTDOWN_WRITE);
+    control::shutdown_ends(e, handle, read, write)
 }

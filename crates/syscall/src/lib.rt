@@ -3,6 +3,7 @@ use socket::Pair;
 use socket::Step;
 use socket::ends_of;
 use socket::settle;
+use socket::settle_all;
 ghost use Rattle.socket.specs.Pair.{isOne};
 ghost use Rattle.socket.specs.Tests.{Steps};
 ghost use Rattle.socket.specs.Disposition.{disposed, shut};
@@ -14,14 +15,11 @@ mod deferred;
 mod memory;
 mod tests;
 
+pub use deferred::dispose_ends;
 pub use deferred::read_ends;
+pub use deferred::shutdown_ends;
 pub use deferred::write_ends;
 pub use memory::land_count;
-
-// The bits of a shutdown's options; others are ignored.
-const SHUTDOWN_WRITE: u32 = 1;
-
-const SHUTDOWN_READ: u32 = 2;
 
 // Writes the bytes of user memory to the peer's queue, and lands the count of those taken. The ring and the table are the peer's.
 pub fn write(
@@ -117,26 +115,14 @@ pub fn read(
 pub fn set_disposition(p: Pair, handle: u32, disposition: u32, peer_disposition: u32) -> Step
     ensures { λ r. ⌜ Steps p (userDisposeAnswer p handle disposition «peer_disposition») (disposed (isOne handle) (dispositionOf disposition) (dispositionOf «peer_disposition») p) r ⌝ }
 {
-    let a = tests::dispose_answer(ends_of(p), handle, disposition, peer_disposition);
-    if !status::is_done(a) {
-        return Step { pair: p, answer: a };
-    }
-    p.set_disposition(
-        handle,
-        tests::disposition_of(disposition),
-        tests::disposition_of(peer_disposition),
-    )
+    let r = dispose_ends(ends_of(p), handle, disposition, peer_disposition);
+    settle_all(p, r)
 }
 
 // Prevents reading or writing by the end of a handle, by bits.
 pub fn shutdown(p: Pair, handle: u32, options: u32) -> Step
     ensures { λ r. ⌜ Steps p (userShutdownAnswer p handle) (shut (isOne handle) (shutsRead options) (shutsWrite options) p) r ⌝ }
 {
-    let a = tests::shutdown_answer(ends_of(p), handle);
-    if !status::is_done(a) {
-        return Step { pair: p, answer: a };
-    }
-    let read = endpoint::has_bit(options, SHUTDOWN_READ);
-    let write = endpoint::has_bit(options, SHUTDOWN_WRITE);
-    p.shutdown(handle, read, write)
+    let r = shutdown_ends(ends_of(p), handle, options);
+    settle(p, r)
 }

@@ -1,4 +1,3 @@
-use mathlib.Core.Path.{refl}
 use Rattle.status.proofs.Rules.{pick-on, pick-off}
 use Rattle.control.specs.Disposition.{ownDisposed}
 use Rattle.control.proofs.disposition.own_disposed.Statement.{statement}
@@ -26,9 +25,12 @@ with-read-disabled-requires c κs = tt
 changed-end-requires-2 : tie.Need-changed-end-requires-2
 changed-end-requires-2 c κs = tt
 
+with-visits-requires : tie.Need-with-visits-requires
+with-visits-requires c κs = tt
+
 returns-2 : tie.Need-returns-2
 unfolding ownDisposed
-returns-2 c = pick-off _ _ _ _ _ (c .before .before .before .if1 .left) (rw (← c .before .before .before .before .before .writing-visit .ensures, ← c .before .before .before .before .changed-end .ensures, ← c .before .before .bit-visit .ensures, ← c .before .with-read-disabled .ensures, ← c .changed-end2 .ensures) refl)
+returns-2 c = pick-off _ _ _ _ _ (c .before .before .before .before .if1 .left) (rw (← c .before .before .before .before .before .before .writing-visit .ensures, ← c .before .before .before .before .before .changed-end .ensures, ← c .before .before .before .bit-visit .ensures, ← c .before .before .with-read-disabled .ensures, ← c .before .changed-end2 .ensures) (c .with-visits .ensures))
 
 pub own-disposed-spec : {M : Type 1} → statement M
 own-disposed-spec =
@@ -41,4 +43,5 @@ own-disposed-spec =
     bit-visit-requires
     with-read-disabled-requires
     changed-end-requires-2
+    with-visits-requires
     returns-2)

@@ -1,4 +1,3 @@
-use mathlib.Core.Path.{refl}
 use Rattle.status.proofs.Rules.{pick-on, pick-off}
 use Rattle.control.specs.Disposition.{peerDisposed}
 use Rattle.control.proofs.disposition.peer_disposed.Statement.{statement}
@@ -26,9 +25,12 @@ changed-end-requires c κs = tt
 changed-end-requires-2 : tie.Need-changed-end-requires-2
 changed-end-requires-2 c κs = tt
 
+with-visits-requires : tie.Need-with-visits-requires
+with-visits-requires c κs = tt
+
 returns-2 : tie.Need-returns-2
 unfolding peerDisposed
-returns-2 c = pick-off _ _ _ _ _ (c .before .before .before .before .if1 .left) (rw (← c .before .before .before .before .before .with-read-disabled .ensures, ← c .before .before .before .writing-visit .ensures, ← c .before .before .bit-visit .ensures, ← c .before .changed-end .ensures, ← c .changed-end2 .ensures) refl)
+returns-2 c = pick-off _ _ _ _ _ (c .before .before .before .before .before .if1 .left) (rw (← c .before .before .before .before .before .before .with-read-disabled .ensures, ← c .before .before .before .before .writing-visit .ensures, ← c .before .before .before .bit-visit .ensures, ← c .before .changed-end2 .ensures, ← c .before .before .changed-end .ensures) (c .with-visits .ensures))
 
 pub peer-disposed-spec : {M : Type 1} → statement M
 peer-disposed-spec =
@@ -41,4 +43,5 @@ peer-disposed-spec =
     bit-visit-requires
     changed-end-requires
     changed-end-requires-2
+    with-visits-requires
     returns-2)

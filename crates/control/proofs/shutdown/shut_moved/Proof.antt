@@ -1,4 +1,3 @@
-use mathlib.Core.Path.{refl}
 use Rattle.status.proofs.Rules.{pick-on, pick-off}
 use Rattle.control.specs.Shutdown.{shutEnd, shutMoved}
 use Rattle.control.proofs.shutdown.shut_moved.Statement.{statement}
@@ -23,9 +22,12 @@ shut-visit-requires-2 c κs = tt
 shut-end-requires-2 : tie.Need-shut-end-requires-2
 shut-end-requires-2 c κs = tt
 
+with-visits-requires : tie.Need-with-visits-requires
+with-visits-requires c κs = tt
+
 returns-2 : tie.Need-returns-2
 unfolding shutEnd shutMoved
-returns-2 c = pick-off _ _ _ _ _ (c .before .before .if1 .left) (rw (← c .before .before .before .before .shut-visit .ensures, ← c .before .before .before .shut-end .ensures, ← c .before .shut-visit2 .ensures, ← c .shut-end2 .ensures) refl)
+returns-2 c = pick-off _ _ _ _ _ (c .before .before .before .if1 .left) (rw (← c .before .before .before .before .before .shut-visit .ensures, ← c .before .before .before .before .shut-end .ensures, ← c .before .before .shut-visit2 .ensures, ← c .before .shut-end2 .ensures) (c .with-visits .ensures))
 
 pub shut-moved-spec : {M : Type 1} → statement M
 shut-moved-spec =
@@ -37,4 +39,5 @@ shut-moved-spec =
     returns
     shut-visit-requires-2
     shut-end-requires-2
+    with-visits-requires
     returns-2)

@@ -1,11 +1,13 @@
-use mathlib.Core.Path.{refl}
 use Rattle.control.specs.Signal.{firstOnly}
 use Rattle.control.proofs.signal.first_only.Statement.{statement}
 use Rattle.control.proofs.signal.first_only.Tie as tie
 
+with-visits-requires : tie.Need-with-visits-requires
+with-visits-requires c κs = tt
+
 returns : tie.Need-returns
 unfolding firstOnly
-returns c = refl
+returns c = c .with-visits .ensures
 
 pub first-only-spec : {M : Type 1} → statement M
-first-only-spec = tie.close (tie.spec returns)
+first-only-spec = tie.close (tie.spec with-visits-requires returns)

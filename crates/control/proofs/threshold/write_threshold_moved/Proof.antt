@@ -9,21 +9,12 @@ sub-is-reached c = search needs
 is-reached-requires : tie.Need-is-reached-requires
 is-reached-requires c κs = tt
 
-bit-visit-requires : tie.Need-bit-visit-requires
-bit-visit-requires c κs = tt
-
-with-thresholds-requires : tie.Need-with-thresholds-requires
-with-thresholds-requires c κs = tt
-
-changed-end-requires : tie.Need-changed-end-requires
-changed-end-requires c κs = tt
-
-first-only-requires : tie.Need-first-only-requires
-first-only-requires c κs = tt
+thresholds-moved-requires : tie.Need-thresholds-moved-requires
+thresholds-moved-requires c κs = tt
 
 returns : tie.Need-returns
 unfolding writeThresholdMoved
-returns c = rw (← c .before .before .before .before .is-reached .ensures, ← c .before .before .before .bit-visit .ensures, ← c .before .before .with-thresholds .ensures, ← c .before .changed-end .ensures) (c .first-only .ensures)
+returns c = rw (← c .before .is-reached .ensures) (c .thresholds-moved .ensures)
 
 pub write-threshold-moved-spec : {M : Type 1} → statement M
 write-threshold-moved-spec =
@@ -31,8 +22,5 @@ write-threshold-moved-spec =
     (tie.spec
     sub-is-reached
     is-reached-requires
-    bit-visit-requires
-    with-thresholds-requires
-    changed-end-requires
-    first-only-requires
+    thresholds-moved-requires
     returns)

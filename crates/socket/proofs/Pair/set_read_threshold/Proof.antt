@@ -1,29 +1,22 @@
 use Rattle.socket.proofs.Visiting.{places-128}
-use Rattle.status.proofs.Chains.{then-both}
-use Rattle.ends.specs.Threshold.{readThresholdAnswer}
-use Rattle.ends.proofs.Sound.{opening-passed}
-use Rattle.control.specs.Threshold.{readThresholdEnds}
-use Rattle.socket.specs.Pair.{isOne, endsOf}
-use Rattle.socket.proofs.Control.{read-threshold-visited}
-use Rattle.socket.proofs.Settled.{moved-whole}
-use borrow.Author.Needs.{needs}
+use Rattle.socket.proofs.Settled.{read-threshold-whole}
 use Rattle.socket.proofs.Pair.set_read_threshold.Statement.{statement}
 use Rattle.socket.proofs.Pair.set_read_threshold.Tie as tie
 
 ends-of-requires : tie.Need-ends-of-requires
-ends-of-requires c κs = search needs
+ends-of-requires c κs = tt
 
 read-threshold-ends-requires : tie.Need-read-threshold-ends-requires
-read-threshold-ends-requires c κs = search needs
+read-threshold-ends-requires c κs = tt
 
 settle-requires : tie.Need-settle-requires
-settle-requires c κs = search needs
+settle-requires c κs = tt
 
 returns : tie.Need-returns
-unfolding readThresholdEnds readThresholdAnswer
-returns c = let s = c .before .before .before in
+returns c =
+    let s = c .before .before .before in
     rw (c .settle .ensures)
-    (moved-whole (s .args .self) (s .args .handle) _ _ _ _ _ (places-128 (s .args .self) _ (s .good .0)) (c .before .before .ends-of .ensures) (rw (c .before .before .ends-of .ensures) at (c .before .read-threshold-ends .ensures)) (λ d. read-threshold-visited (isOne (s .args .handle)) (s .args .threshold) (s .args .self) (opening-passed (endsOf (s .args .self)) (s .args .handle) (then-both _ _ d .0) .places)))
+    (read-threshold-whole (s .args .self) (s .args .handle) (s .args .threshold) _ _ (places-128 (s .args .self) _ (s .good .0)) (c .before .before .ends-of .ensures) (c .before .read-threshold-ends .ensures))
 
 pub set-read-threshold-spec : {M : Type 1} → statement M
 set-read-threshold-spec = tie.close (tie.spec ends-of-requires read-threshold-ends-requires settle-requires returns)
