@@ -59,7 +59,7 @@ pub extern "C" fn murgwethan_write(
 ) -> i64
     ensures { λ w. ⌜ Answered (Wrote (now (p .entry)) handle (now (bytes .entry)) (now (ring .entry)) (now (ring .exit)) (now (table .entry)) (now (table .exit))) (now (p .exit)) w ⌝ }
 {
-    let r = ends::write_ends(socket::ends_of(*p), handle, ring, table, bytes);
+    let r = transfer::write_ends(socket::ends_of(*p), handle, ring, table, bytes);
     *p = socket::with_outcome(*p, r);
     let w = status::word(r.answer);
     if r.fires {
@@ -80,7 +80,7 @@ pub extern "C" fn murgwethan_read(
 ) -> i64
     ensures { λ w. ⌜ Answered (Read (now (p .entry)) handle peek (now (ring .entry)) (now (table .entry)) (now (buffer .entry)) (now (buffer .exit))) (now (p .exit)) w ⌝ }
 {
-    let r = ends::read_ends(socket::ends_of(*p), handle, peek, ring, table, buffer);
+    let r = transfer::read_ends(socket::ends_of(*p), handle, peek, ring, table, buffer);
     *p = socket::with_outcome(*p, r);
     let w = status::word(r.answer);
     if r.fires {
@@ -99,36 +99,52 @@ pub extern "C" fn murgwethan_set_disposition(
 ) -> i64
     ensures { λ w. ⌜ Answered (Steps (now (p .entry)) (disposeAnswer (now (p .entry)) handle (dispositionOf disposition) (dispositionOf «peer_disposition»)) (disposed (isOne handle) (dispositionOf disposition) (dispositionOf «peer_disposition») (now (p .entry)))) (now (p .exit)) w ⌝ }
 {
-    let r = values::dispose(*p, handle, disposition, peer_disposition);
-    *p = r.pair;
-    status::word(r.answer)
+    let r = values::dispose_ends(socket::ends_of(*p), handle, disposition, peer_disposition);
+    *p = socket::with_outcome(*p, r);
+    let w = status::word(r.answer);
+    if r.fires {
+        *p = socket::visit_all(*p, r);
+    }
+    w
 }
 
 #[no_mangle]
 pub extern "C" fn murgwethan_shutdown(p: &mut Pair, handle: u32, read: bool, write: bool) -> i64
     ensures { λ w. ⌜ Answered (Steps (now (p .entry)) (shutdownAnswer (now (p .entry)) handle) (shut (isOne handle) read write (now (p .entry)))) (now (p .exit)) w ⌝ }
 {
-    let r = Pair::shutdown(*p, handle, read, write);
-    *p = r.pair;
-    status::word(r.answer)
+    let r = control::shutdown_ends(socket::ends_of(*p), handle, read, write);
+    *p = socket::with_outcome(*p, r);
+    let w = status::word(r.answer);
+    if r.fires {
+        *p = socket::visit(*p, r.visits);
+    }
+    w
 }
 
 #[no_mangle]
 pub extern "C" fn murgwethan_set_read_threshold(p: &mut Pair, handle: u32, threshold: u64) -> i64
     ensures { λ w. ⌜ Answered (Steps (now (p .entry)) (readThresholdAnswer (now (p .entry)) handle threshold) (readThresholdSet (isOne handle) threshold (now (p .entry)))) (now (p .exit)) w ⌝ }
 {
-    let r = Pair::set_read_threshold(*p, handle, threshold);
-    *p = r.pair;
-    status::word(r.answer)
+    let r = control::read_threshold_ends(socket::ends_of(*p), handle, threshold);
+    *p = socket::with_outcome(*p, r);
+    let w = status::word(r.answer);
+    if r.fires {
+        *p = socket::visit(*p, r.visits);
+    }
+    w
 }
 
 #[no_mangle]
 pub extern "C" fn murgwethan_set_write_threshold(p: &mut Pair, handle: u32, threshold: u64) -> i64
     ensures { λ w. ⌜ Answered (Steps (now (p .entry)) (writeThresholdAnswer (now (p .entry)) handle threshold) (writeThresholdSet (isOne handle) threshold (now (p .entry)))) (now (p .exit)) w ⌝ }
 {
-    let r = Pair::set_write_threshold(*p, handle, threshold);
-    *p = r.pair;
-    status::word(r.answer)
+    let r = control::write_threshold_ends(socket::ends_of(*p), handle, threshold);
+    *p = socket::with_outcome(*p, r);
+    let w = status::word(r.answer);
+    if r.fires {
+        *p = socket::visit(*p, r.visits);
+    }
+    w
 }
 
 // Registers a wait of an end: tested at once against the present word unless edge is 1.
@@ -145,9 +161,13 @@ pub extern "C" fn murgwethan_wait(p: &mut Pair, handle: u32, key: u64, mask: u32
 pub extern "C" fn murgwethan_close(p: &mut Pair, handle: u32) -> i64
     ensures { λ w. ⌜ Answered (Steps (now (p .entry)) (closeAnswer (now (p .entry)) handle) (closed (isOne handle) (now (p .entry)))) (now (p .exit)) w ⌝ }
 {
-    let r = Pair::close(*p, handle);
-    *p = r.pair;
-    status::word(r.answer)
+    let r = control::close_ends(socket::ends_of(*p), handle);
+    *p = socket::with_outcome(*p, r);
+    let w = status::word(r.answer);
+    if r.fires {
+        *p = socket::close_waits(*p, handle, r.visits);
+    }
+    w
 }
 
 // The signal word that an end shows; −1 for a closed end and for another handle.

@@ -90,9 +90,13 @@ pub extern "C" fn murgwethan_user_set_disposition(
 ) -> i64
     ensures { λ w. ⌜ Answered (Steps (now (p .entry)) (userDisposeAnswer (now (p .entry)) handle disposition «peer_disposition») (disposed (isOne handle) (dispositionOf disposition) (dispositionOf «peer_disposition») (now (p .entry)))) (now (p .exit)) w ⌝ }
 {
-    let r = syscall::set_disposition(*p, handle, disposition, peer_disposition);
-    *p = r.pair;
-    status::word(r.answer)
+    let r = syscall::dispose_ends(socket::ends_of(*p), handle, disposition, peer_disposition);
+    *p = socket::with_outcome(*p, r);
+    let w = status::word(r.answer);
+    if r.fires {
+        *p = socket::visit_all(*p, r);
+    }
+    w
 }
 
 // Prevents reading or writing by the end of a handle: bit 0x1 of the options is write, 0x2 read.
@@ -100,7 +104,11 @@ pub extern "C" fn murgwethan_user_set_disposition(
 pub extern "C" fn murgwethan_user_shutdown(p: &mut Pair, handle: u32, options: u32) -> i64
     ensures { λ w. ⌜ Answered (Steps (now (p .entry)) (userShutdownAnswer (now (p .entry)) handle) (shut (isOne handle) (shutsRead options) (shutsWrite options) (now (p .entry)))) (now (p .exit)) w ⌝ }
 {
-    let r = syscall::shutdown(*p, handle, options);
-    *p = r.pair;
-    status::word(r.answer)
+    let r = syscall::shutdown_ends(socket::ends_of(*p), handle, options);
+    *p = socket::with_outcome(*p, r);
+    let w = status::word(r.answer);
+    if r.fires {
+        *p = socket::visit(*p, r.visits);
+    }
+    w
 }

@@ -1,6 +1,8 @@
 // By value, what the exported calls need beside the calls of the pair: numbers for enums, and records put into a lent array.
 use endpoint::Disposition;
 use endpoint::SignalWord;
+use ends::Ends;
+use ends::Outcome;
 use socket::Pair;
 use socket::Step;
 use status::Answer;
@@ -8,8 +10,8 @@ use status::Record;
 ghost use mathlib.Core.Path.{_≡_};
 ghost use mathlib.Core.List.{[]};
 ghost use Rattle.socket.specs.Pair.{isOne, own, shownBy};
-ghost use Rattle.socket.specs.Tests.{lentOf, Steps};
-ghost use Rattle.socket.specs.Disposition.{disposeAnswer, disposed};
+ghost use Rattle.socket.specs.Tests.{lentOf};
+ghost use Rattle.control.specs.Disposition.{disposeEnds};
 ghost use Rattle.socket.specs.Info.{infoAnswer};
 ghost use Rattle.socket.specs.Threshold.{thresholdsAnswer};
 ghost use Rattle.socket.specs.Wait.{takeAnswer, took};
@@ -30,11 +32,12 @@ fn disposition_of(n: u32) -> Disposition
     Disposition::Unchanged
 }
 
-// Disposition by its numbers.
-pub fn dispose(p: Pair, handle: u32, disposition: u32, peer_disposition: u32) -> Step
-    ensures { λ r. ⌜ Steps p (disposeAnswer p handle (dispositionOf disposition) (dispositionOf «peer_disposition»)) (disposed (isOne handle) (dispositionOf disposition) (dispositionOf «peer_disposition») p) r ⌝ }
+// Disposition by its numbers, but for the visit of the waits.
+pub fn dispose_ends(e: Ends, handle: u32, disposition: u32, peer_disposition: u32) -> Outcome
+    ensures { λ r. ⌜ r ≡ disposeEnds e handle (dispositionOf disposition) (dispositionOf «peer_disposition») ⌝ }
 {
-    p.set_disposition(
+    control::dispose_ends(
+        e,
         handle,
         disposition_of(disposition),
         disposition_of(peer_disposition),

@@ -84,8 +84,8 @@ pub struct Place {
     pub mask: u32,
     /// The word at which the wait fired, and 0 until then.
     pub observed: u32,
-    /// Whether the wait is of end 1 or of end 2.
-    pub one: bool,
+    /// The number of the wait's end, 1 or 2; 0 in a place that no wait has.
+    pub end: u64,
 }
 
 /// The packets stand first, oldest first; behind them the waits, oldest first.
@@ -129,7 +129,7 @@ impl Pair {
             thresholds: Thresholds { read: 0, write: 0 },
             queue: Queue { bytes: none, lengths: none },
         };
-        let free = Place { key: 0, mask: 0, observed: 0, one: false };
+        let free = Place { key: 0, mask: 0, observed: 0, end: 0 };
         let places = Places { packets: 0, waits: 0, table: [free; 128] };
         Pair { datagram: false, capacity: 0, one: end, two: end, places }
     };

@@ -185,9 +185,11 @@ fn make_strange(record: &mut Pair, numbers: &mut Numbers) {
     for (at, place) in record.places.table.iter_mut().enumerate() {
         let (key, mask, observed) = (numbers.next(), numbers.next() as u32, numbers.next() as u32);
         let used = at < packets + record.places.waits;
-        *place = raw::Place { key, mask, observed, one: numbers.one_in(2) };
+        // no end has the last two numbers
+        let end = numbers.pick(&[1, 1, 2, 2, 0, u64::MAX]);
+        *place = raw::Place { key, mask, observed, end };
         if !used {
-            *place = raw::Place { key: 0, mask: 0, observed: 0, one: false };
+            *place = raw::Place { key: 0, mask: 0, observed: 0, end: 0 };
         }
     }
 }

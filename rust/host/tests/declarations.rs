@@ -33,7 +33,7 @@ fn laid_records() -> [Laid; 7] {
         laid!(Queue { bytes, lengths }),
         laid!(Thresholds { read, write }),
         laid!(Endpoint { closed, read_disabled, rights, signals, thresholds, queue }),
-        laid!(Place { key, mask, observed, one }),
+        laid!(Place { key, mask, observed, end }),
         laid!(Places { packets, waits, table }),
         laid!(Pair { datagram, capacity, one, two, places }),
     ]

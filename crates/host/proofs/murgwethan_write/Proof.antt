@@ -87,10 +87,10 @@ use Rattle.socket.specs.Write.{Wrote}
 use Rattle.socket.specs.Pair.{endsOf}
 use Rattle.transfer.specs.Write.{EndsWrote}
 use Rattle.socket.proofs.Settled.{wrote-whole}
-use Rattle.ends.proofs.write_ends as step
-use Rattle.ends.proofs.write_ends.Symbol as step-def
-use Rattle.ends.proofs.write_ends.Symbol.{name as #step}
-use Rattle.ends.proofs.write_ends.Met as step-thm
+use Rattle.transfer.proofs.write_ends as step
+use Rattle.transfer.proofs.write_ends.Symbol as step-def
+use Rattle.transfer.proofs.write_ends.Symbol.{name as #step}
+use Rattle.transfer.proofs.write_ends.Met as step-thm
 use Rattle.host.proofs.murgwethan_write.Key.{name as #own}
 use Rattle.host.proofs.murgwethan_write as f
 use Rattle.host.proofs.murgwethan_write.Statement as stated
@@ -209,16 +209,16 @@ module _ {M : Type 1} (𝓤 : URA M) (H : Heap 𝓤) (A : Atoms 𝓤) (W : Given
         peeks ! T.the-row (Is T.the-row) (shows 𝓤 H A T.the-row) p₁ (vals p₁) (λ new.
         assigns ! (of-opd ! (load ! (from ! (stop !)) (look ! 27 refl))) (from ! (hop ! (look ! 43 refl) (stop !))) (store-raw ! 7 refl (LL.lawful T.the-type T′.the-laws 𝓤 H A W .typed p₁ _ new .0)) $
         drop ! $ owned ! N.the-row (Is N.the-row) (EL.makes N.the-type N′.the-plain 𝓤 H A) (r .answer) _ (parts .1 .1 .0) $ use1 W (raw (Word 𝓤 H A at-mem run .pre (to-word 𝓤 H A at-mem run (r .answer) _))) (goes-word 𝓤 H A at-mem run W (r .answer) _) $
-        calls-at ! fm (Word 𝓤 H A at-mem run) known-word (to-word 𝓤 H A at-mem run (r .answer) _) (and-then ! (load ! (from ! (fld ! {τ = N′.mir} {d = 96} refl (stop !))) (look-in ! 33 {τ = N′.mir} (sub ! {τs = tcons G′.mir (tcons G′.mir (tcons N′.mir (tcons tyBool (tcons U′.mir tnil))))} 2 {τ = N′.mir} {d = 96} refl (whole !)))) (no-more !)) (λ v′.
+        calls-at ! fm (Word 𝓤 H A at-mem run) known-word (to-word 𝓤 H A at-mem run (r .answer) _) (and-then ! (load ! (from ! (fld ! {τ = N′.mir} {d = 96} refl (stop !))) (look-in ! 33 {τ = N′.mir} (sub ! {τs = tcons G′.mir (tcons G′.mir (tcons N′.mir (tcons tyBool (tcons U′.mir (tcons U′.mir tnil)))))} 2 {τ = N′.mir} {d = 96} refl (whole !)))) (no-more !)) (λ v′.
         use1 W (later (some (λ (z : ℤ). (‵ ftrue ⊛ ‵ (i64 .own z (v′ ∷ []))) ⊛ raw (ensured 𝓤 H A word.ended (word.clauses 𝓤 H A at-mem run) tt (r .answer, tt) tt z)))) (id⊢ 𝓤 _) $ await ! tt $ pick ! (λ z.
         split ! $ move ! (1 ∷ []) $ use1 W (raw (fact 𝓤 (z ≡ answerWord (r .answer)))) (worded 𝓤 H A at-mem run (r .answer) z) $ heard ! (z ≡ answerWord (r .answer)) (λ d. split ! $ drop ! $
         peeks ! i64 (Is i64) (shows 𝓤 H A i64) z (v′ ∷ []) (λ is′. land ! (from ! (stop !)) (init ! 31 refl (sint-lawful 𝓤 H A W w64 .typed z _ is′ .0)) $
-        assigns ! (of-opd ! (load ! (from ! (fld ! {τ = tyBool} {d = 160} refl (stop !))) (look-in ! 33 {τ = tyBool} (sub ! {τs = tcons G′.mir (tcons G′.mir (tcons N′.mir (tcons tyBool (tcons U′.mir tnil))))} 3 {τ = tyBool} {d = 160} refl (whole !))))) (from ! (stop !)) (init ! 15 refl (tt, tt)) $
+        assigns ! (of-opd ! (load ! (from ! (fld ! {τ = tyBool} {d = 160} refl (stop !))) (look-in ! 33 {τ = tyBool} (sub ! {τs = tcons G′.mir (tcons G′.mir (tcons N′.mir (tcons tyBool (tcons U′.mir (tcons U′.mir tnil)))))} 3 {τ = tyBool} {d = 160} refl (whole !))))) (from ! (stop !)) (init ! 15 refl (tt, tt)) $
         first ! $ branches ! (load ! (from ! (stop !)) (look ! 15 refl))
         (λ on.
         assigns ! (of-opd ! (load ! (from ! (hop ! (look ! 43 refl) (stop !))) (look-raw ! 7 refl))) (from ! (stop !)) (init ! 11 refl (LL.lawful T.the-type T′.the-laws 𝓤 H A W .typed p₁ _ new .0)) $
         owned ! T.the-row (Is T.the-row) ((LL.makes T.the-type T′.the-plain) 𝓤 H A) p₁ _ new $ use1 W (raw (Fire 𝓤 H A at-mem run .pre (to-fire 𝓤 H A at-mem run p₁ (r .visits) _))) (goes-fire 𝓤 H A at-mem run W p₁ (r .visits) _ (parts .1 .1 .1 .1 .0)) $
-        calls-at ! fm (Fire 𝓤 H A at-mem run) known-fire (to-fire 𝓤 H A at-mem run p₁ (r .visits) _) (and-then ! (load ! (from ! (stop !)) (look ! 12 refl)) (and-then ! (load ! (from ! (fld ! {τ = U′.mir} {d = 164} refl (stop !))) (look-in ! 34 {τ = U′.mir} (sub ! {τs = tcons G′.mir (tcons G′.mir (tcons N′.mir (tcons tyBool (tcons U′.mir tnil))))} 4 {τ = U′.mir} {d = 164} refl (whole !)))) (no-more !))) (λ v₂.
+        calls-at ! fm (Fire 𝓤 H A at-mem run) known-fire (to-fire 𝓤 H A at-mem run p₁ (r .visits) _) (and-then ! (load ! (from ! (stop !)) (look ! 12 refl)) (and-then ! (load ! (from ! (fld ! {τ = U′.mir} {d = 164} refl (stop !))) (look-in ! 34 {τ = U′.mir} (sub ! {τs = tcons G′.mir (tcons G′.mir (tcons N′.mir (tcons tyBool (tcons U′.mir (tcons U′.mir tnil)))))} 4 {τ = U′.mir} {d = 164} refl (whole !)))) (no-more !))) (λ v₂.
         use1 W (later (some (λ (p′ : Pair). (‵ ftrue ⊛ ‵ (T.the-row .own p′ (v₂ ∷ []))) ⊛ raw (ensured 𝓤 H A fire.ended (fire.clauses 𝓤 H A at-mem run) tt (p₁, (r .visits, tt)) tt p′)))) (id⊢ 𝓤 _) $ await ! tt $ pick ! (λ p′.
         split ! $ move ! (1 ∷ []) $ use1 W (raw (fact 𝓤 (p′ ≡ visitedPair (r .visits) p₁))) (visited-of 𝓤 H A at-mem run p₁ (r .visits) p′) $ heard ! (p′ ≡ visitedPair (r .visits) p₁) (λ e₂. split ! $ drop ! $
         peeks ! T.the-row (Is T.the-row) (shows 𝓤 H A T.the-row) p′ (v₂ ∷ []) (λ is₂.
@@ -259,7 +259,7 @@ murgwethan-write-spec 𝓤 H 𝓜 𝓖 𝓡 =
     entered 𝓤 H (tripleOf 𝓤 H (𝓖 .A) f.signature (f.spec 𝓤 H (𝓖 .A) (𝓜 .mem) (𝓡 .run)))
     (tables 𝓤 H 𝓜 𝓡 code.env .C) (tables 𝓤 H 𝓜 𝓡 code.env .Λ) #own code.function (code.unfolded 𝓤 H 𝓜 𝓡)
     (meets 𝓤 H (𝓖 .A) (givenOf 𝓤 H 𝓜 𝓖) (𝓜 .mem) (𝓡 .run) (tablesOf 𝓤 H 𝓜 (tables 𝓤 H 𝓜 𝓡 code.env))
-    (cited 𝓤 H (Called 𝓤 H (𝓖 .A) (𝓜 .mem) (𝓡 .run)) 𝓜 𝓡 code.env #step step-def.routine code.calls-ends·write-ends (step-thm.met 𝓤 H 𝓜 𝓖 𝓡))
+    (cited 𝓤 H (Called 𝓤 H (𝓖 .A) (𝓜 .mem) (𝓡 .run)) 𝓜 𝓡 code.env #step step-def.routine code.calls-transfer·write-ends (step-thm.met 𝓤 H 𝓜 𝓖 𝓡))
     (cited 𝓤 H (Word 𝓤 H (𝓖 .A) (𝓜 .mem) (𝓡 .run)) 𝓜 𝓡 code.env #word word-def.routine code.calls-status·word (word-thm.met 𝓤 H 𝓜 𝓖 𝓡))
     (cited 𝓤 H (Fire 𝓤 H (𝓖 .A) (𝓜 .mem) (𝓡 .run)) 𝓜 𝓡 code.env #fire fire-def.routine code.calls-socket·visit (fire-thm.met 𝓤 H 𝓜 𝓖 𝓡))
     (cited 𝓤 H (EndsOf 𝓤 H (𝓖 .A) (𝓜 .mem) (𝓡 .run)) 𝓜 𝓡 code.env #ends ends-def.routine code.calls-socket·ends-of (ends-thm.met 𝓤 H 𝓜 𝓖 𝓡))

@@ -50,7 +50,8 @@ struct End {
 
 #[derive(Clone, Copy)]
 struct Wait {
-    end: usize,
+    /// The number of its end, 1 or 2; a damaged record may hold another, which is no end's.
+    end: u64,
     key: u64,
     mask: u32,
     observed: u32,
@@ -119,6 +120,11 @@ fn end_of(handle: u32) -> Option<usize> {
     }
 }
 
+/// The number that a place has of an end.
+fn number_of(end: usize) -> u64 {
+    end as u64 + 1
+}
+
 fn bit_if(test: bool, bit: u32) -> u32 {
     if test {
         bit
@@ -160,14 +166,14 @@ impl Model {
         record.places.waits = self.waits.len();
         for (place, wait) in record.places.table.iter_mut().zip(self.packets.iter().chain(&self.waits)) {
             let Wait { end, key, mask, observed } = *wait;
-            *place = raw::Place { key, mask, observed, one: end == 0 };
+            *place = raw::Place { key, mask, observed, end };
         }
         Some(record)
     }
 }
 
 fn wait_of(place: &raw::Place) -> Wait {
-    Wait { end: usize::from(!place.one), key: place.key, mask: place.mask, observed: place.observed }
+    Wait { end: place.end, key: place.key, mask: place.mask, observed: place.observed }
 }
 
 fn end_from(end: &raw::Endpoint) -> End {
@@ -272,7 +278,7 @@ impl Model {
         }
         for at in (0..self.waits.len()).rev() {
             let wait = self.waits[at];
-            if wait.end == end && wait.mask & new != 0 {
+            if wait.end == number_of(end) && wait.mask & new != 0 {
                 self.waits.remove(at);
                 self.packets.push(Wait { observed: new, ..wait });
             }
@@ -284,7 +290,7 @@ impl Model {
         refuse_if(edge > 1, -10)?;
         refuse_if(self.waits.len() + self.packets.len() == 128, -3)?;
         let present = self.ends[end].word;
-        let wait = Wait { end, key, mask, observed: 0 };
+        let wait = Wait { end: number_of(end), key, mask, observed: 0 };
         if edge == 0 && mask & present != 0 {
             self.packets.push(Wait { observed: present, ..wait });
         } else {
@@ -506,7 +512,7 @@ impl Model {
         let end = self.opening(handle)?;
         let none = Line { start: 0, len: 0 };
         self.ends[end] = End { open: false, bytes: none, lengths: none, ..self.ends[end] };
-        self.waits.retain(|wait| wait.end != end);
+        self.waits.retain(|wait| wait.end != number_of(end));
         if self.ends[1 - end].open {
             self.change(1 - end, WRITABLE, PEER_CLOSED);
         }

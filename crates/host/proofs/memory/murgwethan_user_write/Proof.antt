@@ -215,16 +215,16 @@ module _ {M : Type 1} (𝓤 : URA M) (H : Heap 𝓤) (A : Atoms 𝓤) (W : Given
         peeks ! T.the-row (Is T.the-row) (shows 𝓤 H A T.the-row) p₁ (vals p₁) (λ new.
         assigns ! (of-opd ! (load ! (from ! (stop !)) (look ! 37 refl))) (from ! (hop ! (look ! 63 refl) (stop !))) (store-raw ! 13 refl (LL.lawful T.the-type T′.the-laws 𝓤 H A W .typed p₁ _ new .0)) $
         drop ! $ owned ! N.the-row (Is N.the-row) (EL.makes N.the-type N′.the-plain 𝓤 H A) (r .answer) _ (parts .1 .1 .0) $ use1 W (raw (Word 𝓤 H A at-mem run .pre (to-word 𝓤 H A at-mem run (r .answer) _))) (goes-word 𝓤 H A at-mem run W (r .answer) _) $
-        calls-at ! fm (Word 𝓤 H A at-mem run) known-word (to-word 𝓤 H A at-mem run (r .answer) _) (and-then ! (load ! (from ! (fld ! {τ = N′.mir} {d = 96} refl (stop !))) (look-in ! 43 {τ = N′.mir} (sub ! {τs = tcons G′.mir (tcons G′.mir (tcons N′.mir (tcons tyBool (tcons U′.mir tnil))))} 2 {τ = N′.mir} {d = 96} refl (whole !)))) (no-more !)) (λ v′.
+        calls-at ! fm (Word 𝓤 H A at-mem run) known-word (to-word 𝓤 H A at-mem run (r .answer) _) (and-then ! (load ! (from ! (fld ! {τ = N′.mir} {d = 96} refl (stop !))) (look-in ! 43 {τ = N′.mir} (sub ! {τs = tcons G′.mir (tcons G′.mir (tcons N′.mir (tcons tyBool (tcons U′.mir (tcons U′.mir tnil)))))} 2 {τ = N′.mir} {d = 96} refl (whole !)))) (no-more !)) (λ v′.
         use1 W (later (some (λ (z : ℤ). (‵ ftrue ⊛ ‵ (i64 .own z (v′ ∷ []))) ⊛ raw (ensured 𝓤 H A word.ended (word.clauses 𝓤 H A at-mem run) tt (r .answer, tt) tt z)))) (id⊢ 𝓤 _) $ await ! tt $ pick ! (λ z.
         split ! $ move ! (1 ∷ []) $ use1 W (raw (fact 𝓤 (z ≡ answerWord (r .answer)))) (worded 𝓤 H A at-mem run (r .answer) z) $ heard ! (z ≡ answerWord (r .answer)) (λ d. split ! $ drop ! $
         peeks ! i64 (Is i64) (shows 𝓤 H A i64) z (v′ ∷ []) (λ is′. land ! (from ! (stop !)) (init ! 41 refl (sint-lawful 𝓤 H A W w64 .typed z _ is′ .0)) $
-        assigns ! (of-opd ! (load ! (from ! (fld ! {τ = tyBool} {d = 160} refl (stop !))) (look-in ! 43 {τ = tyBool} (sub ! {τs = tcons G′.mir (tcons G′.mir (tcons N′.mir (tcons tyBool (tcons U′.mir tnil))))} 3 {τ = tyBool} {d = 160} refl (whole !))))) (from ! (stop !)) (init ! 21 refl (tt, tt)) $
+        assigns ! (of-opd ! (load ! (from ! (fld ! {τ = tyBool} {d = 160} refl (stop !))) (look-in ! 43 {τ = tyBool} (sub ! {τs = tcons G′.mir (tcons G′.mir (tcons N′.mir (tcons tyBool (tcons U′.mir (tcons U′.mir tnil)))))} 3 {τ = tyBool} {d = 160} refl (whole !))))) (from ! (stop !)) (init ! 21 refl (tt, tt)) $
         first ! $ branches ! (load ! (from ! (stop !)) (look ! 21 refl))
         (λ on.
         assigns ! (of-opd ! (load ! (from ! (hop ! (look ! 63 refl) (stop !))) (look-raw ! 13 refl))) (from ! (stop !)) (init ! 17 refl (LL.lawful T.the-type T′.the-laws 𝓤 H A W .typed p₁ _ new .0)) $
         owned ! T.the-row (Is T.the-row) ((LL.makes T.the-type T′.the-plain) 𝓤 H A) p₁ _ new $ use1 W (raw (Fire 𝓤 H A at-mem run .pre (to-fire 𝓤 H A at-mem run p₁ (r .visits) _))) (goes-fire 𝓤 H A at-mem run W p₁ (r .visits) _ (parts .1 .1 .1 .1 .0)) $
-        calls-at ! fm (Fire 𝓤 H A at-mem run) known-fire (to-fire 𝓤 H A at-mem run p₁ (r .visits) _) (and-then ! (load ! (from ! (stop !)) (look ! 18 refl)) (and-then ! (load ! (from ! (fld ! {τ = U′.mir} {d = 164} refl (stop !))) (look-in ! 44 {τ = U′.mir} (sub ! {τs = tcons G′.mir (tcons G′.mir (tcons N′.mir (tcons tyBool (tcons U′.mir tnil))))} 4 {τ = U′.mir} {d = 164} refl (whole !)))) (no-more !))) (λ v₂.
+        calls-at ! fm (Fire 𝓤 H A at-mem run) known-fire (to-fire 𝓤 H A at-mem run p₁ (r .visits) _) (and-then ! (load ! (from ! (stop !)) (look ! 18 refl)) (and-then ! (load ! (from ! (fld ! {τ = U′.mir} {d = 164} refl (stop !))) (look-in ! 44 {τ = U′.mir} (sub ! {τs = tcons G′.mir (tcons G′.mir (tcons N′.mir (tcons tyBool (tcons U′.mir (tcons U′.mir tnil)))))} 4 {τ = U′.mir} {d = 164} refl (whole !)))) (no-more !))) (λ v₂.
         use1 W (later (some (λ (p′ : Pair). (‵ ftrue ⊛ ‵ (T.the-row .own p′ (v₂ ∷ []))) ⊛ raw (ensured 𝓤 H A fire.ended (fire.clauses 𝓤 H A at-mem run) tt (p₁, (r .visits, tt)) tt p′)))) (id⊢ 𝓤 _) $ await ! tt $ pick ! (λ p′.
         split ! $ move ! (1 ∷ []) $ use1 W (raw (fact 𝓤 (p′ ≡ visitedPair (r .visits) p₁))) (visited-of 𝓤 H A at-mem run p₁ (r .visits) p′) $ heard ! (p′ ≡ visitedPair (r .visits) p₁) (λ e₂. split ! $ drop ! $
         peeks ! T.the-row (Is T.the-row) (shows 𝓤 H A T.the-row) p′ (v₂ ∷ []) (λ is₂.
