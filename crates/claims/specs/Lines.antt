@@ -19,7 +19,7 @@ use Rattle.ring.specs.Ring.{place, front, put}
 use Rattle.port.specs.Lists.{filter}
 use Rattle.port.specs.Port.{firedOf, insertedOf, appendedOf, registeredOf, takenOf, droppedOf, changeOf}
 use Rattle.port.specs.Signal.{changedWord, meets}
-use Rattle.port.specs.Table.{packetsOf, waitsOf, unusedOf, tableOf, newPlaces, waitOf, observe, packetOf, fires, fired, kept, ofOther, others}
+use Rattle.port.specs.Table.{packetsOf, waitsOf, unusedOf, tableOf, newPlaces, endNumber, waitOf, observe, packetOf, fires, fired, kept, ofOther, others}
 use Rattle.endpoint.specs.Disposition.{enables, hasBacklog, hasOpenBacklog, enablesOver, disposeChecks}
 use Rattle.endpoint.specs.Endpoint.{newEnd, noEnd, withQueue, withSignals, withReadDisabled, withThresholds, closedEnd, shown}
 use Rattle.endpoint.specs.Info.{unlessClosed, infoOf}
@@ -73,7 +73,7 @@ shownLines x os = lineOf x [] ∷ map (λ (o : Outcome). lineOf (o .seen) (o .de
 
 -- the lines of a run, computed. To unfold it is to unfold all that a call computes with.
 unfoldable pub linesOf : Create → (one two : Slices) → List Input → List Line
-unfolding recordOf statusNumber recordCount answerWord countOf isDone refuseIf refuseUnless _then_ pick _and_ _or_ place front put filter firedOf insertedOf appendedOf registeredOf takenOf droppedOf changeOf changedWord meets packetsOf waitsOf unusedOf tableOf newPlaces waitOf observe packetOf fires fired kept ofOther others enables hasBacklog hasOpenBacklog enablesOver disposeChecks newEnd noEnd withQueue withSignals withReadDisabled withThresholds closedEnd shown unlessClosed infoOf noQueue soundLengths soundQueue shortTable shortSlices hasLength firstLength badFirst emptyAnswer availableIn readSize lostByReader gainedByWriter datagramSize writeSize reached missed bitIf gainedByPeer lostByWriter numbersAnswer createAnswer disposeAnswer switchWriting disposeOwn disposePeer disposedOwn disposedPeer disposed shutdownAnswer shutEnd shut infoAnswer isHandle withEnd withPlaces withChange signalChange putBit switchReading newPair noPair readAnswer leaving drainedQueue consumed pairRead bufferRead soundEnds soundTest lentOf slicesTest tableTest isOpen handleTest openingTest readThresholdAnswer writeThresholdAnswer readThresholdSet writeThresholdSet thresholdsAnswer waitAnswer waited takeAnswer took closeAnswer closed writeAnswer fedQueue wrote pairWritten ringFed ringWritten tableFed tableWritten dispositionOf userDisposeAnswer userShutdownAnswer fits countFits isNull lookup littleEndian countLanded userReadAnswer bytesLanded writeRanges userWriteAnswer controlAnswer answerTo controlled pairAfter written stateAfter landed counted deliveredIn after outcome outcomes pairCreated
+unfolding recordOf statusNumber recordCount answerWord countOf isDone refuseIf refuseUnless _then_ pick _and_ _or_ place front put filter firedOf insertedOf appendedOf registeredOf takenOf droppedOf changeOf changedWord meets packetsOf waitsOf unusedOf tableOf newPlaces endNumber waitOf observe packetOf fires fired kept ofOther others enables hasBacklog hasOpenBacklog enablesOver disposeChecks newEnd noEnd withQueue withSignals withReadDisabled withThresholds closedEnd shown unlessClosed infoOf noQueue soundLengths soundQueue shortTable shortSlices hasLength firstLength badFirst emptyAnswer availableIn readSize lostByReader gainedByWriter datagramSize writeSize reached missed bitIf gainedByPeer lostByWriter numbersAnswer createAnswer disposeAnswer switchWriting disposeOwn disposePeer disposedOwn disposedPeer disposed shutdownAnswer shutEnd shut infoAnswer isHandle withEnd withPlaces withChange signalChange putBit switchReading newPair noPair readAnswer leaving drainedQueue consumed pairRead bufferRead soundEnds soundTest lentOf slicesTest tableTest isOpen handleTest openingTest readThresholdAnswer writeThresholdAnswer readThresholdSet writeThresholdSet thresholdsAnswer waitAnswer waited takeAnswer took closeAnswer closed writeAnswer fedQueue wrote pairWritten ringFed ringWritten tableFed tableWritten dispositionOf userDisposeAnswer userShutdownAnswer fits countFits isNull lookup littleEndian countLanded userReadAnswer bytesLanded writeRanges userWriteAnswer controlAnswer answerTo controlled pairAfter written stateAfter landed counted deliveredIn after outcome outcomes pairCreated
 linesOf c one two is = shownLines (seenOf (createdBy c one two) (pairCreated c (createdBy c one two))) (outcomes (start c one two) is)
 
 -- the answer word of one call, computed
