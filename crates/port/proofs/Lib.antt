@@ -10,6 +10,7 @@ pub mod Refused
 pub mod Views
 pub mod Any
 pub mod Idle
+mod Only
 pub mod Sound
 pub mod Length
 pub mod Cases

@@ -7,13 +7,14 @@ use status::Status;
 ghost use mathlib.Core.Path.{_≡_};
 ghost use mathlib.Core.Bool.{true, not};
 ghost use Prim.Native.Nat.{_+_, _≤_, _<_};
+ghost use lib.ListN.{getD};
 ghost use lib.Dec.{leb, ltb, eqb};
 ghost use Rattle.status.specs.Choice.{pick, _and_};
 ghost use Rattle.status.specs.Answer.{refuseIf, refuseUnless, _then_};
 ghost use Rattle.status.specs.declared.Status.the-variants.{Internal, NoResources};
 ghost use Rattle.port.specs.Signal.{changedWord, meets};
-ghost use Rattle.port.specs.Table.{endNumber, fires, anyFires, observe, newPlaces, waitsOf};
-ghost use Rattle.port.specs.Port.{firedOf, droppedOf, insertedOf, appendedOf, registerOf, firesOf, changeOf, takeOf, dropOf};
+ghost use Rattle.port.specs.Table.{free, endNumber, fires, anyFires, observe, newPlaces, waitsOf};
+ghost use Rattle.port.specs.Port.{onlyWait, firedOf, droppedOf, insertedOf, appendedOf, registerOf, firesOf, changeOf, takeOf, dropOf};
 
 // The signals of a socket, by the bits of the public header.
 pub const READABLE: u32 = 0x1;
@@ -211,6 +212,47 @@ fn dropped(t: Places, one: bool, sound: bool) -> Places
             }
         }
         out.waits = n - packets;
+    }
+    out
+}
+
+// Whether the only place used is a wait.
+pub fn is_only_wait(packets: usize, waits: usize) -> bool
+    ensures { λ r. ⌜ r ≡ (eqb packets 0 and eqb waits 1) ⌝ }
+{
+    if packets != 0 {
+        return false;
+    }
+    waits == 1
+}
+
+// Whether the only place used is a wait, and a change to this word fires it.
+fn only_fires(t: Places, one: bool, word: u32, next: u32) -> bool
+    ensures { λ r. ⌜ r ≡ (onlyWait t and not (eqb next word) and fires one next (getD (t .table) 0 free)) ⌝ }
+{
+    if !is_only_wait(t.packets, t.waits) {
+        return false;
+    }
+    if next == word {
+        return false;
+    }
+    let p = t.table[0];
+    is_fired(p, one, next)
+}
+
+// Visits the wait of a table whose only place used is a wait. It stands in the first place, so that no index is computed, and the compiler
+// leaves one copy of the table.
+pub fn only_visited(t: Places, one: bool, word: u32, clear: u32, set: u32) -> Places
+    ensures { λ r. ⌜ r ≡ pick (onlyWait t) (changeOf one word clear set t .places) t ⌝ }
+{
+    let next = changed(word, clear, set);
+    let p = t.table[0];
+    let q = observed_at(p, next);
+    let mut out = t;
+    if only_fires(t, one, word, next) {
+        out.table[0] = q;
+        out.packets = 1;
+        out.waits = 0;
     }
     out
 }

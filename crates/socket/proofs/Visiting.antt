@@ -11,13 +11,13 @@ use lib.ListN.{length}
 use lib.Dec.{eqb}
 use borrow.Author.Tests.{eqb-true}
 use Rattle.status.specs.declared.Answer.{Answer}
-use Rattle.status.specs.Choice.{pick, _or_}
+use Rattle.status.specs.Choice.{pick, _and_, _or_}
 use Rattle.status.proofs.Rules.{pick-on, pick-off}
 use Rattle.status.proofs.Chains.{neither}
 use Rattle.port.specs.declared.Places.{Places}
 use Rattle.port.specs.Signal.{changedWord}
 use Rattle.port.specs.Table.{sound}
-use Rattle.port.specs.Port.{changeOf}
+use Rattle.port.specs.Port.{onlyWait, changeOf}
 use Rattle.port.proofs.Lists.{either}
 use Rattle.port.proofs.Operations.{change-sound, change-unsound, change-same}
 use Rattle.port.proofs.Size.{table-128}
@@ -64,6 +64,11 @@ not-due a t l e =
     (λ (k : eqb (changedWord (a .clear) (a .set) (a .word)) (a .word) ≡ true). visited-same a t (eqb-true _ _ k))
     (λ (k : eqb (changedWord (a .clear) (a .set) (a .word)) (a .word) ≡ false). idle-change (a .one) (a .word) (a .clear) (a .set) t l (rw k at e))
     (either (eqb (changedWord (a .clear) (a .set) (a .word)) (a .word)))
+
+-- a table whose only place used is a wait
+pub only-wait : (t u r : Places) → (eqb (t .packets) 0 and eqb (t .waits) 1) ≡ true → r ≡ pick (onlyWait t) u t → r ≡ u
+unfolding onlyWait pick
+only-wait t u r e f = f ∙ rw e refl
 
 pub visited-both : (v : Visits) (p : Pair) → visited (v .first) (p .places) ≡ p .places → visited (v .second) (p .places) ≡ p .places → visitedPair v p ≡ p
 unfolding visitedPair withPlaces

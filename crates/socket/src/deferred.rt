@@ -24,10 +24,13 @@ fn is_due(t: Places, a: Pending) -> bool
     t.fires(a.one, next)
 }
 
-// Visits the waits of a change.
+// Visits the waits of a change. Mostly there is one wait alone, and then little of the table is touched.
 fn visited(t: Places, a: Pending) -> Places
     ensures { λ r. ⌜ r ≡ visited a t ⌝ }
 {
+    if port::is_only_wait(t.packets, t.waits) {
+        return port::only_visited(t, a.one, a.word, a.clear, a.set);
+    }
     if is_due(t, a) {
         let c = t.change(a.one, a.word, a.clear, a.set);
         let places = c.places;
