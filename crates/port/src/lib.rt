@@ -236,8 +236,8 @@ fn only_fires(t: Places, one: bool, word: u32, next: u32) -> bool
     if next == word {
         return false;
     }
-    let p = t.table[0];
-    is_fired(p, one, next)
+    let wait = t.table[0];
+    is_fired(wait, one, next)
 }
 
 // Visits the wait of a table whose only place used is a wait. It stands in the first place, so that no index is computed, and the compiler
@@ -246,11 +246,11 @@ pub fn only_visited(t: Places, one: bool, word: u32, clear: u32, set: u32) -> Pl
     ensures { λ r. ⌜ r ≡ pick (onlyWait t) (changeOf one word clear set t .places) t ⌝ }
 {
     let next = changed(word, clear, set);
-    let p = t.table[0];
-    let q = observed_at(p, next);
+    let wait = t.table[0];
+    let packet = observed_at(wait, next);
     let mut out = t;
     if only_fires(t, one, word, next) {
-        out.table[0] = q;
+        out.table[0] = packet;
         out.packets = 1;
         out.waits = 0;
     }

@@ -20,8 +20,8 @@ returns-2 c =
     let a = c .before .before .before .args in
     rw (via-not-not (c .before .before .is-only-wait .ensures) (c .before .if1 .left), eq-eqb (a .next) (a .word) (c .if2 .taken)) refl
 
-element-copy-out-p : tie.Need-element-copy-out-p
-element-copy-out-p c = search needs
+element-copy-out-wait : tie.Need-element-copy-out-wait
+element-copy-out-wait c = search needs
 
 is-fired-requires : tie.Need-is-fired-requires
 is-fired-requires c κs = tt
@@ -34,4 +34,4 @@ returns-3 c =
 
 pub only-fires-spec : {M : Type 1} → statement M
 only-fires-spec =
-    tie.close (tie.spec is-only-wait-requires returns returns-2 element-copy-out-p is-fired-requires returns-3)
+    tie.close (tie.spec is-only-wait-requires returns returns-2 element-copy-out-wait is-fired-requires returns-3)

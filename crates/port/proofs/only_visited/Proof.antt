@@ -8,8 +8,8 @@ use Rattle.port.proofs.only_visited.Tie as tie
 changed-requires : tie.Need-changed-requires
 changed-requires c κs = tt
 
-element-copy-out-p : tie.Need-element-copy-out-p
-element-copy-out-p c = search needs
+element-copy-out-wait : tie.Need-element-copy-out-wait
+element-copy-out-wait c = search needs
 
 observed-at-requires : tie.Need-observed-at-requires
 observed-at-requires c κs = tt
@@ -17,8 +17,8 @@ observed-at-requires c κs = tt
 only-fires-requires : tie.Need-only-fires-requires
 only-fires-requires c κs = tt
 
-element-set-from-q : tie.Need-element-set-from-q
-element-set-from-q c = search needs
+element-set-from-packet : tie.Need-element-set-from-packet
+element-set-from-packet c = search needs
 
 returns : tie.Need-returns
 returns c =
@@ -39,9 +39,9 @@ only-visited-spec =
     tie.close
     (tie.spec
     changed-requires
-    element-copy-out-p
+    element-copy-out-wait
     observed-at-requires
     only-fires-requires
-    element-set-from-q
+    element-set-from-packet
     returns
     returns-2)
