@@ -22,7 +22,7 @@ pub fn no_visits() -> Visits
 }
 
 // Whether a change leaves the word as it is.
-fn keeps_word(a: Pending) -> bool
+pub fn keeps_word(a: Pending) -> bool
     ensures { λ r. ⌜ r ≡ keepsWord a ⌝ }
 {
     changed(a.word, a.clear, a.set) == a.word

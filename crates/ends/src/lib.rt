@@ -13,6 +13,7 @@ mod tests;
 mod threshold;
 mod wait;
 
+pub use change::keeps_word;
 pub use change::kept_ends;
 pub use change::no_visits;
 pub use change::put_back;

@@ -65,6 +65,11 @@ not-due a t l e =
     (λ (k : eqb (changedWord (a .clear) (a .set) (a .word)) (a .word) ≡ false). idle-change (a .one) (a .word) (a .clear) (a .set) t l (rw k at e))
     (either (eqb (changedWord (a .clear) (a .set) (a .word)) (a .word)))
 
+-- a change that is visited, and one that keeps the word
+pub keeps : (a : Pending) (t : Places) → keepsWord a ≡ true → visited a t ≡ t
+unfolding keepsWord
+keeps a t e = visited-same a t (eqb-true _ _ e)
+
 -- a table whose only place used is a wait
 pub only-wait : (t u r : Places) → (eqb (t .packets) 0 and eqb (t .waits) 1) ≡ true → r ≡ pick (onlyWait t) u t → r ≡ u
 unfolding onlyWait pick

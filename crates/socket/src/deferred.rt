@@ -17,11 +17,10 @@ ghost use Rattle.socket.specs.Deferred.{due, visited, visitedPair, visit
 fn is_due(t: Places, a: Pending) -> bool
     ensures { λ r. ⌜ r ≡ due a t ⌝ }
 {
-    let next = changed(a.word, a.clear, a.set);
-    if next == a.word {
+    if ends::keeps_word(a) {
         return false;
     }
-    t.fires(a.one, next)
+    t.fires(a.one, changed(a.word, a.clear, a.set))
 }
 
 // Visits the waits of a change. Mostly there is one wait alone, and then little of the table is touched.
@@ -39,13 +38,17 @@ fn visited(t: Places, a: Pending) -> Places
     t
 }
 
-// Visits the waits of two changes.
+// Visits the waits of two changes. Mostly only one word is another then, so that the table is handed on once.
 pub fn visit(p: Pair, v: Visits) -> Pair
     ensures { λ r. ⌜ r ≡ visitedPair v p ⌝ }
 {
     let mut t = p.places;
-    t = visited(t, v.first);
-    t = visited(t, v.second);
+    if !ends::keeps_word(v.first) {
+        t = visited(t, v.first);
+    }
+    if !ends::keeps_word(v.second) {
+        t = visited(t, v.second);
+    }
     parts::with_places(p, t)
 }
 

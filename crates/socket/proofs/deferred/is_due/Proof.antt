@@ -1,27 +1,27 @@
-use mathlib.Core.Path.{refl, sym, _∙_}
+use mathlib.Core.Path.{refl}
 use borrow.Author.Needs.{needs}
-use borrow.Author.Tests.{eq-eqb, ne-eqb}
-use Rattle.status.proofs.Rules.{pick-on, pick-off}
-use Rattle.ends.specs.Outcome.{keepsWord}
+use Rattle.status.proofs.Rules.{via, pick-on, pick-off}
 use Rattle.socket.specs.Deferred.{due}
 use Rattle.socket.proofs.deferred.is_due.Statement.{statement}
 use Rattle.socket.proofs.deferred.is_due.Tie as tie
 
-changed-requires : tie.Need-changed-requires
-changed-requires c κs = search needs
+keeps-word-requires : tie.Need-keeps-word-requires
+keeps-word-requires c κs = tt
 
 returns : tie.Need-returns
-unfolding due keepsWord
-returns c = pick-on _ _ _ _ _ (eq-eqb _ _ (sym (c .before .before .changed .ensures) ∙ c .if1 .taken)) refl
+unfolding due
+returns c = pick-on _ _ _ _ _ (via (c .before .keeps-word .ensures) (c .if1 .taken)) refl
+
+changed-requires : tie.Need-changed-requires
+changed-requires c κs = tt
 
 fires-requires : tie.Need-fires-requires
-fires-requires c κs = search needs
+fires-requires c κs = tt
 
 returns-2 : tie.Need-returns-2
-unfolding due keepsWord
+unfolding due
 returns-2 c =
-    let w = c .before .before .before .changed .ensures in
-    pick-off _ _ _ _ _ (ne-eqb _ _ (λ e. c .before .if1 .left (w ∙ e))) (rw w at (c .fires .ensures))
+    pick-off _ _ _ _ _ (via (c .before .before .before .keeps-word .ensures) (c .before .before .if1 .left)) (rw (c .before .changed .ensures) at (c .fires .ensures))
 
 pub is-due-spec : {M : Type 1} → statement M
-is-due-spec = tie.close (tie.spec changed-requires returns fires-requires returns-2)
+is-due-spec = tie.close (tie.spec keeps-word-requires returns changed-requires fires-requires returns-2)
