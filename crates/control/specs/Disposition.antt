@@ -34,7 +34,7 @@ ownDisposed t a b off =
       visits = record { first = first; second = second };
     })
 
--- peer: the reading flag of end t, also with a closed peer; with an open one its writing, then this end's PEER_WRITE_DISABLED
+-- peer: the reading flag of end t, also with a closed peer; with an open peer the peer's writing, then this end's PEER_WRITE_DISABLED
 unfoldable pub peerDisposed : Bool → (own peer : Endpoint) → (off : Bool) → Moved
 peerDisposed t a b off =
     let first = writingVisit (not t) (b .signals) off in

@@ -15,7 +15,7 @@ use Rattle.ends.specs.Ends.{isOne, own, peer}
 use Rattle.ends.specs.Tests.{openingTest}
 use Rattle.control.specs.Signal.{changedEnd, firstOnly, movedIf}
 
--- one end: reading gives it PEER_WRITE_DISABLED; writing takes WRITABLE and gives WRITE_DISABLED; one change
+-- one end: with the flag read it gains PEER_WRITE_DISABLED, with the flag write it loses WRITABLE and gains WRITE_DISABLED; one change
 unfoldable pub shutVisit : Bool → (word : ℕ) → (read write : Bool) → Pending
 shutVisit t w read write =
     record {

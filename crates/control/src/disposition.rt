@@ -47,7 +47,7 @@ fn own_disposed(one: bool, own: Endpoint, peer: Endpoint, off: bool) -> Moved
     signal::with_visits(next, next_peer, first, second)
 }
 
-// The reading flag of this end in any case; with an open peer its writing, then this end's PEER_WRITE_DISABLED.
+// The reading flag of this end in any case; with an open peer the peer's writing, then this end's PEER_WRITE_DISABLED.
 fn peer_disposed(one: bool, own: Endpoint, peer: Endpoint, off: bool) -> Moved
     ensures { λ r. ⌜ r ≡ peerDisposed one own peer off ⌝ }
 {

@@ -72,7 +72,7 @@ pub fn read_threshold_ends(e: Ends, handle: u32, threshold: u64) -> Outcome
     signal::put_both(e.waits, one, a, moved)
 }
 
-// WRITE_THRESHOLD shows while the peer's queue has at least so much space; 0 is none.
+// WRITE_THRESHOLD shows while the queue of an open peer has at least so much space; 0 is none.
 pub fn write_threshold_ends(e: Ends, handle: u32, threshold: u64) -> Outcome
     ensures { λ r. ⌜ r ≡ writeThresholdEnds e handle threshold ⌝ }
 {

@@ -31,7 +31,7 @@ pub use threshold::thresholds_answer;
 pub use threshold::write_threshold_answer;
 pub use wait::wait_answer;
 
-// What every answer is made of. It is small, so that it is passed on at little cost. `one` names an end throughout: true is end 1.
+// What every answer but that of take is made of. It is small, so that it is passed on at little cost. `one` names an end throughout: true is end 1.
 pub struct Ends {
     pub datagram: bool,
     pub capacity: u32,
@@ -70,8 +70,8 @@ pub struct Moved {
     pub visits: Visits,
 }
 
-// The two ends after a call, its answer, whether a wait can fire, and the changes whose waits are then to be visited: those of `visits`, then
-// those of `more`, which only a disposition has.
+// The two ends after a call, its answer, whether the waits are to be looked at, and the changes whose waits are then to be visited: those of
+// `visits`, then those of `more`, which only a disposition has. The waits are looked at where a wait can fire; by a close, where there are any.
 pub struct Outcome {
     pub one: Endpoint,
     pub two: Endpoint,

@@ -1,5 +1,5 @@
 // The calls that a kernel links, over a pair that it keeps: each takes the pair behind a reference, leaves the next one there and
-// returns the answer's word.
+// returns the answer's word, or the word that an end shows.
 use socket::Pair;
 ghost use mathlib.Core.Path.{_≡_};
 ghost use lib.ListN.{length};
@@ -19,7 +19,8 @@ mod memory;
 mod records;
 mod values;
 
-// A new pair over the rings and tables of its two ends. Where it is refused, the record left answers −1 to every call.
+// A new pair over the rings and tables of its two ends. What the record held before is gone in any case; where the call is refused, the record
+// left answers −1 to every call.
 #[no_mangle]
 pub extern "C" fn murgwethan_create(
     p: &mut Pair,

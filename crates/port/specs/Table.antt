@@ -14,7 +14,7 @@ use Rattle.port.specs.Lists.{filter, any}
 
 -- ---- the table and its three parts
 
--- a place that no run has used yet, or that was freed
+-- a place that was never used, or that was freed
 abbrev pub free : Place
 free = record { key = 0; mask = 0; observed = 0; end = 0 }
 

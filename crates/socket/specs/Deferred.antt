@@ -1,5 +1,5 @@
--- A call whose waits are visited last. 01 "Signal word and packets": a change of a word visits the end's waits. The laws of proofs/Visiting say
--- that the visits can wait until all words have changed.
+-- A call whose waits are visited last. 01 "Signal word and packets": a change of a word visits the end's waits. The laws of
+-- proofs/Visiting, Control, Disposed and Closed say that the visits can wait until all words have changed.
 use mathlib.Core.Bool.{Bool, false}
 use Rattle.status.specs.Choice.{pick}
 use Rattle.port.specs.declared.Places.{Places}

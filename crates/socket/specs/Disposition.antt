@@ -29,7 +29,7 @@ disposeOwn t off p =
     let p₁ = switchWriting t off p in
     pick (peer t p .closed) p₁ (putBit (not t) off «PEER_WRITE_DISABLED» (switchReading (not t) off p₁))
 
--- peer: the reading flag of this end, also with a closed peer; with an open one its writing, then this end's PEER_WRITE_DISABLED
+-- peer: the reading flag of this end, also with a closed peer; with an open peer the peer's writing, then this end's PEER_WRITE_DISABLED
 unfoldable pub disposePeer : Bool → (off : Bool) → Pair → Pair
 disposePeer t off p =
     let p₁ = switchReading t off p in
@@ -57,7 +57,8 @@ disposed t a b p = disposedPeer t b (disposedOwn t a p)
 unfoldable pub shutdownAnswer : Pair → (h : ℕ) → Answer
 shutdownAnswer p h = openingTest p h
 
--- one end: its reading is disabled and it gains PEER_WRITE_DISABLED; its writing loses WRITABLE and gains WRITE_DISABLED; one change
+-- one end: with the flag read its reading is disabled and it gains PEER_WRITE_DISABLED, with the flag write it loses WRITABLE and gains
+-- WRITE_DISABLED; one change
 unfoldable pub shutEnd : Bool → (read write : Bool) → Pair → Pair
 shutEnd t read write p =
     signalChange t (bitIf write WRITABLE) (bitOr (bitIf read «PEER_WRITE_DISABLED») (bitIf write «WRITE_DISABLED»))

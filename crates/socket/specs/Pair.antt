@@ -19,7 +19,7 @@ use Rattle.socket.specs.declared.Pair.{Pair}
 pub use Rattle.ends.specs.Ends.{isOne}
 unfoldable pub use Rattle.ends.specs.Ends.{isHandle}
 
--- the pair without its table of places, of which every answer is made
+-- the pair without its table of places, of which every answer but that of take is made
 abbrev pub endsOf : Pair → Ends
 endsOf p =
     record {

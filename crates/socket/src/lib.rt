@@ -1,6 +1,6 @@
 // A socket pair as a value: each operation is a method that takes the pair and hands the next one back. After `Socket` of ipc/socket.rs.
 //
-// A call is lent the rings and tables that it uses. It answers −1 for a record that no run leaves, so that nothing is demanded of a caller.
+// A call is lent the rings and tables that it uses. It answers −1 for a record that is INTERNAL, so that nothing is demanded of a caller.
 use endpoint::Endpoint;
 use port::Places;
 use status::Answer;

@@ -8,7 +8,7 @@ use port::Places;
 ghost use mathlib.Core.Path.{_≡_};
 ghost use Rattle.socket.specs.Pair.{own, endsOf, shownBy, withPlaces};
 
-// The pair without its table of places, of which every answer is made.
+// The pair without its table of places, of which every answer but that of take is made.
 pub fn ends_of(p: Pair) -> Ends
     ensures { λ r. ⌜ r ≡ endsOf p ⌝ }
 {

@@ -16,7 +16,7 @@ impl Pair {
         deferred::settle(self, r)
     }
 
-    // WRITE_THRESHOLD shows while the peer's queue has at least so much space; 0 is none.
+    // WRITE_THRESHOLD shows while the queue of an open peer has at least so much space; 0 is none.
     pub fn set_write_threshold(self, handle: u32, threshold: u64) -> Step
         ensures { λ r. ⌜ Steps self (writeThresholdAnswer self handle threshold) (writeThresholdSet (isOne handle) threshold self) r ⌝ }
     {
