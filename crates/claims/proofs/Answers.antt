@@ -12,7 +12,7 @@ use Rattle.status.specs.declared.Answer.the-variants.{Done, Refused}
 use Rattle.status.specs.declared.Record.the-variants.{Count}
 use Rattle.status.specs.Choice.{pick, _and_, _or_}
 use Rattle.status.specs.Answer.{recordCount, countOf, isDone, refuseIf, refuseUnless, _then_}
-use Rattle.port.specs.Table.{used}
+use Rattle.places.specs.Table.{used}
 use Rattle.endpoint.specs.declared.Endpoint.{Endpoint}
 use Rattle.endpoint.specs.Write.{datagramSize, writeSize}
 use Rattle.endpoint.specs.Read.{emptyAnswer, availableIn, readSize}

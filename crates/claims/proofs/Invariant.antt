@@ -13,7 +13,7 @@ use Rattle.status.specs.declared.Answer.{Answer}
 use Rattle.status.specs.declared.Answer.the-variants.{Done, Refused}
 use Rattle.status.specs.Choice.{pick, _or_}
 use Rattle.status.specs.Answer.{isDone}
-use Rattle.port.specs.Table.{used, sound}
+use Rattle.places.specs.Table.{used, sound}
 use Rattle.endpoint.specs.declared.Queue.{Queue}
 use Rattle.endpoint.specs.Endpoint.{withQueue, closedEnd}
 use Rattle.transfer.specs.Read.{leaving}

@@ -4,11 +4,13 @@ use mathlib.Core.Path.{_≡_, refl, _∙_}
 use mathlib.Core.Bool.{Bool, true, false, not}
 use lib.Dec.{eqb}
 use Rattle.status.specs.Choice.{pick}
-use Rattle.port.specs.declared.Places.{Places}
-use Rattle.port.specs.Signal.{«PEER_WRITE_DISABLED»}
-use Rattle.port.specs.Table.{used, sound}
-use Rattle.port.specs.Port.{droppedOf, done}
-use Rattle.port.proofs.Operations.{register-done, take-done, drop-done}
+use Rattle.places.specs.declared.Places.{Places}
+use Rattle.signal.specs.Signal.{«PEER_WRITE_DISABLED»}
+use Rattle.places.specs.Table.{used, sound}
+use Rattle.places.specs.Next.{done}
+use Rattle.port.specs.Port.{droppedOf}
+use Rattle.packets.proofs.Operations.{take-done}
+use Rattle.port.proofs.Operations.{register-done, drop-done}
 use Rattle.port.proofs.Sound.{sound-register, sound-change, sound-take, sound-drop}
 use Rattle.endpoint.specs.declared.Endpoint.{Endpoint}
 use Rattle.endpoint.specs.declared.Disposition.{Disposition}

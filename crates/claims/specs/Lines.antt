@@ -16,10 +16,12 @@ use Rattle.claims.specs.Step.{answerOf, start}
 use Rattle.status.specs.Answer.{statusNumber, recordCount, answerWord, countOf, isDone, refuseIf, refuseUnless, _then_}
 use Rattle.status.specs.Choice.{pick, _and_, _or_}
 use Rattle.ring.specs.Ring.{place, front, put}
-use Rattle.port.specs.Lists.{filter}
-use Rattle.port.specs.Port.{firedOf, insertedOf, appendedOf, registeredOf, takenOf, droppedOf, changeOf}
-use Rattle.port.specs.Signal.{changedWord, meets}
-use Rattle.port.specs.Table.{packetsOf, waitsOf, unusedOf, tableOf, newPlaces, endNumber, waitOf, observe, packetOf, fires, fired, kept, ofOther, others}
+use Rattle.places.specs.Lists.{filter}
+use Rattle.firing.specs.Firing.{firedOf, changeOf, fires, fired, kept}
+use Rattle.packets.specs.Packets.{takenOf}
+use Rattle.port.specs.Port.{insertedOf, appendedOf, registeredOf, droppedOf, ofOther, others}
+use Rattle.signal.specs.Signal.{changedWord, meets}
+use Rattle.places.specs.Table.{packetsOf, waitsOf, unusedOf, tableOf, newPlaces, endNumber, waitOf, observe, packetOf}
 use Rattle.endpoint.specs.Disposition.{enables, hasBacklog, hasOpenBacklog, enablesOver, disposeChecks}
 use Rattle.endpoint.specs.Endpoint.{newEnd, noEnd, withQueue, withSignals, withReadDisabled, withThresholds, closedEnd, shown}
 use Rattle.endpoint.specs.Info.{unlessClosed, infoOf}

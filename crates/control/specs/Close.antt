@@ -5,7 +5,7 @@ use lib.Dec.{eqb}
 use Rattle.status.specs.declared.Answer.{Answer}
 use Rattle.status.specs.Choice.{pick}
 use Rattle.status.specs.Answer.{isDone}
-use Rattle.port.specs.Signal.{WRITABLE, «PEER_CLOSED»}
+use Rattle.signal.specs.Signal.{WRITABLE, «PEER_CLOSED»}
 use Rattle.endpoint.specs.declared.Endpoint.{Endpoint}
 use Rattle.endpoint.specs.Endpoint.{closedEnd}
 use Rattle.ends.specs.declared.Ends.{Ends}

@@ -4,7 +4,7 @@ use mathlib.Core.Bool.{Bool, not}
 use Rattle.status.specs.declared.Answer.{Answer}
 use Rattle.status.specs.Choice.{pick}
 use Rattle.status.specs.Answer.{isDone}
-use Rattle.port.specs.Signal.{changedWord}
+use Rattle.signal.specs.Signal.{changedWord}
 use Rattle.endpoint.specs.declared.Endpoint.{Endpoint}
 use Rattle.endpoint.specs.Endpoint.{withSignals}
 use Rattle.endpoint.specs.Write.{bitIf}

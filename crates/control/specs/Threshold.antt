@@ -1,7 +1,7 @@
 -- The thresholds. 01 "Delivered bytes", thresholds.
 use Prim.Native.Nat.{ℕ, _-_}
 use mathlib.Core.Bool.{Bool}
-use Rattle.port.specs.Signal.{«READ_THRESHOLD», «WRITE_THRESHOLD»}
+use Rattle.signal.specs.Signal.{«READ_THRESHOLD», «WRITE_THRESHOLD»}
 use Rattle.endpoint.specs.declared.Endpoint.{Endpoint}
 use Rattle.endpoint.specs.Endpoint.{withThresholds}
 use Rattle.endpoint.specs.Write.{reached}

@@ -1,12 +1,12 @@
 // Close, but for the waits of the end that closes.
-use crate::signal;
+use crate::change;
 use endpoint::Endpoint;
 use ends::Ends;
 use ends::Moved;
 use ends::Outcome;
 use ends::Pending;
-use port::PEER_CLOSED;
-use port::WRITABLE;
+use signal::PEER_CLOSED;
+use signal::WRITABLE;
 use status::Answer;
 ghost use mathlib.Core.Path.{_≡_};
 ghost use Rattle.control.specs.Close.{closeVisit, closeMoved, closeOutcome, closeEnds};
@@ -31,14 +31,14 @@ fn close_moved(one: bool, own: Endpoint, peer: Endpoint) -> Moved
         return ends::kept_ends(gone, peer);
     }
     let first = close_visit(!one, peer.signals);
-    signal::first_only(gone, signal::changed_end(peer, first), first)
+    change::first_only(gone, change::changed_end(peer, first), first)
 }
 
 // A close looks at the waits wherever there are any, as those of its end vanish.
 fn close_outcome(waits: usize, one: bool, answer: Answer, moved: Moved) -> Outcome
     ensures { λ r. ⌜ r ≡ closeOutcome waits one answer moved ⌝ }
 {
-    let mut r = signal::put_both(waits, one, answer, moved);
+    let mut r = change::put_both(waits, one, answer, moved);
     r.fires = waits != 0;
     r
 }

@@ -1,14 +1,14 @@
 // Disposition: whether each end may write.
-use crate::signal;
+use crate::change;
 use endpoint::Disposition;
 use endpoint::Endpoint;
 use ends::Ends;
 use ends::Moved;
 use ends::Outcome;
 use ends::Pending;
-use port::PEER_WRITE_DISABLED;
-use port::WRITABLE;
-use port::WRITE_DISABLED;
+use signal::PEER_WRITE_DISABLED;
+use signal::WRITABLE;
+use signal::WRITE_DISABLED;
 use status::Answer;
 ghost use mathlib.Core.Path.{_≡_};
 ghost use Rattle.control.specs.Disposition.{writingVisit, ownDisposed, peerDisposed, ownMoved, peerMoved, disposedEnds, disposeEnds};
@@ -38,13 +38,13 @@ fn own_disposed(one: bool, own: Endpoint, peer: Endpoint, off: bool) -> Moved
     ensures { λ r. ⌜ r ≡ ownDisposed one own peer off ⌝ }
 {
     let first = writing_visit(one, own.signals, off);
-    let next = signal::changed_end(own, first);
+    let next = change::changed_end(own, first);
     if peer.closed {
-        return signal::first_only(next, peer, first);
+        return change::first_only(next, peer, first);
     }
-    let second = signal::bit_visit(!one, peer.signals, off, PEER_WRITE_DISABLED);
-    let next_peer = signal::changed_end(peer.with_read_disabled(off), second);
-    signal::with_visits(next, next_peer, first, second)
+    let second = change::bit_visit(!one, peer.signals, off, PEER_WRITE_DISABLED);
+    let next_peer = change::changed_end(peer.with_read_disabled(off), second);
+    change::with_visits(next, next_peer, first, second)
 }
 
 // The reading flag of this end in any case; with an open peer the peer's writing, then this end's PEER_WRITE_DISABLED.
@@ -56,10 +56,10 @@ fn peer_disposed(one: bool, own: Endpoint, peer: Endpoint, off: bool) -> Moved
         return ends::kept_ends(flagged, peer);
     }
     let first = writing_visit(!one, peer.signals, off);
-    let second = signal::bit_visit(one, own.signals, off, PEER_WRITE_DISABLED);
-    let next_peer = signal::changed_end(peer, first);
-    let next = signal::changed_end(flagged, second);
-    signal::with_visits(next, next_peer, first, second)
+    let second = change::bit_visit(one, own.signals, off, PEER_WRITE_DISABLED);
+    let next_peer = change::changed_end(peer, first);
+    let next = change::changed_end(flagged, second);
+    change::with_visits(next, next_peer, first, second)
 }
 
 fn own_moved(one: bool, own: Endpoint, peer: Endpoint, d: Disposition) -> Moved

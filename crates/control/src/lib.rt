@@ -1,9 +1,9 @@
 // Disposition, shutdown, thresholds and close over both ends of a pair: each is tested, then changes the two ends, and the waits are visited
 // later. After `Socket` of ipc/socket.rs.
+mod change;
 mod close;
 mod disposition;
 mod shutdown;
-mod signal;
 mod threshold;
 
 pub use close::close_ends;

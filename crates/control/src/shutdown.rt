@@ -1,14 +1,14 @@
 // Shutdown.
-use crate::signal;
+use crate::change;
 use endpoint::Endpoint;
 use endpoint::bit_if;
 use ends::Ends;
 use ends::Moved;
 use ends::Outcome;
 use ends::Pending;
-use port::PEER_WRITE_DISABLED;
-use port::WRITABLE;
-use port::WRITE_DISABLED;
+use signal::PEER_WRITE_DISABLED;
+use signal::WRITABLE;
+use signal::WRITE_DISABLED;
 ghost use mathlib.Core.Path.{_≡_};
 ghost use Rattle.status.specs.Choice.{pick};
 ghost use Rattle.endpoint.specs.Endpoint.{withReadDisabled};
@@ -33,9 +33,9 @@ fn shut_end(e: Endpoint, read: bool, change: Pending) -> Endpoint
     ensures { λ r. ⌜ r ≡ changedEnd change (pick read (withReadDisabled true e) e) ⌝ }
 {
     if read {
-        return signal::changed_end(e.with_read_disabled(true), change);
+        return change::changed_end(e.with_read_disabled(true), change);
     }
-    signal::changed_end(e, change)
+    change::changed_end(e, change)
 }
 
 // This end's part, then an open peer's with both flags negated.
@@ -45,11 +45,11 @@ fn shut_moved(one: bool, own: Endpoint, peer: Endpoint, read: bool, write: bool)
     let first = shut_visit(one, own.signals, read, write);
     let next = shut_end(own, read, first);
     if peer.closed {
-        return signal::first_only(next, peer, first);
+        return change::first_only(next, peer, first);
     }
     let second = shut_visit(!one, peer.signals, !read, !write);
     let next_peer = shut_end(peer, !read, second);
-    signal::with_visits(next, next_peer, first, second)
+    change::with_visits(next, next_peer, first, second)
 }
 
 // Ends reading, writing or both at this end; an open peer gets the same with both flags negated.
@@ -62,5 +62,5 @@ pub fn shutdown_ends(e: Ends, handle: u32, read: bool, write: bool) -> Outcome
     }
     let one = handle == 1;
     let moved = shut_moved(one, e.own(one), e.peer(one), read, write);
-    signal::put_both(e.waits, one, a, moved)
+    change::put_both(e.waits, one, a, moved)
 }

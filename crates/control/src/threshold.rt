@@ -1,12 +1,12 @@
 // The thresholds.
-use crate::signal;
+use crate::change;
 use endpoint::Endpoint;
 use endpoint::is_reached;
 use ends::Ends;
 use ends::Moved;
 use ends::Outcome;
-use port::READ_THRESHOLD;
-use port::WRITE_THRESHOLD;
+use signal::READ_THRESHOLD;
+use signal::WRITE_THRESHOLD;
 use status::Thresholds;
 ghost use mathlib.Core.Path.{_≡_};
 ghost use Prim.Native.Nat.{_≤_};
@@ -25,9 +25,9 @@ fn thresholds_moved(
 ) -> Moved
     ensures { λ r. ⌜ r ≡ firstOnly (changedEnd (bitVisit one (own .signals) reached bit) (withThresholds thresholds own)) peer (bitVisit one (own .signals) reached bit) ⌝ }
 {
-    let first = signal::bit_visit(one, own.signals, reached, bit);
-    let next = signal::changed_end(own.with_thresholds(thresholds), first);
-    signal::first_only(next, peer, first)
+    let first = change::bit_visit(one, own.signals, reached, bit);
+    let next = change::changed_end(own.with_thresholds(thresholds), first);
+    change::first_only(next, peer, first)
 }
 
 fn read_threshold_moved(one: bool, own: Endpoint, peer: Endpoint, threshold: u64) -> Moved
@@ -69,7 +69,7 @@ pub fn read_threshold_ends(e: Ends, handle: u32, threshold: u64) -> Outcome
     }
     let one = handle == 1;
     let moved = read_threshold_moved(one, e.own(one), e.peer(one), threshold);
-    signal::put_both(e.waits, one, a, moved)
+    change::put_both(e.waits, one, a, moved)
 }
 
 // WRITE_THRESHOLD shows while the queue of an open peer has at least so much space; 0 is none.
@@ -82,5 +82,5 @@ pub fn write_threshold_ends(e: Ends, handle: u32, threshold: u64) -> Outcome
     }
     let one = handle == 1;
     let moved = write_threshold_moved(e.capacity, one, e.own(one), e.peer(one), threshold);
-    signal::put_both(e.waits, one, a, moved)
+    change::put_both(e.waits, one, a, moved)
 }

@@ -5,7 +5,7 @@ use Rattle.status.specs.declared.Status.the-variants.{BadState}
 use Rattle.status.specs.declared.Answer.{Answer}
 use Rattle.status.specs.Choice.{pick, _and_}
 use Rattle.status.specs.Answer.{refuseIf, _then_}
-use Rattle.port.specs.Signal.{«PEER_WRITE_DISABLED», meets}
+use Rattle.signal.specs.Signal.{«PEER_WRITE_DISABLED», meets}
 use Rattle.endpoint.specs.declared.Endpoint.{Endpoint}
 use Rattle.endpoint.specs.declared.Disposition.{Disposition}
 use Rattle.endpoint.specs.declared.Disposition.the-variants.{Unchanged, Disable, Enable}

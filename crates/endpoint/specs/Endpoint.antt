@@ -3,7 +3,7 @@ use Prim.Native.Nat.{ℕ}
 use mathlib.Core.Bool.{Bool, true, false}
 use Rattle.status.specs.declared.Thresholds.{Thresholds}
 use Rattle.status.specs.Choice.{pick}
-use Rattle.port.specs.Signal.{WRITABLE}
+use Rattle.signal.specs.Signal.{WRITABLE}
 use Rattle.endpoint.specs.declared.Queue.{Queue}
 use Rattle.endpoint.specs.declared.Endpoint.{Endpoint}
 use Rattle.endpoint.specs.declared.SignalWord.{SignalWord}

@@ -9,7 +9,7 @@ use Rattle.status.specs.declared.Answer.{Answer}
 use Rattle.status.specs.declared.Answer.the-variants.{Done, Refused}
 use Rattle.status.specs.Choice.{pick}
 use Rattle.status.specs.Answer.{refuseIf, _then_}
-use Rattle.port.specs.Signal.{READABLE, WRITABLE, «READ_THRESHOLD», «WRITE_THRESHOLD»}
+use Rattle.signal.specs.Signal.{READABLE, WRITABLE, «READ_THRESHOLD», «WRITE_THRESHOLD»}
 use Rattle.endpoint.specs.declared.Endpoint.{Endpoint}
 use Rattle.endpoint.specs.Write.{reached, missed, bitIf}
 

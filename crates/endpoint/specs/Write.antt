@@ -9,7 +9,7 @@ use Rattle.status.specs.declared.Answer.{Answer}
 use Rattle.status.specs.declared.Answer.the-variants.{Done}
 use Rattle.status.specs.Choice.{pick, _and_}
 use Rattle.status.specs.Answer.{refuseIf, _then_}
-use Rattle.port.specs.Signal.{READABLE, WRITABLE, «WRITE_DISABLED», «READ_THRESHOLD», «WRITE_THRESHOLD», meets}
+use Rattle.signal.specs.Signal.{READABLE, WRITABLE, «WRITE_DISABLED», «READ_THRESHOLD», «WRITE_THRESHOLD», meets}
 use Rattle.endpoint.specs.declared.Endpoint.{Endpoint}
 
 -- a datagram is taken whole or refused

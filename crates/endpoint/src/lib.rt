@@ -1,11 +1,11 @@
 // One end of a socket pair: its queue, its signal word, its thresholds; and what a call asks of the two ends. After `SocketInner` of
 // ipc/socket.rs.
-use port::PEER_WRITE_DISABLED;
-use port::READ_THRESHOLD;
-use port::READABLE;
-use port::WRITABLE;
-use port::WRITE_DISABLED;
-use port::WRITE_THRESHOLD;
+use signal::PEER_WRITE_DISABLED;
+use signal::READ_THRESHOLD;
+use signal::READABLE;
+use signal::WRITABLE;
+use signal::WRITE_DISABLED;
+use signal::WRITE_THRESHOLD;
 use status::Answer;
 use status::Record;
 use status::SocketInfo;
@@ -13,7 +13,7 @@ use status::Status;
 use status::Thresholds;
 ghost use mathlib.Core.Path.{_≡_};
 ghost use Prim.Native.Nat.{min};
-ghost use Rattle.port.specs.Signal.{meets};
+ghost use Rattle.signal.specs.Signal.{meets};
 ghost use Rattle.endpoint.specs.Queue.{badFirst, firstLength, hasLength, noQueue, shortSlices, shortTable, soundLengths, soundQueue};
 ghost use Rattle.endpoint.specs.Endpoint.{closedEnd, newEnd, noEnd, shown, withQueue, withReadDisabled, withSignals, withThresholds};
 ghost use Rattle.endpoint.specs.Write.{bitIf, datagramSize, gainedByPeer, lostByWriter, missed, reached, writeSize};

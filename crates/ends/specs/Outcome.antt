@@ -5,7 +5,7 @@ use mathlib.Core.Bool.{Bool, true, false, not}
 use lib.Dec.{eqb}
 use Rattle.status.specs.declared.Answer.{Answer}
 use Rattle.status.specs.Choice.{pick, _or_}
-use Rattle.port.specs.Signal.{changedWord}
+use Rattle.signal.specs.Signal.{changedWord}
 use Rattle.endpoint.specs.declared.Endpoint.{Endpoint}
 use Rattle.ends.specs.declared.Ends.{Ends}
 use Rattle.ends.specs.declared.Pending.{Pending}

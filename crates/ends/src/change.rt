@@ -6,7 +6,7 @@ use crate::Outcome;
 use crate::Pending;
 use crate::Visits;
 use endpoint::Endpoint;
-use port::changed;
+use signal::changed;
 use status::Answer;
 ghost use mathlib.Core.Path.{_≡_};
 ghost use Rattle.status.specs.Choice.{pick};

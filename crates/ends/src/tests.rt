@@ -19,7 +19,7 @@ fn is_sound(p: Ends) -> bool
     if p.capacity > 262144 {
         return false;
     }
-    if !port::is_sound(p.packets, p.waits) {
+    if !places::is_sound(p.packets, p.waits) {
         return false;
     }
     let one = p.one.queue;

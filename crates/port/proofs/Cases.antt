@@ -7,12 +7,15 @@ use Rattle.status.specs.Choice.{pick, _and_}
 use Rattle.status.specs.declared.Status.the-variants.{NoResources}
 use Rattle.status.specs.declared.Answer.the-variants.{Done, Refused}
 use Rattle.status.specs.declared.Record.the-variants.{Packet}
-use Rattle.port.specs.declared.Place.{Place}
-use Rattle.port.specs.declared.Places.{Places}
-use Rattle.port.specs.Lists.{filter}
-use Rattle.port.specs.Signal.{READABLE, WRITABLE, changedWord, meets}
-use Rattle.port.specs.Table.{packetsOf, waitsOf, unusedOf, tableOf, newPlaces, endNumber, waitOf, observe, packetOf, fires, fired, kept}
-use Rattle.port.specs.Port.{firedOf, insertedOf, appendedOf, registeredOf, refused, done, registerOf, changeOf, takeOf}
+use Rattle.places.specs.declared.Place.{Place}
+use Rattle.places.specs.declared.Places.{Places}
+use Rattle.places.specs.Lists.{filter}
+use Rattle.signal.specs.Signal.{READABLE, WRITABLE, changedWord, meets}
+use Rattle.places.specs.Table.{packetsOf, waitsOf, unusedOf, tableOf, newPlaces, endNumber, waitOf, observe, packetOf}
+use Rattle.firing.specs.Firing.{fires, fired, kept, firedOf, changeOf}
+use Rattle.places.specs.Next.{refused, done}
+use Rattle.packets.specs.Packets.{takeOf}
+use Rattle.port.specs.Port.{insertedOf, appendedOf, registeredOf, registerOf}
 
 -- a wait of end 2 on READABLE, while the end's word is WRITABLE
 unfoldable pub wait : ℕ → Places → Places

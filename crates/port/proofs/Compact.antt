@@ -7,8 +7,8 @@ use native.Mathlib.Omega.{arith}
 use lib.ListN.{length, take, drop, getD, set, replicate, length-append, length-set, take-append-drop}
 use lib.Seq.{slice, slice-empty, take-suc-set, take-set-lt, drop-set-lt, length-take-le, set-at}
 use Rattle.status.specs.Choice.{pick}
-use Rattle.port.specs.Lists.{filter}
-use Rattle.port.proofs.Lists.{filter-snoc-yes, filter-snoc-no, replicate-snoc, drop-more, read-from, slice-snoc}
+use Rattle.places.specs.Lists.{filter}
+use Rattle.places.proofs.Lists.{filter-snoc-yes, filter-snoc-no, replicate-snoc, drop-more, read-from, slice-snoc}
 
 module _ {A : Type 0} where
   -- the list out after the part of tab from p to u is visited up to i: what passes stands from p to n, and z from there to i

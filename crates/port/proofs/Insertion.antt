@@ -7,12 +7,12 @@ use native.Mathlib.Omega.{arith}
 use lib.ListN.{length, take, drop, length-append}
 use lib.Seq.{slice, length-slice, length-take-le}
 use Rattle.status.specs.Choice.{pick}
-use Rattle.port.specs.declared.Place.{Place}
-use Rattle.port.specs.declared.Places.{Places}
-use Rattle.port.specs.Table.{used, packetsOf, waitsOf, unusedOf, tableOf}
+use Rattle.places.specs.declared.Place.{Place}
+use Rattle.places.specs.declared.Places.{Places}
+use Rattle.places.specs.Table.{used, packetsOf, waitsOf, unusedOf, tableOf}
 use Rattle.port.specs.Port.{insertedOf, appendedOf}
-use Rattle.port.proofs.Shift.{put-behind}
-use Rattle.port.proofs.Size.{same-places}
+use Rattle.places.proofs.Shift.{put-behind}
+use Rattle.places.proofs.Size.{same-places}
 
 -- the index is that of a used place or of the first unused one
 pub index-fits : (packet : Bool) (p w : ℕ) → pick packet p (p + w) ≤ p + w

@@ -9,13 +9,18 @@ use lib.ListN.{length, drop, replicate, length-append, length-drop, length-repli
 use lib.Dec.{eqb}
 use borrow.Author.Tests.{leb-true, eqb-true, eqb-false}
 use Rattle.status.specs.Choice.{pick}
-use Rattle.port.specs.declared.Place.{Place}
-use Rattle.port.specs.declared.Places.{Places}
-use Rattle.port.specs.Signal.{changedWord, meets}
-use Rattle.port.specs.Table.{free, used, sound, packetsOf, waitsOf, unusedOf, tableOf, newPlaces, waitOf, observe, fired, kept, others}
-use Rattle.port.specs.Port.{firedOf, insertedOf, appendedOf, registeredOf, takenOf, droppedOf, refused, done, registerOf, changeOf, takeOf, dropOf}
-use Rattle.port.proofs.Lists.{either}
-use Rattle.port.proofs.Operations.{register-unsound, register-full, register-done, change-unsound, change-sound, take-unsound, take-none, take-done, drop-unsound, drop-done}
+use Rattle.places.specs.declared.Place.{Place}
+use Rattle.places.specs.declared.Places.{Places}
+use Rattle.signal.specs.Signal.{changedWord, meets}
+use Rattle.places.specs.Table.{free, used, sound, packetsOf, waitsOf, unusedOf, tableOf, newPlaces, waitOf, observe}
+use Rattle.firing.specs.Firing.{fired, kept, firedOf, changeOf}
+use Rattle.port.specs.Port.{others, insertedOf, appendedOf, registeredOf, droppedOf, registerOf, dropOf}
+use Rattle.places.specs.Next.{refused, done}
+use Rattle.packets.specs.Packets.{takenOf, takeOf}
+use Rattle.places.proofs.Lists.{either}
+use Rattle.firing.proofs.Operations.{change-unsound, change-sound}
+use Rattle.packets.proofs.Operations.{take-unsound, take-none, take-done}
+use Rattle.port.proofs.Operations.{register-unsound, register-full, register-done, drop-unsound, drop-done}
 use Rattle.port.proofs.Sound.{length-packets, length-waits, length-fired, length-others, used-fired}
 
 length-table : (ps ws us : List Place) → length (tableOf ps ws us .table) ≡ length ps + (length ws + length us)

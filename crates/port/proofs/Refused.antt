@@ -8,11 +8,16 @@ use lib.Dec.{eqb}
 use borrow.Author.Tests.{leb-true, eqb-true, eqb-false}
 use Rattle.status.specs.Answer.{isDone, refuseIf, refuseUnless, _then_}
 use Rattle.status.specs.declared.Status.the-variants.{Internal, NoResources}
-use Rattle.port.specs.declared.Places.{Places}
-use Rattle.port.specs.Table.{used, sound}
-use Rattle.port.specs.Port.{refused, done, registerOf, changeOf, takeOf, dropOf}
-use Rattle.port.proofs.Lists.{either}
-use Rattle.port.proofs.Operations.{register-unsound, register-full, register-done, change-unsound, change-sound, take-unsound, take-none, take-done, drop-unsound, drop-done}
+use Rattle.places.specs.declared.Places.{Places}
+use Rattle.places.specs.Table.{used, sound}
+use Rattle.places.specs.Next.{refused, done}
+use Rattle.firing.specs.Firing.{changeOf}
+use Rattle.packets.specs.Packets.{takeOf}
+use Rattle.port.specs.Port.{registerOf, dropOf}
+use Rattle.places.proofs.Lists.{either}
+use Rattle.firing.proofs.Operations.{change-unsound, change-sound}
+use Rattle.packets.proofs.Operations.{take-unsound, take-none, take-done}
+use Rattle.port.proofs.Operations.{register-unsound, register-full, register-done, drop-unsound, drop-done}
 
 -- the answer to a registration, as a chain of tests
 pub register-answer : (one : Bool) (w key mask : ℕ) (edge : Bool) (t : Places)

@@ -11,14 +11,20 @@ use lib.Seq.{length-slice, length-take-le}
 use lib.Dec.{eqb}
 use borrow.Author.Tests.{leb-true, eqb-true, eqb-false}
 use Rattle.status.specs.Choice.{pick}
-use Rattle.port.specs.declared.Place.{Place}
-use Rattle.port.specs.declared.Places.{Places}
-use Rattle.port.specs.Lists.{filter}
-use Rattle.port.specs.Signal.{changedWord, meets}
-use Rattle.port.specs.Table.{used, sound, packetsOf, waitsOf, tableOf, newPlaces, waitOf, observe, fires, fired, kept, ofOther, others}
-use Rattle.port.specs.Port.{firedOf, insertedOf, appendedOf, registeredOf, takenOf, droppedOf, refused, done, registerOf, changeOf, takeOf, dropOf}
-use Rattle.port.proofs.Lists.{either, length-filter}
-use Rattle.port.proofs.Operations.{sound-below, register-full, register-done, change-sound, take-none, take-done, drop-done}
+use Rattle.places.specs.declared.Place.{Place}
+use Rattle.places.specs.declared.Places.{Places}
+use Rattle.places.specs.Lists.{filter}
+use Rattle.signal.specs.Signal.{changedWord, meets}
+use Rattle.places.specs.Table.{used, sound, packetsOf, waitsOf, tableOf, newPlaces, waitOf, observe}
+use Rattle.firing.specs.Firing.{fires, fired, kept, firedOf, changeOf}
+use Rattle.port.specs.Port.{ofOther, others, insertedOf, appendedOf, registeredOf, droppedOf, registerOf, dropOf}
+use Rattle.places.specs.Next.{refused, done}
+use Rattle.packets.specs.Packets.{takenOf, takeOf}
+use Rattle.places.proofs.Lists.{either, length-filter}
+use Rattle.places.proofs.Tests.{sound-below}
+use Rattle.firing.proofs.Operations.{change-sound}
+use Rattle.packets.proofs.Operations.{take-none, take-done}
+use Rattle.port.proofs.Operations.{register-full, register-done, drop-done}
 
 -- ---- how many packets and waits there are
 

@@ -1,8 +1,2 @@
--- Signal: the signals' bits, one change of a word, and whether a mask meets it (01 "Signal word and packets").
--- Lists: the elements of a list that pass a test, and whether any does.
--- Table: the table of 128 places, its packets and its waits (01 "Signal word and packets").
--- Port: what each operation on the table answers and leaves (01 "Signal word and packets").
-pub mod Signal
-pub mod Lists
-pub mod Table
+-- Port: what registering a wait and dropping an end's waits answer and leave (01 "Signal word and packets").
 pub mod Port

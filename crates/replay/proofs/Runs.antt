@@ -12,7 +12,7 @@ use lib.Seq.{take-all, take-append-add, take-append-le}
 use borrow.Author.Tests.{le-leb, leb-true, leb-false}
 use borrow.Rule.Slice.PartMut.{midOf, putMid, postOf}
 use Rattle.status.specs.Choice.{_and_}
-use Rattle.port.proofs.Lists.{either}
+use Rattle.places.proofs.Lists.{either}
 use Rattle.text.specs.Put.{place, Put, Written}
 use Rattle.text.proofs.Place.{place-front}
 use Rattle.script.specs.declared.State.{State}

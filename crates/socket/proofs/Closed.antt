@@ -10,11 +10,12 @@ use Rattle.status.specs.declared.Answer.{Answer}
 use Rattle.status.specs.Choice.{pick}
 use Rattle.status.specs.Answer.{isDone}
 use Rattle.status.proofs.Rules.{pick-on, pick-off}
-use Rattle.port.specs.declared.Next.{Next}
-use Rattle.port.specs.Signal.{WRITABLE, «PEER_CLOSED»}
-use Rattle.port.specs.Table.{sound}
-use Rattle.port.specs.Port.{done, droppedOf, dropOf}
-use Rattle.port.proofs.Lists.{either}
+use Rattle.places.specs.declared.Next.{Next}
+use Rattle.signal.specs.Signal.{WRITABLE, «PEER_CLOSED»}
+use Rattle.places.specs.Table.{sound}
+use Rattle.places.specs.Next.{done}
+use Rattle.port.specs.Port.{droppedOf, dropOf}
+use Rattle.places.proofs.Lists.{either}
 use Rattle.port.proofs.Operations.{drop-done}
 use Rattle.port.proofs.Idle.{idle-drop}
 use Rattle.port.proofs.Sound.{sound-drop}

@@ -4,8 +4,8 @@ use mathlib.Core.Path.{_≡_, refl, sym, ap, _∙_}
 use mathlib.Core.Bool.{Bool, true, false, not}
 use lib.Bits.{bitOr}
 use Rattle.status.specs.Choice.{pick}
-use Rattle.port.specs.Signal.{WRITABLE, «PEER_CLOSED», «WRITE_DISABLED», «PEER_WRITE_DISABLED», «READ_THRESHOLD», «WRITE_THRESHOLD»}
-use Rattle.port.specs.Table.{sound}
+use Rattle.signal.specs.Signal.{WRITABLE, «PEER_CLOSED», «WRITE_DISABLED», «PEER_WRITE_DISABLED», «READ_THRESHOLD», «WRITE_THRESHOLD»}
+use Rattle.places.specs.Table.{sound}
 use Rattle.port.proofs.Sound.{sound-change}
 use Rattle.endpoint.specs.declared.Disposition.{Disposition}
 use Rattle.endpoint.specs.declared.Disposition.the-variants.{Unchanged, Disable, Enable}

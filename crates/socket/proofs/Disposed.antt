@@ -8,7 +8,7 @@ use Rattle.status.specs.Choice.{pick, _or_}
 use Rattle.status.specs.Answer.{isDone}
 use Rattle.status.proofs.Chains.{neither, then-both}
 use Rattle.status.proofs.Rules.{pick-on, pick-off}
-use Rattle.port.specs.Table.{sound}
+use Rattle.places.specs.Table.{sound}
 use Rattle.port.proofs.Sound.{sound-change}
 use Rattle.endpoint.specs.declared.Disposition.{Disposition}
 use Rattle.ends.specs.declared.Ends.{Ends}

@@ -10,7 +10,7 @@ use Rattle.status.specs.declared.Answer.{Answer}
 use Rattle.status.specs.Choice.{pick, _or_}
 use Rattle.status.specs.Answer.{isDone, countOf}
 use Rattle.status.proofs.Chains.{counted, neither, then-both}
-use Rattle.port.specs.Table.{sound}
+use Rattle.places.specs.Table.{sound}
 use Rattle.endpoint.specs.Queue.{firstLength}
 use Rattle.ends.specs.declared.Ends.{Ends}
 use Rattle.ends.specs.declared.Moved.{Moved}

@@ -14,14 +14,14 @@ use Rattle.status.specs.declared.Answer.{Answer}
 use Rattle.status.specs.Choice.{pick, _and_, _or_}
 use Rattle.status.proofs.Rules.{pick-on, pick-off}
 use Rattle.status.proofs.Chains.{neither}
-use Rattle.port.specs.declared.Places.{Places}
-use Rattle.port.specs.Signal.{changedWord}
-use Rattle.port.specs.Table.{sound}
-use Rattle.port.specs.Port.{onlyWait, changeOf}
-use Rattle.port.proofs.Lists.{either}
-use Rattle.port.proofs.Operations.{change-sound, change-unsound, change-same}
-use Rattle.port.proofs.Size.{table-128}
-use Rattle.port.proofs.Idle.{nothing-fires, idle-change}
+use Rattle.places.specs.declared.Places.{Places}
+use Rattle.signal.specs.Signal.{changedWord}
+use Rattle.places.specs.Table.{sound, onlyWait}
+use Rattle.firing.specs.Firing.{changeOf}
+use Rattle.places.proofs.Lists.{either}
+use Rattle.firing.proofs.Operations.{change-sound, change-unsound, change-same}
+use Rattle.places.proofs.Size.{table-128}
+use Rattle.firing.proofs.Idle.{nothing-fires, idle-change}
 use Rattle.port.proofs.Sound.{sound-change}
 use Rattle.endpoint.specs.Endpoint.{withQueue, withSignals}
 use Rattle.ends.specs.declared.Pending.{Pending}

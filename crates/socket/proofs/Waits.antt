@@ -14,12 +14,15 @@ use Rattle.status.specs.declared.Answer.the-variants.{Done}
 use Rattle.status.specs.Choice.{pick}
 use Rattle.status.specs.Answer.{isDone, refuseIf, _then_}
 use Rattle.status.proofs.Chains.{then-both, refuse-passed}
-use Rattle.port.specs.declared.Places.{Places}
-use Rattle.port.specs.declared.Next.{Next}
-use Rattle.port.specs.Table.{sound, free, packetsOf, packetOf}
-use Rattle.port.specs.Port.{done, refused, registerOf, takeOf}
-use Rattle.port.proofs.Lists.{either}
-use Rattle.port.proofs.Operations.{register-done, take-none, take-done}
+use Rattle.places.specs.declared.Places.{Places}
+use Rattle.places.specs.declared.Next.{Next}
+use Rattle.places.specs.Table.{sound, free, packetsOf, packetOf}
+use Rattle.places.specs.Next.{done, refused}
+use Rattle.packets.specs.Packets.{takeOf}
+use Rattle.port.specs.Port.{registerOf}
+use Rattle.places.proofs.Lists.{either}
+use Rattle.packets.proofs.Operations.{take-none, take-done}
+use Rattle.port.proofs.Operations.{register-done}
 use Rattle.ends.proofs.Sound.{sound-passed, wait-room}
 use Rattle.socket.specs.declared.Pair.{Pair}
 use Rattle.socket.specs.Pair.{isOne, own, endsOf, withPlaces}

@@ -2,9 +2,10 @@
 -- proofs/Visiting, Control, Disposed and Closed say that the visits can wait until all words have changed.
 use mathlib.Core.Bool.{Bool, false}
 use Rattle.status.specs.Choice.{pick}
-use Rattle.port.specs.declared.Places.{Places}
-use Rattle.port.specs.Signal.{changedWord}
-use Rattle.port.specs.Port.{firesOf, changeOf, dropOf}
+use Rattle.places.specs.declared.Places.{Places}
+use Rattle.signal.specs.Signal.{changedWord}
+use Rattle.firing.specs.Firing.{firesOf, changeOf}
+use Rattle.port.specs.Port.{dropOf}
 use Rattle.endpoint.specs.declared.Endpoint.{Endpoint}
 use Rattle.ends.specs.declared.Pending.{Pending}
 use Rattle.ends.specs.declared.Visits.{Visits}

@@ -4,7 +4,7 @@ use mathlib.Core.Bool.{Bool, true, false, not}
 use lib.Bits.{bitOr}
 use Rattle.status.specs.declared.Answer.{Answer}
 use Rattle.status.specs.Choice.{pick}
-use Rattle.port.specs.Signal.{WRITABLE, «WRITE_DISABLED», «PEER_WRITE_DISABLED»}
+use Rattle.signal.specs.Signal.{WRITABLE, «WRITE_DISABLED», «PEER_WRITE_DISABLED»}
 use Rattle.endpoint.specs.declared.Disposition.{Disposition}
 use Rattle.endpoint.specs.declared.Disposition.the-variants.{Unchanged, Disable, Enable}
 use Rattle.endpoint.specs.Write.{bitIf}

@@ -4,10 +4,10 @@
 use Prim.Native.Nat.{ℕ}
 use mathlib.Core.Bool.{Bool, true, false, not}
 use Rattle.status.specs.Choice.{pick}
-use Rattle.port.specs.declared.Places.{Places}
-use Rattle.port.specs.declared.Change.{Change}
-use Rattle.port.specs.Table.{newPlaces}
-use Rattle.port.specs.Port.{changeOf}
+use Rattle.places.specs.declared.Places.{Places}
+use Rattle.places.specs.declared.Change.{Change}
+use Rattle.places.specs.Table.{newPlaces}
+use Rattle.firing.specs.Firing.{changeOf}
 use Rattle.endpoint.specs.declared.Endpoint.{Endpoint}
 use Rattle.endpoint.specs.declared.SignalWord.{SignalWord}
 use Rattle.endpoint.specs.declared.SignalWord.the-variants.{Closed}

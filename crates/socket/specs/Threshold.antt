@@ -2,7 +2,7 @@
 use Prim.Native.Nat.{ℕ, _-_}
 use mathlib.Core.Bool.{Bool}
 use Rattle.status.specs.declared.Answer.{Answer}
-use Rattle.port.specs.Signal.{«READ_THRESHOLD», «WRITE_THRESHOLD»}
+use Rattle.signal.specs.Signal.{«READ_THRESHOLD», «WRITE_THRESHOLD»}
 use Rattle.endpoint.specs.Endpoint.{withThresholds}
 use Rattle.endpoint.specs.Write.{reached}
 use Rattle.ends.specs.Threshold as E

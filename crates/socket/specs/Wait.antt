@@ -9,9 +9,10 @@ use Rattle.status.specs.declared.Answer.{Answer}
 use Rattle.status.specs.declared.Answer.the-variants.{Done}
 use Rattle.status.specs.Choice.{pick}
 use Rattle.status.specs.Answer.{refuseIf, _then_}
-use Rattle.port.specs.Signal.{WRITABLE, «PEER_CLOSED»}
-use Rattle.port.specs.Table.{free, packetsOf, packetOf, waitOf}
-use Rattle.port.specs.Port.{registeredOf, takenOf, droppedOf}
+use Rattle.signal.specs.Signal.{WRITABLE, «PEER_CLOSED»}
+use Rattle.places.specs.Table.{free, packetsOf, packetOf, waitOf}
+use Rattle.packets.specs.Packets.{takenOf}
+use Rattle.port.specs.Port.{registeredOf, droppedOf}
 use Rattle.endpoint.specs.Endpoint.{closedEnd}
 use Rattle.ends.specs.Wait as E
 use Rattle.socket.specs.declared.Pair.{Pair}

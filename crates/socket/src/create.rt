@@ -3,7 +3,7 @@ use crate::Pair;
 use crate::Step;
 use endpoint::Endpoint;
 use endpoint::bit_if;
-use port::Places;
+use places::Places;
 ghost use mathlib.Core.Path.{_≡_};
 ghost use mathlib.Core.Bool.{false};
 ghost use lib.ListN.{length};

@@ -6,8 +6,8 @@ use crate::parts;
 use ends::Outcome;
 use ends::Pending;
 use ends::Visits;
-use port::Places;
-use port::changed;
+use places::Places;
+use signal::changed;
 ghost use mathlib.Core.Path.{_≡_};
 ghost use Rattle.socket.specs.Pair.{isOne};
 ghost use Rattle.port.specs.Port.{dropOf};
@@ -20,18 +20,18 @@ fn is_due(t: Places, a: Pending) -> bool
     if ends::keeps_word(a) {
         return false;
     }
-    t.fires(a.one, changed(a.word, a.clear, a.set))
+    firing::fires(t, a.one, changed(a.word, a.clear, a.set))
 }
 
 // Visits the waits of a change. Mostly there is one wait alone, and then little of the table is touched.
 fn visited(t: Places, a: Pending) -> Places
     ensures { λ r. ⌜ r ≡ visited a t ⌝ }
 {
-    if port::is_only_wait(t.packets, t.waits) {
-        return port::only_visited(t, a.one, a.word, a.clear, a.set);
+    if places::is_only_wait(t.packets, t.waits) {
+        return firing::only_visited(t, a.one, a.word, a.clear, a.set);
     }
     if is_due(t, a) {
-        let c = t.change(a.one, a.word, a.clear, a.set);
+        let c = firing::change(t, a.one, a.word, a.clear, a.set);
         let places = c.places;
         return places;
     }
@@ -109,7 +109,7 @@ pub fn settle_all(p: Pair, r: Outcome) -> Step
 fn without_waits(t: Places, one: bool) -> Places
     ensures { λ r. ⌜ r ≡ dropOf one t .places ⌝ }
 {
-    let n = t.drop_waits(one);
+    let n = port::drop_waits(t, one);
     let places = n.places;
     places
 }

@@ -2,7 +2,7 @@
 //
 // A call is lent the rings and tables that it uses. It answers −1 for a record that is INTERNAL, so that nothing is demanded of a caller.
 use endpoint::Endpoint;
-use port::Places;
+use places::Places;
 use status::Answer;
 
 mod close;

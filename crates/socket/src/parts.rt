@@ -4,7 +4,7 @@ use endpoint::Endpoint;
 use endpoint::SignalWord;
 use ends::Ends;
 use ends::is_handle;
-use port::Places;
+use places::Places;
 ghost use mathlib.Core.Path.{_≡_};
 ghost use Rattle.socket.specs.Pair.{own, endsOf, shownBy, withPlaces};
 

@@ -6,7 +6,8 @@ use status::Answer;
 ghost use mathlib.Core.Path.{_≡_};
 ghost use lib.Dec.{eqb};
 ghost use Rattle.status.specs.Choice.{pick};
-ghost use Rattle.port.specs.Port.{registerOf, takeOf};
+ghost use Rattle.packets.specs.Packets.{takeOf};
+ghost use Rattle.port.specs.Port.{registerOf};
 ghost use Rattle.socket.specs.Pair.{isOne, own, withPlaces};
 ghost use Rattle.socket.specs.Tests.{Steps};
 ghost use Rattle.socket.specs.Wait.{waitAnswer, waited, takeAnswer, took};
@@ -29,14 +30,14 @@ fn take_answer(p: Pair) -> Answer
         return a;
     }
     let places = p.places;
-    port::oldest(places)
+    packets::oldest(places)
 }
 
 fn taken_pair(p: Pair, asked: bool) -> Pair
     ensures { λ r. ⌜ r ≡ withPlaces (pick asked (takeOf (p .places) .places) (p .places)) p ⌝ }
 {
     let places = p.places;
-    let next = port::taken(places, asked);
+    let next = packets::taken(places, asked);
     parts::with_places(p, next)
 }
 

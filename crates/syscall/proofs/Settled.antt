@@ -7,7 +7,7 @@ use lib.ListN.{length}
 use Rattle.status.specs.Choice.{pick}
 use Rattle.status.specs.Answer.{countOf, isDone}
 use Rattle.status.proofs.Chains.{counted}
-use Rattle.port.specs.Table.{sound}
+use Rattle.places.specs.Table.{sound}
 use Rattle.endpoint.specs.Queue.{firstLength}
 use Rattle.transfer.specs.Read.{readEnds}
 use Rattle.transfer.specs.Write.{wroteEnds}

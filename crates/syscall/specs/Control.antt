@@ -6,7 +6,7 @@ use Rattle.status.specs.declared.Status.the-variants.{InvalidArgs}
 use Rattle.status.specs.declared.Answer.{Answer}
 use Rattle.status.specs.Choice.{pick}
 use Rattle.status.specs.Answer.{refuseIf, _then_}
-use Rattle.port.specs.Signal.{meets}
+use Rattle.signal.specs.Signal.{meets}
 use Rattle.endpoint.specs.declared.Disposition.{Disposition}
 use Rattle.endpoint.specs.declared.Disposition.the-variants.{Unchanged, Disable, Enable}
 use Rattle.endpoint.specs.Disposition.{disposeChecks}

@@ -20,7 +20,7 @@ use Rattle.ends.specs.declared.Moved.{Moved}
 use Rattle.ends.specs.Ends.{isOne, own, peer}
 use Rattle.ends.specs.Tests.{lentOf}
 use Rattle.ends.specs.Outcome.{noVisits, keepsWord, canFire, anyFires, outcomeOf, keptEnds, unchangedEnds}
-use Rattle.port.specs.Signal.{changedWord}
+use Rattle.signal.specs.Signal.{changedWord}
 use Rattle.transfer.specs.Write.{writeAnswer, ringFed, ringWritten, tableFed, tableWritten, fedEnds, wroteEnds, EndsWrote}
 use Rattle.transfer.specs.Read.{readAnswer, leaving, bufferRead, drainedEnds, readEnds, EndsRead}
 

@@ -10,7 +10,7 @@ use Rattle.status.specs.declared.Answer.{Answer}
 use Rattle.status.specs.Choice.{pick, _or_}
 use Rattle.status.specs.Answer.{_then_, countOf}
 use Rattle.ring.specs.Ring.{place, front}
-use Rattle.port.specs.Signal.{changedWord}
+use Rattle.signal.specs.Signal.{changedWord}
 use Rattle.endpoint.specs.declared.Queue.{Queue}
 use Rattle.endpoint.specs.declared.Endpoint.{Endpoint}
 use Rattle.endpoint.specs.Queue.{firstLength}

@@ -11,7 +11,7 @@ use ends::NO_VISIT;
 use ends::Outcome;
 use ends::Pending;
 use ends::Visits;
-use port::changed;
+use signal::changed;
 use status::Answer;
 ghost use mathlib.Core.Path.{_≡_};
 ghost use Prim.Native.Nat.{_≤_, _<_};

@@ -10,7 +10,7 @@ use ends::Moved;
 use ends::Outcome;
 use ends::Pending;
 use ends::Visits;
-use port::changed;
+use signal::changed;
 use status::Answer;
 ghost use mathlib.Core.Path.{_≡_};
 ghost use mathlib.Core.Bool.{true};

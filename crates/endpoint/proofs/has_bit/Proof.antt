@@ -1,5 +1,5 @@
 use mathlib.Core.Path.{refl}
-use Rattle.port.specs.Signal.{meets}
+use Rattle.signal.specs.Signal.{meets}
 use Rattle.endpoint.proofs.has_bit.Statement.{statement}
 use Rattle.endpoint.proofs.has_bit.Tie as tie
 

@@ -1,13 +1,13 @@
 use Rattle.status.specs.Choice.{pick}
-use Rattle.port.specs.Lists.{filter}
-use Rattle.port.specs.Table.{free, ofOther, others, packetsOf, waitsOf, unusedOf, tableOf}
-use Rattle.port.specs.Port.{droppedOf}
+use Rattle.places.specs.Lists.{filter}
+use Rattle.places.specs.Table.{free, packetsOf, waitsOf, unusedOf, tableOf}
+use Rattle.port.specs.Port.{ofOther, others, droppedOf}
 use Rattle.port.proofs.Compact.{Compacted, compact-start, compact-drop, compact-keep, compact-all, compact-count}
 use lib.Seq.{slice, length-take-le}
 use mathlib.Core.Path.{refl, sym, ap, _∙_, _≡_}
 use mathlib.Core.Bool.{not}
 use borrow.Author.Tests.{eq-eqb, ne-eqb}
-use Rattle.port.proofs.Size.{table-128, same-places}
+use Rattle.places.proofs.Size.{table-128, same-places}
 use borrow.Author.Needs.{needs}
 use native.Mathlib.Omega.{arith}
 use Prim.Native.Nat.{_+_, _-_, _≤_}

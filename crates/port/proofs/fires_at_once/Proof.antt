@@ -1,6 +1,6 @@
 use mathlib.Core.Path.{refl}
 use Rattle.status.specs.Choice.{_and_}
-use Rattle.port.specs.Signal.{meets}
+use Rattle.signal.specs.Signal.{meets}
 use Rattle.port.proofs.fires_at_once.Statement.{statement}
 use Rattle.port.proofs.fires_at_once.Tie as tie
 

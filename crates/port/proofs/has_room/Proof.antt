@@ -4,7 +4,7 @@ use native.Mathlib.Omega.{arith}
 use Prim.Native.Nat.{_+_, _-_}
 use mathlib.Core.Path.{refl}
 use Rattle.status.specs.Choice.{_and_}
-use Rattle.port.proofs.Tests.{room-ltb}
+use Rattle.places.proofs.Tests.{room-ltb}
 use Rattle.port.proofs.has_room.Statement.{statement}
 use Rattle.port.proofs.has_room.Tie as tie
 

@@ -1,8 +1,8 @@
 use Rattle.status.specs.Choice.{pick}
-use Rattle.port.specs.Table.{free}
-use Rattle.port.proofs.Shift.{ShiftedUp, up-start, up-step, up-all}
+use Rattle.places.specs.Table.{free}
+use Rattle.places.proofs.Shift.{ShiftedUp, up-start, up-step, up-all}
 use Rattle.port.proofs.Insertion.{index-fits, at-most-one, placed-as}
-use Rattle.port.proofs.Size.{table-128, same-places}
+use Rattle.places.proofs.Size.{table-128, same-places}
 use borrow.Author.Needs.{needs}
 use native.Mathlib.Omega.{arith}
 use Prim.Native.Nat.{_+_, _≤_, _<_}

@@ -3,7 +3,7 @@ use borrow.Author.Needs.{needs}
 use lib.ListN.{length, take, length-take}
 use mathlib.Core.Path.{_≡_, _∙_}
 use native.Mathlib.Omega.{arith}
-use Rattle.port.specs.Table.{used}
+use Rattle.places.specs.Table.{used}
 use Rattle.socket_script.proofs.drain.Statement.{statement}
 use Rattle.socket_script.proofs.drain.Tie as tie
 

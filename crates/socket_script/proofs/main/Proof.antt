@@ -4,7 +4,7 @@ use lib.ListN.{length, length-replicate}
 use mathlib.Core.Logic.{⊎-elim}
 use mathlib.Core.Path.{_≡_, ap, _∙_}
 use native.Mathlib.Omega.{arith}
-use Rattle.port.specs.Table.{used}
+use Rattle.places.specs.Table.{used}
 use Rattle.socket_script.proofs.main.Statement.{statement}
 use Rattle.socket_script.proofs.main.Tie as tie
 

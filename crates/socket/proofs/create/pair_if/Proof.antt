@@ -2,7 +2,7 @@ use Prim.Native.Nat.{ℕ}
 use mathlib.Core.Path.{_≡_, refl, sym}
 use mathlib.Core.Bool.{Bool, true, false}
 use Rattle.status.specs.Choice.{pick}
-use Rattle.port.specs.Table.{newPlaces}
+use Rattle.places.specs.Table.{newPlaces}
 use Rattle.endpoint.specs.Endpoint.{newEnd, noEnd}
 use Rattle.endpoint.specs.Write.{bitIf}
 use Rattle.socket.specs.Pair.{newPair, noPair}

@@ -1,7 +1,7 @@
 use mathlib.Core.Path.{_≡_, sym, ap, _∙_}
 use mathlib.Core.Logic.{⊎-elim}
 use Rattle.status.proofs.Rules.{via-not-not}
-use Rattle.port.specs.declared.Places.{Places}
+use Rattle.places.specs.declared.Places.{Places}
 use Rattle.socket.specs.Pair.{withPlaces}
 use Rattle.socket.specs.Deferred.{visited, visitedPair}
 use Rattle.socket.proofs.Visiting.{keeps}

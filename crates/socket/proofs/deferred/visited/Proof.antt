@@ -1,7 +1,7 @@
 use mathlib.Core.Path.{sym}
 use borrow.Author.Needs.{needs}
 use Rattle.status.proofs.Rules.{via}
-use Rattle.port.proofs.Size.{table-128}
+use Rattle.places.proofs.Size.{table-128}
 use Rattle.socket.specs.Deferred.{visited}
 use Rattle.socket.proofs.Visiting.{not-due, only-wait}
 use Rattle.socket.proofs.deferred.visited.Statement.{statement}

@@ -1,0 +1,5 @@
+pub mod Partition
+pub mod Any
+pub mod Operations
+pub mod Idle
+mod Only

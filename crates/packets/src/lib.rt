@@ -1,0 +1,89 @@
+// The packets of a table of places: taking the oldest. After signal/port.rs.
+use places::FREE;
+use places::Next;
+use places::Places;
+use places::is_sound;
+use status::Answer;
+use status::PortPacket;
+use status::Record;
+use status::Status;
+ghost use mathlib.Core.Path.{_≡_};
+ghost use mathlib.Core.Bool.{not};
+ghost use Prim.Native.Nat.{_+_};
+ghost use lib.Dec.{leb, eqb};
+ghost use Rattle.status.specs.Choice.{pick, _and_};
+ghost use Rattle.packets.specs.Packets.{takeOf};
+
+// Whether a packet is to be taken and there is one, in a sound table.
+fn has_packet(asked: bool, packets: usize, waits: usize) -> bool
+    ensures { λ r. ⌜ r ≡ (asked and leb (packets + waits) 128 and not (eqb packets 0)) ⌝ }
+{
+    if asked {
+        if is_sound(packets, waits) {
+            return packets != 0;
+        }
+    }
+    false
+}
+
+// Removes the oldest packet, if that is asked and possible: what stands behind it moves by one place to the front.
+pub fn taken(t: Places, asked: bool) -> Places
+    ensures { λ r. ⌜ r ≡ pick asked (takeOf t .places) t ⌝ }
+{
+    let packets = t.packets;
+    let waits = t.waits;
+    let mut out = t;
+    if has_packet(asked, packets, waits) {
+        let last = packets + waits - 1;
+        let mut i: usize = 0;
+        while i < last {
+            let p = out.table[i + 1];
+            out.table[i] = p;
+            i = i + 1;
+        }
+        let free = FREE;
+        out.table[last] = free;
+        out.packets = packets - 1;
+    }
+    out
+}
+
+// The answer to taking the oldest packet.
+pub fn oldest(t: Places) -> Answer
+    ensures { λ r. ⌜ r ≡ takeOf t .answer ⌝ }
+{
+    if !is_sound(t.packets, t.waits) {
+        return Answer::Refused(Status::Internal);
+    }
+    if t.packets == 0 {
+        return Answer::Refused(Status::ShouldWait);
+    }
+    let p = t.table[0];
+    let packet = PortPacket {
+        key: p.key,
+        trigger: p.mask,
+        observed: p.observed,
+        count: 1,
+        timestamp: 0,
+    };
+    Answer::Done(Record::Packet(packet))
+}
+
+// Takes the oldest packet.
+pub fn take(t: Places) -> Next
+    ensures { λ r. ⌜ r ≡ takeOf t ⌝ }
+{
+    Next {
+        places: taken(t, true),
+        answer: oldest(t),
+    }
+}
+
+// Takes the oldest packet of a table that the caller keeps.
+pub fn take_from(t: &mut Places) -> Answer
+    ensures { λ r. ⌜ (r ≡ takeOf (now (t .entry)) .answer) × (now (t .exit) ≡ takeOf (now (t .entry)) .places) ⌝ }
+{
+    let r = take(*t);
+    *t = r.places;
+    r.answer
+}

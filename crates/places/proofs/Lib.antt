@@ -1,0 +1,5 @@
+pub mod Lists
+pub mod Shift
+pub mod Size
+pub mod Tests
+pub mod Views
