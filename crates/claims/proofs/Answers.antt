@@ -14,8 +14,8 @@ use Rattle.status.specs.Choice.{pick, _and_, _or_}
 use Rattle.status.specs.Answer.{recordCount, countOf, isDone, refuseIf, refuseUnless, _then_}
 use Rattle.places.specs.Table.{used}
 use Rattle.endpoint.specs.declared.Endpoint.{Endpoint}
-use Rattle.endpoint.specs.Write.{datagramSize, writeSize}
-use Rattle.endpoint.specs.Read.{emptyAnswer, availableIn, readSize}
+use Rattle.sizes.specs.Write.{datagramSize, writeSize}
+use Rattle.sizes.specs.Read.{emptyAnswer, availableIn, readSize}
 use Rattle.transfer.specs.Read.{readAnswer as endsReadAnswer}
 use Rattle.ends.specs.Wait.{waitAnswer as endsWaitAnswer}
 use Rattle.transfer.specs.Write.{writeAnswer as endsWriteAnswer}

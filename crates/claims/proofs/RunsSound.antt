@@ -19,8 +19,8 @@ use Rattle.endpoint.specs.declared.Queue.{Queue}
 use Rattle.endpoint.specs.declared.Endpoint.{Endpoint}
 use Rattle.endpoint.specs.declared.Disposition.{Disposition}
 use Rattle.endpoint.specs.Queue.{shortSlices, firstLength, badFirst}
-use Rattle.endpoint.specs.Write.{datagramSize, writeSize}
-use Rattle.endpoint.specs.Read.{emptyAnswer, readSize}
+use Rattle.sizes.specs.Write.{datagramSize, writeSize}
+use Rattle.sizes.specs.Read.{emptyAnswer, readSize}
 use Rattle.endpoint.specs.Disposition.{disposeChecks}
 use Rattle.ends.specs.Disposition.{disposeAnswer}
 use Rattle.ends.specs.Info.{infoAnswer}

@@ -24,10 +24,11 @@ use Rattle.signal.specs.Signal.{changedWord, meets}
 use Rattle.places.specs.Table.{packetsOf, waitsOf, unusedOf, tableOf, newPlaces, endNumber, waitOf, observe, packetOf}
 use Rattle.endpoint.specs.Disposition.{enables, hasBacklog, hasOpenBacklog, enablesOver, disposeChecks}
 use Rattle.endpoint.specs.Endpoint.{newEnd, noEnd, withQueue, withSignals, withReadDisabled, withThresholds, closedEnd, shown}
-use Rattle.endpoint.specs.Info.{unlessClosed, infoOf}
+use Rattle.sizes.specs.Info.{unlessClosed, infoOf}
 use Rattle.endpoint.specs.Queue.{noQueue, soundLengths, soundQueue, shortTable, shortSlices, hasLength, firstLength, badFirst}
-use Rattle.endpoint.specs.Read.{emptyAnswer, availableIn, readSize, lostByReader, gainedByWriter}
-use Rattle.endpoint.specs.Write.{datagramSize, writeSize, reached, missed, bitIf, gainedByPeer, lostByWriter}
+use Rattle.bits.specs.Bits.{lostByReader, gainedByWriter, reached, missed, bitIf, gainedByPeer, lostByWriter}
+use Rattle.sizes.specs.Read.{emptyAnswer, availableIn, readSize}
+use Rattle.sizes.specs.Write.{datagramSize, writeSize}
 use Rattle.ends.specs.Create.{numbersAnswer, createAnswer}
 use Rattle.ends.specs.Disposition.{disposeAnswer}
 use Rattle.ends.specs.Info.{infoAnswer}

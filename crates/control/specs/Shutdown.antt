@@ -6,7 +6,7 @@ use Rattle.status.specs.Choice.{pick}
 use Rattle.signal.specs.Signal.{WRITABLE, «WRITE_DISABLED», «PEER_WRITE_DISABLED»}
 use Rattle.endpoint.specs.declared.Endpoint.{Endpoint}
 use Rattle.endpoint.specs.Endpoint.{withReadDisabled}
-use Rattle.endpoint.specs.Write.{bitIf}
+use Rattle.bits.specs.Bits.{bitIf}
 use Rattle.ends.specs.declared.Ends.{Ends}
 use Rattle.ends.specs.declared.Pending.{Pending}
 use Rattle.ends.specs.declared.Moved.{Moved}

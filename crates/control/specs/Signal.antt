@@ -7,7 +7,7 @@ use Rattle.status.specs.Answer.{isDone}
 use Rattle.signal.specs.Signal.{changedWord}
 use Rattle.endpoint.specs.declared.Endpoint.{Endpoint}
 use Rattle.endpoint.specs.Endpoint.{withSignals}
-use Rattle.endpoint.specs.Write.{bitIf}
+use Rattle.bits.specs.Bits.{bitIf}
 use Rattle.ends.specs.declared.Ends.{Ends}
 use Rattle.ends.specs.declared.Pending.{Pending}
 use Rattle.ends.specs.declared.Moved.{Moved}

@@ -4,7 +4,7 @@ use mathlib.Core.Bool.{Bool}
 use Rattle.signal.specs.Signal.{«READ_THRESHOLD», «WRITE_THRESHOLD»}
 use Rattle.endpoint.specs.declared.Endpoint.{Endpoint}
 use Rattle.endpoint.specs.Endpoint.{withThresholds}
-use Rattle.endpoint.specs.Write.{reached}
+use Rattle.bits.specs.Bits.{reached}
 use Rattle.ends.specs.declared.Ends.{Ends}
 use Rattle.ends.specs.declared.Moved.{Moved}
 use Rattle.ends.specs.declared.Outcome.{Outcome}

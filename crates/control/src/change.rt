@@ -1,6 +1,6 @@
 // One change of an end's word.
+use bits::bit_if;
 use endpoint::Endpoint;
-use endpoint::bit_if;
 use ends::Moved;
 use ends::NO_VISIT;
 use ends::Outcome;

@@ -1,7 +1,7 @@
 // Shutdown.
 use crate::change;
+use bits::bit_if;
 use endpoint::Endpoint;
-use endpoint::bit_if;
 use ends::Ends;
 use ends::Moved;
 use ends::Outcome;

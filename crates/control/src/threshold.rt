@@ -1,7 +1,7 @@
 // The thresholds.
 use crate::change;
+use bits::is_reached;
 use endpoint::Endpoint;
-use endpoint::is_reached;
 use ends::Ends;
 use ends::Moved;
 use ends::Outcome;

@@ -4,7 +4,7 @@ use Rattle.status.specs.declared.Record.the-variants.{Info}
 use Rattle.status.specs.declared.Answer.{Answer}
 use Rattle.status.specs.declared.Answer.the-variants.{Done}
 use Rattle.status.specs.Answer.{_then_}
-use Rattle.endpoint.specs.Info.{infoOf}
+use Rattle.sizes.specs.Info.{infoOf}
 use Rattle.ends.specs.declared.Ends.{Ends}
 use Rattle.ends.specs.Ends.{isOne, own, peer}
 use Rattle.ends.specs.Tests.{soundTest, Lent, tableTest, handleTest}

@@ -1,7 +1,7 @@
 // Info.
 use crate::Ends;
 use crate::tests;
-use endpoint::get_info;
+use sizes::get_info;
 use status::Answer;
 use status::Record;
 ghost use mathlib.Core.Path.{_≡_};

@@ -10,7 +10,7 @@ use Rattle.port.proofs.Sound.{sound-change}
 use Rattle.endpoint.specs.declared.Disposition.{Disposition}
 use Rattle.endpoint.specs.declared.Disposition.the-variants.{Unchanged, Disable, Enable}
 use Rattle.endpoint.specs.Endpoint.{withSignals, withReadDisabled, withThresholds}
-use Rattle.endpoint.specs.Write.{bitIf, reached}
+use Rattle.bits.specs.Bits.{bitIf, reached}
 use Rattle.ends.specs.declared.Pending.{Pending}
 use Rattle.ends.specs.declared.Moved.{Moved}
 use Rattle.ends.specs.Outcome.{keptEnds}

@@ -12,7 +12,7 @@ use Rattle.endpoint.specs.declared.Endpoint.{Endpoint}
 use Rattle.endpoint.specs.declared.SignalWord.{SignalWord}
 use Rattle.endpoint.specs.declared.SignalWord.the-variants.{Closed}
 use Rattle.endpoint.specs.Endpoint.{newEnd, noEnd, withSignals, withReadDisabled, shown}
-use Rattle.endpoint.specs.Write.{bitIf}
+use Rattle.bits.specs.Bits.{bitIf}
 use Rattle.ends.specs.declared.Ends.{Ends}
 use Rattle.ends.specs.Ends as E
 use Rattle.socket.specs.declared.Pair.{Pair}

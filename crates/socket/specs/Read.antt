@@ -10,7 +10,7 @@ use Rattle.status.specs.Choice.{pick, _or_}
 use Rattle.status.specs.Answer.{countOf}
 use Rattle.endpoint.specs.Queue.{firstLength}
 use Rattle.endpoint.specs.Endpoint.{withQueue}
-use Rattle.endpoint.specs.Read.{lostByReader, gainedByWriter}
+use Rattle.bits.specs.Bits.{lostByReader, gainedByWriter}
 use Rattle.ends.specs.Tests.{Lent, lentOf}
 use Rattle.transfer.specs.Read.{leaving, drainedQueue}
 use Rattle.transfer.specs.Read as E

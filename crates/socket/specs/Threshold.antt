@@ -4,7 +4,7 @@ use mathlib.Core.Bool.{Bool}
 use Rattle.status.specs.declared.Answer.{Answer}
 use Rattle.signal.specs.Signal.{«READ_THRESHOLD», «WRITE_THRESHOLD»}
 use Rattle.endpoint.specs.Endpoint.{withThresholds}
-use Rattle.endpoint.specs.Write.{reached}
+use Rattle.bits.specs.Bits.{reached}
 use Rattle.ends.specs.Threshold as E
 use Rattle.socket.specs.declared.Pair.{Pair}
 use Rattle.socket.specs.Pair.{endsOf, own, peer, withEnd, putBit}

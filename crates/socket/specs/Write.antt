@@ -9,7 +9,7 @@ use Rattle.status.specs.declared.Answer.{Answer}
 use Rattle.status.specs.Choice.{pick}
 use Rattle.status.specs.Answer.{countOf}
 use Rattle.endpoint.specs.Endpoint.{withQueue}
-use Rattle.endpoint.specs.Write.{gainedByPeer, lostByWriter}
+use Rattle.bits.specs.Bits.{gainedByPeer, lostByWriter}
 use Rattle.ends.specs.Tests.{Lent, lentOf}
 use Rattle.transfer.specs.Write.{fedQueue}
 use Rattle.transfer.specs.Write as E

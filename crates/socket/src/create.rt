@@ -1,8 +1,8 @@
 // Create.
 use crate::Pair;
 use crate::Step;
+use bits::bit_if;
 use endpoint::Endpoint;
-use endpoint::bit_if;
 use places::Places;
 ghost use mathlib.Core.Path.{_≡_};
 ghost use mathlib.Core.Bool.{false};

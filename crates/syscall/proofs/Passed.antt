@@ -15,8 +15,8 @@ use Rattle.status.specs.Answer.{isDone, countOf, recordCount, refuseIf, refuseU
 use Rattle.status.proofs.Rules.{refuse-off, pass-last, pass-unless}
 use Rattle.status.proofs.Chains.{then-both, then-is, refuse-passed, unless-passed}
 use Rattle.endpoint.specs.declared.Endpoint.{Endpoint}
-use Rattle.endpoint.specs.Write.{datagramSize, writeSize}
-use Rattle.endpoint.specs.Read.{readSize}
+use Rattle.sizes.specs.Write.{datagramSize, writeSize}
+use Rattle.sizes.specs.Read.{readSize}
 use Rattle.ends.specs.Disposition.{disposeAnswer as endsDisposeAnswer}
 use Rattle.transfer.specs.Read.{readAnswer as endsReadAnswer}
 use Rattle.ends.specs.Tests.{openingTest, handleTest as endsHandleTest}

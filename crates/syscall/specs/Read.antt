@@ -12,7 +12,7 @@ use Rattle.status.specs.Choice.{pick, _or_}
 use Rattle.status.specs.Answer.{refuseIf, refuseUnless, _then_, countOf, isDone}
 use Rattle.ring.specs.Ring.{front}
 use Rattle.endpoint.specs.Queue.{firstLength}
-use Rattle.endpoint.specs.Read.{readSize}
+use Rattle.sizes.specs.Read.{readSize}
 use Rattle.socket.specs.declared.Pair.{Pair}
 use Rattle.socket.specs.declared.Step.{Step}
 use Rattle.socket.specs.Pair.{isOne, own, peer}

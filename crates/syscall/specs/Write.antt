@@ -8,7 +8,7 @@ use Rattle.status.specs.declared.Status.the-variants.{InvalidArgs}
 use Rattle.status.specs.declared.Answer.{Answer}
 use Rattle.status.specs.Choice.{pick}
 use Rattle.status.specs.Answer.{refuseIf, refuseUnless, _then_, countOf, isDone}
-use Rattle.endpoint.specs.Write.{writeSize}
+use Rattle.sizes.specs.Write.{writeSize}
 use Rattle.socket.specs.declared.Pair.{Pair}
 use Rattle.socket.specs.declared.Step.{Step}
 use Rattle.socket.specs.Pair.{isOne, own, peer}

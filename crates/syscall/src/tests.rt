@@ -2,12 +2,12 @@
 use crate::memory;
 use endpoint::Disposition;
 use endpoint::dispose_checks;
-use endpoint::read_size;
-use endpoint::write_size;
 use ends::Ends;
 use ends::handle_test;
 use ends::slices_test;
 use ends::sound_test;
+use sizes::read_size;
+use sizes::write_size;
 use status::Answer;
 use status::Record;
 use status::Status;

@@ -15,8 +15,8 @@ use Rattle.status.specs.Answer.{isDone, countOf, recordCount}
 use Rattle.status.proofs.Chains.{neither, then-both, then-is, refuse-passed, counted}
 use Rattle.endpoint.specs.declared.Endpoint.{Endpoint}
 use Rattle.endpoint.specs.Queue.{hasLength, firstLength, badFirst}
-use Rattle.endpoint.specs.Write.{datagramSize, writeSize}
-use Rattle.endpoint.specs.Read.{emptyAnswer, availableIn, readSize}
+use Rattle.sizes.specs.Write.{datagramSize, writeSize}
+use Rattle.sizes.specs.Read.{emptyAnswer, availableIn, readSize}
 use Rattle.ends.specs.declared.Ends.{Ends}
 use Rattle.ends.specs.Ends.{isOne, own, peer}
 use Rattle.ends.specs.Tests.{lentOf}

@@ -15,7 +15,8 @@ use Rattle.endpoint.specs.declared.Queue.{Queue}
 use Rattle.endpoint.specs.declared.Endpoint.{Endpoint}
 use Rattle.endpoint.specs.Queue.{firstLength}
 use Rattle.endpoint.specs.Endpoint.{withQueue, withSignals}
-use Rattle.endpoint.specs.Read.{readSize, lostByReader, gainedByWriter}
+use Rattle.bits.specs.Bits.{lostByReader, gainedByWriter}
+use Rattle.sizes.specs.Read.{readSize}
 use Rattle.ends.specs.declared.Ends.{Ends}
 use Rattle.ends.specs.declared.Pending.{Pending}
 use Rattle.ends.specs.declared.Outcome.{Outcome}

@@ -13,7 +13,8 @@ use Rattle.signal.specs.Signal.{changedWord}
 use Rattle.endpoint.specs.declared.Queue.{Queue}
 use Rattle.endpoint.specs.declared.Endpoint.{Endpoint}
 use Rattle.endpoint.specs.Endpoint.{withQueue, withSignals}
-use Rattle.endpoint.specs.Write.{writeSize, gainedByPeer, lostByWriter}
+use Rattle.bits.specs.Bits.{gainedByPeer, lostByWriter}
+use Rattle.sizes.specs.Write.{writeSize}
 use Rattle.ends.specs.declared.Ends.{Ends}
 use Rattle.ends.specs.declared.Outcome.{Outcome}
 use Rattle.ends.specs.declared.Moved.{Moved}

@@ -1,10 +1,9 @@
 // Read and peek.
+use bits::gained_by_writer;
+use bits::lost_by_reader;
 use endpoint::Endpoint;
 use endpoint::Queue;
 use endpoint::Span;
-use endpoint::gained_by_writer;
-use endpoint::lost_by_reader;
-use endpoint::read_size;
 use ends::Ends;
 use ends::Moved;
 use ends::NO_VISIT;
@@ -12,6 +11,7 @@ use ends::Outcome;
 use ends::Pending;
 use ends::Visits;
 use signal::changed;
+use sizes::read_size;
 use status::Answer;
 ghost use mathlib.Core.Path.{_≡_};
 ghost use Prim.Native.Nat.{_≤_, _<_};

@@ -1,16 +1,16 @@
 // Write.
+use bits::gained_by_peer;
+use bits::lost_by_writer;
 use endpoint::Endpoint;
 use endpoint::Queue;
 use endpoint::Span;
-use endpoint::gained_by_peer;
-use endpoint::lost_by_writer;
-use endpoint::write_size;
 use ends::Ends;
 use ends::Moved;
 use ends::Outcome;
 use ends::Pending;
 use ends::Visits;
 use signal::changed;
+use sizes::write_size;
 use status::Answer;
 ghost use mathlib.Core.Path.{_≡_};
 ghost use mathlib.Core.Bool.{true};

@@ -4,7 +4,7 @@ use mathlib.Core.Bool.{Bool, true, false}
 use Rattle.status.specs.Choice.{pick}
 use Rattle.places.specs.Table.{newPlaces}
 use Rattle.endpoint.specs.Endpoint.{newEnd, noEnd}
-use Rattle.endpoint.specs.Write.{bitIf}
+use Rattle.bits.specs.Bits.{bitIf}
 use Rattle.socket.specs.Pair.{newPair, noPair}
 use Rattle.socket.proofs.create.pair_if.Statement.{statement}
 use Rattle.socket.proofs.create.pair_if.Tie as tie
