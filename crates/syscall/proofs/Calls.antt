@@ -29,11 +29,11 @@ use Rattle.socket.specs.Tests.{lentOf}
 use Rattle.socket.specs.Write.{writeAnswer, pairWritten, ringWritten, tableWritten}
 use Rattle.socket.specs.Read.{readAnswer, pairRead, bufferRead}
 use Rattle.syscall.specs.Ends.{pairOf, wroteStep, readStep}
-use Rattle.syscall.specs.Memory.{countFits, countLanded, countPut}
+use Rattle.user_memory.specs.Memory.{countFits, countLanded, countPut}
 use Rattle.syscall.specs.Write.{userWriteAnswer, UserWrote}
 use Rattle.syscall.specs.Read.{isPeek, userReadAnswer, bytesLanded, BytesRead, UserRead}
 use Rattle.syscall.proofs.Lists.{paste-part, put-take}
-use Rattle.syscall.proofs.Landed.{fits-in, count-put}
+use Rattle.user_memory.proofs.Landed.{fits-in, count-put}
 use Rattle.syscall.proofs.Passed.{read-passed, write-passed}
 
 -- a refused call moves nothing

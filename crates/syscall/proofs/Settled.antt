@@ -21,7 +21,7 @@ use Rattle.socket.specs.Read.{pairRead}
 use Rattle.socket.specs.Deferred.{settled}
 use Rattle.socket.proofs.Settled.{wrote-settled, read-settled}
 use Rattle.syscall.specs.Ends.{pairOf, wroteStep, readStep}
-use Rattle.syscall.specs.Memory.{countLanded}
+use Rattle.user_memory.specs.Memory.{countLanded}
 use Rattle.syscall.specs.Write.{UserWrote}
 use Rattle.syscall.specs.Read.{isPeek, userReadAnswer, bytesLanded, BytesRead, UserRead}
 use Rattle.syscall.proofs.Passed.{write-passed, read-passed}

@@ -1,5 +1,4 @@
 // The calls over user memory that change the two ends and leave the visit of the waits for later.
-use crate::memory::land_count;
 use crate::tests;
 use crate::tests::Buffer;
 use crate::tests::SOCKET_PEEK;
@@ -7,6 +6,7 @@ use ends::Ends;
 use ends::Outcome;
 use ends::unchanged;
 use status::Answer;
+use user_memory::land_count;
 ghost use mathlib.Core.Path.{_≡_};
 ghost use Prim.Native.Nat.{_-_};
 ghost use lib.ListN.{length, drop};
