@@ -21,7 +21,7 @@ use Rattle.socket.specs.Tests.{Steps}
 use Rattle.socket.specs.Write.{pairWritten, ringWritten, tableWritten}
 use Rattle.socket.specs.Read.{pairRead}
 use Rattle.endpoint.specs.Queue.{firstLength}
-use Rattle.syscall.specs.Memory.{fits, countLanded}
+use Rattle.user_memory.specs.Memory.{fits, countLanded}
 use Rattle.syscall.specs.Write.{UserWrote}
 use Rattle.syscall.specs.Read.{isPeek, bytesLanded, BytesRead}
 use Rattle.text.specs.Put.{place}

@@ -24,7 +24,7 @@ use Rattle.socket.specs.Threshold.{readThresholdAnswer, writeThresholdAnswer, r
 use Rattle.socket.specs.Disposition.{disposed, shut}
 use Rattle.socket.specs.Info.{infoAnswer}
 use Rattle.socket.specs.Wait.{waitAnswer, waited, takeAnswer, took, closeAnswer, closed}
-use Rattle.syscall.specs.Memory.{fits, countLanded, countPut}
+use Rattle.user_memory.specs.Memory.{fits, countLanded, countPut}
 use Rattle.syscall.specs.Write.{userWriteAnswer}
 use Rattle.syscall.specs.Read.{isPeek, userReadAnswer, bytesLanded}
 use Rattle.syscall.specs.Control.{dispositionOf, userDisposeAnswer, shutsRead, shutsWrite, userShutdownAnswer}

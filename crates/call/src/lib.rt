@@ -288,7 +288,7 @@ pub fn settle(tag: u8, body: &[u8], a: Answer, memory: &mut [u8])
     if tag == 2 {
         if status::is_done(a) {
             let count_at = fields::u64_at(body, 24);
-            syscall::land_count(memory, BASE, count_at, status::count_of(a));
+            user_memory::land_count(memory, BASE, count_at, status::count_of(a));
         }
     }
 }

@@ -25,7 +25,7 @@ use Rattle.socket.specs.Tests.{Lent}
 use Rattle.socket.specs.Write.{writeAnswer}
 use Rattle.socket.specs.Read.{readAnswer}
 use Rattle.socket.specs.Wait.{waitAnswer, takeAnswer}
-use Rattle.syscall.specs.Memory.{fits}
+use Rattle.user_memory.specs.Memory.{fits}
 use Rattle.syscall.specs.Write.{writeRanges, userWriteAnswer}
 use Rattle.syscall.specs.Read.{userReadAnswer}
 use Rattle.claims.proofs.Moves.{Taken}

@@ -13,7 +13,7 @@ use Rattle.socket.specs.Pair.{isOne, own, peer}
 use Rattle.socket.specs.Tests.{lentOf, Steps}
 use Rattle.socket.specs.Write.{writeAnswer, pairWritten, ringWritten, tableWritten}
 use Rattle.socket.specs.Read.{readAnswer, pairRead, bufferRead}
-use Rattle.syscall.specs.Memory.{countLanded}
+use Rattle.user_memory.specs.Memory.{countLanded}
 use Rattle.syscall.specs.Write.{userWriteAnswer}
 use Rattle.syscall.specs.Read.{isPeek, userReadAnswer, bytesLanded}
 use Rattle.claims.specs.Calls.{setDisposition, shutdown, plainDisposition, plainShutdown, setReadThreshold, setWriteThreshold, getThresholds, getInfo, wait, takePacket, Call, write, read, plainWrite, plainRead, close, control, Input, input, State, state, ownSlices, peerSlices, Outcome}

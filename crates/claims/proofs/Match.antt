@@ -15,7 +15,7 @@ use Rattle.socket.specs.Pair.{isOne, own, peer}
 use Rattle.socket.specs.Tests.{Lent, lentOf, Steps}
 use Rattle.socket.specs.Write.{writeAnswer, pairWritten, ringWritten, tableWritten}
 use Rattle.socket.specs.Read.{readAnswer, pairRead}
-use Rattle.syscall.specs.Memory.{countLanded}
+use Rattle.user_memory.specs.Memory.{countLanded}
 use Rattle.syscall.specs.Write.{userWriteAnswer}
 use Rattle.syscall.specs.Read.{isPeek, userReadAnswer, bytesLanded}
 use Rattle.claims.specs.Calls.{Input, State, state, ownSlices, peerSlices, withPair, withPeer, seenOf, gives}

@@ -34,7 +34,7 @@ use Rattle.socket.specs.Pair.{isOne, endsOf, own, peer}
 use Rattle.socket.specs.Tests.{soundPair, soundTest, Lent, lentOf, slicesTest, tableTest, handleTest, openingTest}
 use Rattle.socket.specs.Disposition.{shutdownAnswer}
 use Rattle.socket.specs.Wait.{takeAnswer, closeAnswer}
-use Rattle.syscall.specs.Memory.{lookup}
+use Rattle.syscall.specs.Lookup.{lookup}
 use Rattle.syscall.specs.Write.{writeRanges, userWriteAnswer}
 use Rattle.syscall.specs.Read.{userReadAnswer}
 use Rattle.syscall.specs.Control.{userDisposeAnswer, userShutdownAnswer}

@@ -45,7 +45,8 @@ use Rattle.socket.specs.Threshold.{readThresholdSet, writeThresholdSet}
 use Rattle.socket.specs.Wait.{waited, takeAnswer, took, closeAnswer, closed}
 use Rattle.socket.specs.Write.{wrote, pairWritten}
 use Rattle.syscall.specs.Control.{dispositionOf, userDisposeAnswer, userShutdownAnswer}
-use Rattle.syscall.specs.Memory.{fits, countFits, isNull, lookup, littleEndian, countLanded}
+use Rattle.user_memory.specs.Memory.{fits, countFits, isNull, littleEndian, countLanded}
+use Rattle.syscall.specs.Lookup.{lookup}
 use Rattle.syscall.specs.Read.{userReadAnswer, bytesLanded}
 use Rattle.syscall.specs.Write.{writeRanges, userWriteAnswer}
 use Rattle.claims.specs.Answers.{controlAnswer, answerTo, controlled, pairAfter}

@@ -11,7 +11,7 @@ use Rattle.socket.specs.declared.Pair.{Pair}
 use Rattle.socket.specs.Pair.{isOne, newPair, noPair}
 use Rattle.socket.specs.Write.{pairWritten, ringWritten, tableWritten}
 use Rattle.socket.specs.Read.{bufferRead}
-use Rattle.syscall.specs.Memory.{countLanded}
+use Rattle.user_memory.specs.Memory.{countLanded}
 use Rattle.syscall.specs.Read.{bytesLanded}
 use Rattle.claims.specs.Calls.{Create, Call, write, read, plainWrite, plainRead, close, control, Input, Slices, State, state, ownSlices, peerSlices, withPair, withPeer, seenOf, Outcome}
 use Rattle.claims.specs.Run.{createdBy}

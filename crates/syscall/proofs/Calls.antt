@@ -17,7 +17,7 @@ use Rattle.status.proofs.Chains.{counted}
 use Rattle.ring.proofs.Laws.{length-front}
 use Rattle.endpoint.specs.Queue.{firstLength}
 use Rattle.ends.specs.Outcome.{outcomeOf}
-use Rattle.transfer.specs.Read.{readEnds, bufferRead as endsBufferRead}
+use Rattle.transfer.specs.Read.{readEnds, EndsRead, bufferRead as endsBufferRead}
 use Rattle.transfer.specs.Write.{wroteEnds, EndsWrote, ringFed, ringWritten as endsRingWritten, tableWritten as endsTableWritten}
 use Rattle.ends.specs.declared.Ends.{Ends}
 use Rattle.ends.specs.declared.Outcome.{Outcome}
@@ -26,14 +26,14 @@ use Rattle.socket.specs.declared.Pair.{Pair}
 use Rattle.socket.specs.declared.Step.{Step}
 use Rattle.socket.specs.Pair.{isOne, endsOf, own, peer}
 use Rattle.socket.specs.Tests.{lentOf}
-use Rattle.socket.specs.Write.{writeAnswer, pairWritten, ringWritten, tableWritten}
-use Rattle.socket.specs.Read.{readAnswer, pairRead, bufferRead}
-use Rattle.syscall.specs.Ends.{pairOf, wroteStep, readStep}
-use Rattle.syscall.specs.Memory.{countFits, countLanded, countPut}
-use Rattle.syscall.specs.Write.{userWriteAnswer, UserWrote}
+use Rattle.socket.specs.Write.{writeAnswer, ringWritten, tableWritten}
+use Rattle.socket.specs.Read.{readAnswer, bufferRead}
+use Rattle.syscall.specs.Ends.{pairOf, EndsUserWrote, EndsBytesRead, EndsUserRead}
+use Rattle.user_memory.specs.Memory.{countFits, countLanded, countPut}
+use Rattle.syscall.specs.Write.{userWriteAnswer}
 use Rattle.syscall.specs.Read.{isPeek, userReadAnswer, bytesLanded, BytesRead, UserRead}
 use Rattle.syscall.proofs.Lists.{paste-part, put-take}
-use Rattle.syscall.proofs.Landed.{fits-in, count-put}
+use Rattle.user_memory.proofs.Landed.{fits-in, count-put}
 use Rattle.syscall.proofs.Passed.{read-passed, write-passed}
 
 -- a refused call moves nothing
@@ -41,21 +41,6 @@ pub none-moved : (a : Answer) → isDone a ≡ false → countOf a ≡ 0
 unfolding isDone countOf
 none-moved (Done d) e = let z : _≡_ {A = Bool} true false = e in (cc)
 none-moved (Refused s) e = refl
-
--- what is told of a call's answer is told of its outcome
-pub wrote-by : (P : Step → Type 0) (e : Ends) (h : ℕ) (x : Answer) (r : Outcome) → r ≡ wroteEnds e h x → P (wroteStep e h x)
-    → P (wroteStep e h (r .answer)) × (r ≡ wroteEnds e h (r .answer))
-unfolding wroteEnds outcomeOf
-wrote-by P e h x r f w =
-    let a : r .answer ≡ x = ap (λ (k : Outcome). k .answer) f in
-    (subst (λ (k : Answer). P (wroteStep e h k)) (sym a) w, f ∙ ap (wroteEnds e h) (sym a))
-
-pub read-by : (P : Step → Type 0) (e : Ends) (h : ℕ) (peek : Bool) (first : ℕ) (x : Answer) (r : Outcome) → r ≡ readEnds e h peek first x
-    → P (readStep e h peek first x) → P (readStep e h peek first (r .answer)) × (r ≡ readEnds e h peek first (r .answer))
-unfolding readEnds outcomeOf
-read-by P e h peek first x r f w =
-    let a : r .answer ≡ x = ap (λ (k : Outcome). k .answer) f in
-    (subst (λ (k : Answer). P (readStep e h peek first k)) (sym a) w, f ∙ ap (readEnds e h peek first) (sym a))
 
 -- ---- write
 
@@ -88,28 +73,32 @@ taken-all e h k a memory ring ring′ table table′ at r w whole same room =
     = w .bytes ∙ rw (is, same) (ring-part (pairOf e) h (countOf a) (drop at memory) ring (omega arith)) in
     (w .next ∙ ap (wroteEnds e h) is, fed, w .lengths ∙ ap (λ (x : Answer). tableWritten (pairOf e) h (countOf x) table) is)
 
-module _ (p : Pair) (h base options address n countAt : ℕ) (memory ring table : List ℕ) (x : Answer)
-    (e : x ≡ userWriteAnswer p (lentOf (p .datagram) (peer (isOne h) p .queue) ring table) h base (length memory) options address n countAt) where
-  pub wrote-none : isDone x ≡ false
-      → UserWrote p h base options address n countAt memory memory ring ring table table (record { pair = pairWritten p h (countOf x); answer = x })
+-- a write that was answered x
+module _ (e : Ends) (h base options address n countAt : ℕ) (memory ring table : List ℕ) (x : Answer) (r : Outcome)
+    (told : x ≡ userWriteAnswer (pairOf e) (lentOf (e .datagram) (peer (isOne h) (pairOf e) .queue) ring table) h base (length memory) options address n countAt)
+    (next : r ≡ wroteEnds e h x) where
+  wrote-by : (memory′ ring′ table′ : List ℕ) → ring′ ≡ ringWritten (pairOf e) h (countOf x) (drop (address - base) memory) ring
+      → table′ ≡ tableWritten (pairOf e) h (countOf x) table
+      → memory′ ≡ pick (isDone x) (countLanded base countAt (countOf x) memory) memory
+      → EndsUserWrote e h base options address n countAt memory memory′ ring ring′ table table′ r
+  unfolding wroteEnds outcomeOf
+  wrote-by memory′ ring′ table′ b c u =
+      subst (λ (k : Outcome). EndsUserWrote e h base options address n countAt memory memory′ ring ring′ table table′ k) (sym next)
+      (record { answer = told; next = refl; bytes = b; lengths = c; user = u })
+
+  pub wrote-none : isDone x ≡ false → EndsUserWrote e h base options address n countAt memory memory ring ring table table r
   wrote-none d =
-      let w = taken-none p h (countOf x) (drop (address - base) memory) ring table (none-moved x d) in
-      record { answer = e; pair = refl; bytes = w .0; lengths = w .1; user = pick-off _ _ _ _ _ d refl }
+      let w = taken-none (pairOf e) h (countOf x) (drop (address - base) memory) ring table (none-moved x d) in
+      wrote-by memory ring table (w .0) (w .1) (pick-off _ _ _ _ _ d refl)
 
   pub wrote-some : (m : ℕ) (memory′ ring′ table′ : List ℕ) → isDone x ≡ true → m ≡ countOf x
-      → ring′ ≡ ringWritten p h (countOf x) (drop (address - base) memory) ring
-      → table′ ≡ tableWritten p h (countOf x) table
+      → ring′ ≡ ringWritten (pairOf e) h (countOf x) (drop (address - base) memory) ring
+      → table′ ≡ tableWritten (pairOf e) h (countOf x) table
       → memory′ ≡ countPut base countAt m memory
-      → UserWrote p h base options address n countAt memory memory′ ring ring′ table table′ (record { pair = pairWritten p h (countOf x); answer = x })
+      → EndsUserWrote e h base options address n countAt memory memory′ ring ring′ table table′ r
   wrote-some m memory′ ring′ table′ d k b c u =
-      let w = write-passed p _ h base (length memory) options address n countAt x e d in
-      record {
-        answer = e;
-        pair = refl;
-        bytes = b;
-        lengths = c;
-        user = pick-on _ _ _ _ _ d (rw (← k) (u ∙ count-put base countAt m memory (w .count)));
-      }
+      let w = write-passed (pairOf e) _ h base (length memory) options address n countAt x told d in
+      wrote-by memory′ ring′ table′ b c (pick-on _ _ _ _ _ d (rw (← k) (u ∙ count-put base countAt m memory (w .count))))
 
 -- ---- read
 
@@ -120,38 +109,30 @@ none-landed p h base address k ring memory z = sym (pick-on _ _ _ _ _ (eq-eqb k 
 
 module _ (p : Pair) (h base options address n countAt : ℕ) (ring table memory : List ℕ) (x : Answer)
     (e : x ≡ userReadAnswer p (lentOf (p .datagram) (own (isOne h) p .queue) ring table) h base (length memory) options address n countAt) where
-  pub read-none : countOf x ≡ 0
-      → BytesRead p h base options address n countAt ring table memory memory (record { pair = pairRead p h (isPeek options) (firstLength (p .datagram) (own (isOne h) p .queue) table) (countOf x); answer = x })
-  read-none z =
-      record { answer = e; pair = refl; user = sym (none-landed p h base address (countOf x) ring memory z) }
-
   -- the part of memory that a read may fill
   pub read-room : (countOf x ≡ 0 → ⊥) → (base ≤ address) × (address - base + n ≤ length memory)
   read-room z =
       let w = read-passed p _ h base (length memory) options address n countAt x e (counted x z) in
       fits-in base (length memory) address n (w .bytes) (λ y. z (let m = w .most in omega arith))
 
+  -- the read of that part reads the same, and its bytes land
   pub read-some : (k : ℕ) (buffer′ : List ℕ) (y : Answer) → (countOf x ≡ 0 → ⊥) → k ≡ n
       → y ≡ readAnswer p (lentOf (p .datagram) (own (isOne h) p .queue) ring table) h (length (take k (drop (address - base) memory)))
       → buffer′ ≡ bufferRead p h (countOf y) ring (take k (drop (address - base) memory))
-      → BytesRead p h base options address n countAt ring table memory
-      (take (address - base) memory ++ (buffer′ ++ drop k (drop (address - base) memory)))
-      (record { pair = pairRead p h (isPeek options) (firstLength (p .datagram) (own (isOne h) p .queue) table) (countOf y); answer = y })
+      → (y ≡ x)
+      × (take (address - base) memory ++ (buffer′ ++ drop k (drop (address - base) memory)) ≡ bytesLanded p h base address (countOf y) ring memory)
   unfolding endsBufferRead bytesLanded
   read-some k buffer′ y z same a b =
       let w = read-passed p _ h base (length memory) options address n countAt x e (counted x z) in
       let room = read-room z in
       let size : length (take k (drop (address - base) memory)) ≡ n = simp (length-take, length-drop) (omega (arith, room .1)) in
       let is : y ≡ x = a ∙ ap (readAnswer p (lentOf (p .datagram) (own (isOne h) p .queue) ring table) h) size ∙ sym (w .plain) in
-      let t : eqb (countOf y) 0 ≡ false = ne-eqb (countOf y) 0 (λ q. z (ap countOf (sym is) ∙ q)) in
-      record {
-        answer = is ∙ e;
-        pair = refl;
-        user =
-            pick-off _ _ _ _ _ t
+      let t : eqb (countOf y) 0 ≡ false = ne-eqb (countOf y) 0 (λ q. z (ap countOf (sym is) ∙ q)) in (
+        is,
+        pick-off _ _ _ _ _ t
             (paste-part memory _ buffer′ (address - base) k (countOf y) (omega (arith, w .most, ap countOf is)) (omega (arith, room .1))
-            (b ∙ sym (pick-off _ _ _ _ _ t refl)));
-      }
+            (b ∙ sym (pick-off _ _ _ _ _ t refl))),
+      )
 
   -- memory keeps its length as bytes land
   pub landed-length : length (bytesLanded p h base address (countOf x) ring memory) ≡ length memory
@@ -172,25 +153,64 @@ module _ (p : Pair) (h base options address n countAt : ℕ) (ring table memory 
           ap length (sym (pick-off _ _ _ _ _ f refl))
           ∙ length-paste memory (address - base) _ (countOf x) (omega (arith, w .most, room .1)) (omega (arith, has))
 
+  -- the count after the bytes
+  pub count-lands : (memory′ memory″ : List ℕ) → memory′ ≡ bytesLanded p h base address (countOf x) ring memory
+      → memory″ ≡ pick (isDone x) (countPut base countAt (countOf x) memory′) memory′
+      → memory″ ≡ pick (isDone x) (countLanded base countAt (countOf x) (bytesLanded p h base address (countOf x) ring memory)) memory
+  count-lands memory′ memory″ b u = by (isDone x) refl
+    where
+      by : (t : Bool) → isDone x ≡ t
+          → memory″ ≡ pick (isDone x) (countLanded base countAt (countOf x) (bytesLanded p h base address (countOf x) ring memory)) memory
+      by true d =
+          let w = read-passed p _ h base (length memory) options address n countAt x e d in
+          let fit : countFits base (length memory′) countAt ≡ true = rw (b, landed-length) (w .count) in
+          let put : memory″ ≡ countPut base countAt (countOf x) memory′ = u ∙ sym (pick-on _ _ _ _ _ d refl) in
+          pick-on _ _ _ _ _ d (put ∙ count-put base countAt (countOf x) memory′ fit ∙ ap (countLanded base countAt (countOf x)) b)
+      by false d =
+          let kept : memory″ ≡ memory′ = u ∙ sym (pick-off _ _ _ _ _ d refl) in
+          pick-off _ _ _ _ _ d (kept ∙ b ∙ none-landed p h base address (countOf x) ring memory (none-moved x d))
+
 -- a read but for its count, with the count after it, is the whole read
 pub count-after : (p : Pair) (h base options address n countAt : ℕ) (ring table memory memory′ memory″ : List ℕ) (r : Step)
     → BytesRead p h base options address n countAt ring table memory memory′ r
     → memory″ ≡ pick (isDone (r .answer)) (countPut base countAt (countOf (r .answer)) memory′) memory′
     → UserRead p h base options address n countAt ring table memory memory″ r
 count-after p h base options address n countAt ring table memory memory′ memory″ r b u =
-    record { answer = b .answer; pair = b .pair; user = by (isDone (r .answer)) refl }
-  where
-    k : ℕ
-    k = countOf (r .answer)
+    record {
+      answer = b .answer;
+      pair = b .pair;
+      user = count-lands p h base options address n countAt ring table memory (r .answer) (b .answer) memory′ memory″ (b .user) u;
+    }
 
-    by : (t : Bool) → isDone (r .answer) ≡ t
-        → memory″ ≡ pick (isDone (r .answer)) (countLanded base countAt k (bytesLanded p h base address k ring memory)) memory
-    by true d =
-        let w = read-passed p _ h base (length memory) options address n countAt (r .answer) (b .answer) d in
-        let same = landed-length p h base options address n countAt ring table memory (r .answer) (b .answer) in
-        let fit : countFits base (length memory′) countAt ≡ true = rw (b .user, same) (w .count) in
-        let put : memory″ ≡ countPut base countAt k memory′ = u ∙ sym (pick-on _ _ _ _ _ d refl) in
-        pick-on _ _ _ _ _ d (put ∙ count-put base countAt k memory′ fit ∙ ap (countLanded base countAt k) (b .user))
-    by false d =
-        let kept : memory″ ≡ memory′ = u ∙ sym (pick-off _ _ _ _ _ d refl) in
-        pick-off _ _ _ _ _ d (kept ∙ b .user ∙ none-landed p h base address k ring memory (none-moved (r .answer) d))
+-- the same of the two ends
+module _ (e : Ends) (h base options address n countAt : ℕ) (ring table memory : List ℕ) where
+  pub ends-none : (x : Answer) (r : Outcome)
+      → x ≡ userReadAnswer (pairOf e) (lentOf (e .datagram) (own (isOne h) (pairOf e) .queue) ring table) h base (length memory) options address n countAt
+      → countOf x ≡ 0
+      → r ≡ readEnds e h (isPeek options) (firstLength (e .datagram) (own (isOne h) (pairOf e) .queue) table) x
+      → EndsBytesRead e h base options address n countAt ring table memory memory r
+  unfolding readEnds outcomeOf
+  ends-none x r told z next =
+      subst (λ (k : Outcome). EndsBytesRead e h base options address n countAt ring table memory memory k) (sym next)
+      (record { answer = told; next = refl; user = sym (none-landed (pairOf e) h base address (countOf x) ring memory z) })
+
+  pub ends-some : (x : Answer) (r : Outcome) (k : ℕ) (buffer′ : List ℕ)
+      → x ≡ userReadAnswer (pairOf e) (lentOf (e .datagram) (own (isOne h) (pairOf e) .queue) ring table) h base (length memory) options address n countAt
+      → (countOf x ≡ 0 → ⊥) → k ≡ n
+      → EndsRead e h (isPeek options) ring table (take k (drop (address - base) memory)) buffer′ r
+      → EndsBytesRead e h base options address n countAt ring table memory
+      (take (address - base) memory ++ (buffer′ ++ drop k (drop (address - base) memory)))
+      r
+  ends-some x r k buffer′ told z same d =
+      let w = read-some (pairOf e) h base options address n countAt ring table memory x told k buffer′ (r .answer) z same (d .answer) (d .bytes) in
+      record { answer = w .0 ∙ told; next = d .next; user = w .1 }
+
+  pub ends-after : (memory′ memory″ : List ℕ) (r : Outcome) → EndsBytesRead e h base options address n countAt ring table memory memory′ r
+      → memory″ ≡ pick (isDone (r .answer)) (countPut base countAt (countOf (r .answer)) memory′) memory′
+      → EndsUserRead e h base options address n countAt ring table memory memory″ r
+  ends-after memory′ memory″ r b u =
+      record {
+        answer = b .answer;
+        next = b .next;
+        user = count-lands (pairOf e) h base options address n countAt ring table memory (r .answer) (b .answer) memory′ memory″ (b .user) u;
+      }

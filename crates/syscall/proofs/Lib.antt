@@ -1,5 +1,4 @@
 pub mod Lists
-pub mod Landed
 pub mod Passed
 pub mod Calls
 pub mod Same

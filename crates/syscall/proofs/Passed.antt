@@ -28,11 +28,12 @@ use Rattle.socket.specs.Pair.{isOne, endsOf, own, peer}
 use Rattle.socket.specs.Tests.{Lent, handleTest}
 use Rattle.socket.specs.Read.{readAnswer}
 use Rattle.socket.specs.Disposition.{disposeAnswer, shutdownAnswer}
-use Rattle.syscall.specs.Memory.{fits, countFits, lookup}
+use Rattle.user_memory.specs.Memory.{fits, countFits}
+use Rattle.syscall.specs.Lookup.{lookup}
 use Rattle.syscall.specs.Write.{writeRanges, userWriteAnswer, Taking}
 use Rattle.syscall.specs.Read.{userReadAnswer}
 use Rattle.syscall.specs.Control.{dispositionOf, userDisposeAnswer, userShutdownAnswer}
-use Rattle.syscall.proofs.Landed.{fits-in}
+use Rattle.user_memory.proofs.Landed.{fits-in}
 
 -- a lookup that passed: the handle is open, and the rest is what the call without user memory asks
 handle-passed : (p : Pair) (h right : ℕ) → isDone (lookup p h right) ≡ true → isDone (handleTest p h) ≡ true

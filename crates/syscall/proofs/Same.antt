@@ -8,7 +8,7 @@ use Rattle.socket.specs.declared.Pair.{Pair}
 use Rattle.socket.specs.Pair.{isOne, own, peer, endsOf}
 use Rattle.socket.specs.Tests.{lentOf}
 use Rattle.syscall.specs.Ends.{pairOf}
-use Rattle.syscall.specs.Memory.{lookup}
+use Rattle.syscall.specs.Lookup.{lookup}
 use Rattle.syscall.specs.Write.{userWriteAnswer}
 use Rattle.syscall.specs.Read.{userReadAnswer, bytesLanded}
 use Rattle.syscall.specs.Control.{userDisposeAnswer, userShutdownAnswer}

@@ -10,7 +10,6 @@ use Rattle.status.proofs.Chains.{counted}
 use Rattle.places.specs.Table.{sound}
 use Rattle.endpoint.specs.Queue.{firstLength}
 use Rattle.transfer.specs.Read.{readEnds}
-use Rattle.transfer.specs.Write.{wroteEnds}
 use Rattle.ends.specs.declared.Ends.{Ends}
 use Rattle.ends.specs.declared.Outcome.{Outcome}
 use Rattle.socket.specs.declared.Pair.{Pair}
@@ -20,8 +19,8 @@ use Rattle.socket.specs.Tests.{lentOf}
 use Rattle.socket.specs.Read.{pairRead}
 use Rattle.socket.specs.Deferred.{settled}
 use Rattle.socket.proofs.Settled.{wrote-settled, read-settled}
-use Rattle.syscall.specs.Ends.{pairOf, wroteStep, readStep}
-use Rattle.syscall.specs.Memory.{countLanded}
+use Rattle.syscall.specs.Ends.{pairOf, EndsUserWrote, EndsBytesRead, EndsUserRead}
+use Rattle.user_memory.specs.Memory.{countLanded}
 use Rattle.syscall.specs.Write.{UserWrote}
 use Rattle.syscall.specs.Read.{isPeek, userReadAnswer, bytesLanded, BytesRead, UserRead}
 use Rattle.syscall.proofs.Passed.{write-passed, read-passed}
@@ -30,16 +29,16 @@ use Rattle.syscall.proofs.Same.{same-write, same-read, same-landed}
 module _ (p : Pair) (h base options address n countAt : ℕ) (e : Ends) (r : Outcome) (l : length (p .places .table) ≡ 128)
     (f : e ≡ endsOf p) where
   pub wrote-whole : (memory memory′ ring ring′ table table′ : List ℕ)
-      → UserWrote (pairOf e) h base options address n countAt memory memory′ ring ring′ table table′ (wroteStep e h (r .answer))
-      → r ≡ wroteEnds e h (r .answer) → UserWrote p h base options address n countAt memory memory′ ring ring′ table table′ (settled r p)
-  wrote-whole memory memory′ ring ring′ table table′ u next =
+      → EndsUserWrote e h base options address n countAt memory memory′ ring ring′ table table′ r
+      → UserWrote p h base options address n countAt memory memory′ ring ring′ table table′ (settled r p)
+  wrote-whole memory memory′ ring ring′ table table′ u =
       let a = r .answer in
-      let w = subst (λ (k : Ends). UserWrote (pairOf k) h base options address n countAt memory memory′ ring ring′ table table′ (wroteStep k h a)) f u in
+      let w = subst (λ (k : Ends). EndsUserWrote k h base options address n countAt memory memory′ ring ring′ table table′ r) f u in
       let x = w .answer ∙ same-write p h base (length memory) options address n countAt ring table in
       let s : (countOf a ≡ 0 → ⊥) → sound (p .places) ≡ true
       = λ (z : countOf a ≡ 0 → ⊥). write-passed p _ h base (length memory) options address n countAt a x (counted a z) .sound .places in
       subst (λ (k : Step). UserWrote p h base options address n countAt memory memory′ ring ring′ table table′ k)
-      (sym (wrote-settled p h a r l s (subst (λ (k : Ends). r ≡ wroteEnds k h a) f next)))
+      (sym (wrote-settled p h a r l s (w .next)))
       (record {
         answer = x;
         pair = refl;
@@ -72,17 +71,17 @@ module _ (p : Pair) (h base options address n countAt : ℕ) (e : Ends) (r : Out
         ap (λ (k : Ends). bytesLanded (pairOf k) h base address (countOf (r .answer)) ring memory) f
         ∙ same-landed p h base address (countOf (r .answer)) ring memory
 
-    pub bytes-whole : BytesRead (pairOf e) h base options address n countAt ring table memory memory′ (readStep e h (isPeek options) (firstOf e) (r .answer))
-        → r ≡ readEnds e h (isPeek options) (firstOf e) (r .answer) → BytesRead p h base options address n countAt ring table memory memory′ (settled r p)
-    bytes-whole w next =
-        let x = read-is (w .answer) next in
+    pub bytes-whole : EndsBytesRead e h base options address n countAt ring table memory memory′ r
+        → BytesRead p h base options address n countAt ring table memory memory′ (settled r p)
+    bytes-whole w =
+        let x = read-is (w .answer) (w .next) in
         subst (λ (k : Step). BytesRead p h base options address n countAt ring table memory memory′ k) (sym (x .1))
         (record { answer = x .0; pair = refl; user = w .user ∙ landed-is })
 
-    pub read-whole : UserRead (pairOf e) h base options address n countAt ring table memory memory′ (readStep e h (isPeek options) (firstOf e) (r .answer))
-        → r ≡ readEnds e h (isPeek options) (firstOf e) (r .answer) → UserRead p h base options address n countAt ring table memory memory′ (settled r p)
-    read-whole w next =
-        let x = read-is (w .answer) next in
+    pub read-whole : EndsUserRead e h base options address n countAt ring table memory memory′ r
+        → UserRead p h base options address n countAt ring table memory memory′ (settled r p)
+    read-whole w =
+        let x = read-is (w .answer) (w .next) in
         subst (λ (k : Step). UserRead p h base options address n countAt ring table memory memory′ k) (sym (x .1))
         (record {
           answer = x .0;

@@ -13,7 +13,7 @@ use Rattle.endpoint.specs.Disposition.{disposeChecks}
 use Rattle.socket.specs.declared.Pair.{Pair}
 use Rattle.socket.specs.Pair.{isOne, own, peer}
 use Rattle.socket.specs.Tests.{soundTest}
-use Rattle.syscall.specs.Memory.{RIGHT-WRITE, RIGHT-MANAGE, lookup}
+use Rattle.syscall.specs.Lookup.{RIGHT-WRITE, RIGHT-MANAGE, lookup}
 
 -- 01 "Delivered bytes", disposition: 0 leaves an end's writing unchanged, 1 disables it, 2 enables it. `userDisposeAnswer` refuses numbers above
 -- 2; the host's plain call, which 01 gives an enum, takes them as 0.

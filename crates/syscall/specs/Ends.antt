@@ -1,8 +1,8 @@
 -- The calls over user memory by the two ends of a pair: no answer looks at the table of places. 01 "Calls over user memory".
-use Prim.Native.Nat.{ℕ}
-use mathlib.Core.Bool.{Bool}
-use mathlib.Core.List.{[]}
-use Rattle.status.specs.declared.Answer.{Answer}
+use Prim.Native.Nat.{ℕ, _-_}
+use mathlib.Core.Path.{_≡_}
+use mathlib.Core.List.{List, []}
+use lib.ListN.{length, drop}
 use Rattle.status.specs.Choice.{pick}
 use Rattle.status.specs.Answer.{isDone, countOf}
 use Rattle.ends.specs.declared.Ends.{Ends}
@@ -10,10 +10,16 @@ use Rattle.ends.specs.declared.Outcome.{Outcome}
 use Rattle.ends.specs.Outcome.{unchangedEnds}
 use Rattle.control.specs.Disposition.{disposeEnds}
 use Rattle.control.specs.Shutdown.{shutEnds}
+use Rattle.endpoint.specs.Queue.{firstLength}
+use Rattle.transfer.specs.Write.{wroteEnds}
+use Rattle.transfer.specs.Read.{readEnds}
 use Rattle.socket.specs.declared.Pair.{Pair}
-use Rattle.socket.specs.declared.Step.{Step}
-use Rattle.socket.specs.Write.{pairWritten}
-use Rattle.socket.specs.Read.{pairRead}
+use Rattle.socket.specs.Pair.{isOne, own, peer}
+use Rattle.socket.specs.Tests.{lentOf}
+use Rattle.socket.specs.Write.{ringWritten, tableWritten}
+use Rattle.user_memory.specs.Memory.{countLanded}
+use Rattle.syscall.specs.Write.{userWriteAnswer}
+use Rattle.syscall.specs.Read.{isPeek, userReadAnswer, bytesLanded}
 use Rattle.syscall.specs.Control.{dispositionOf, userDisposeAnswer, shutsRead, shutsWrite, userShutdownAnswer}
 
 -- a pair of these ends
@@ -27,13 +33,28 @@ pairOf e =
       places = record { packets = e .packets; waits = e .waits; table = [] };
     }
 
--- the step of a write on a pair of these ends, by the answer
-abbrev pub wroteStep : Ends → (h : ℕ) → Answer → Step
-wroteStep e h a = record { pair = pairWritten (pairOf e) h (countOf a); answer = a }
+-- a write: its answer, the two ends by its answer, and each slice. The law `wrote-whole` of proofs/Settled: once the waits are visited this is
+-- `UserWrote`.
+pub record EndsUserWrote (e : Ends) (h base options address n countAt : ℕ) (memory memory′ ring ring′ table table′ : List ℕ) (r : Outcome) : Type 0 where
+  pub answer : r .answer ≡ userWriteAnswer (pairOf e) (lentOf (e .datagram) (peer (isOne h) (pairOf e) .queue) ring table) h base (length memory) options address n countAt
+  pub next : r ≡ wroteEnds e h (r .answer)
+  pub bytes : ring′ ≡ ringWritten (pairOf e) h (countOf (r .answer)) (drop (address - base) memory) ring
+  pub lengths : table′ ≡ tableWritten (pairOf e) h (countOf (r .answer)) table
+  pub user : memory′ ≡ pick (isDone (r .answer)) (countLanded base countAt (countOf (r .answer)) memory) memory
 
--- the step of a read on a pair of these ends, by the answer
-abbrev pub readStep : Ends → (h : ℕ) → (peek : Bool) → (first : ℕ) → Answer → Step
-readStep e h peek first a = record { pair = pairRead (pairOf e) h peek first (countOf a); answer = a }
+-- a read or peek, but for its count. The law `bytes-whole` of proofs/Settled: once the waits are visited this is `BytesRead`.
+pub record EndsBytesRead (e : Ends) (h base options address n countAt : ℕ) (ring table memory memory′ : List ℕ) (r : Outcome) : Type 0 where
+  pub answer : r .answer ≡ userReadAnswer (pairOf e) (lentOf (e .datagram) (own (isOne h) (pairOf e) .queue) ring table) h base (length memory) options address n countAt
+  pub next : r ≡ readEnds e h (isPeek options) (firstLength (e .datagram) (own (isOne h) (pairOf e) .queue) table) (r .answer)
+  pub user : memory′ ≡ bytesLanded (pairOf e) h base address (countOf (r .answer)) ring memory
+
+-- a read or peek. The law `read-whole` of proofs/Settled: once the waits are visited this is `UserRead`.
+pub record EndsUserRead (e : Ends) (h base options address n countAt : ℕ) (ring table memory memory′ : List ℕ) (r : Outcome) : Type 0 where
+  pub answer : r .answer ≡ userReadAnswer (pairOf e) (lentOf (e .datagram) (own (isOne h) (pairOf e) .queue) ring table) h base (length memory) options address n countAt
+  pub next : r ≡ readEnds e h (isPeek options) (firstLength (e .datagram) (own (isOne h) (pairOf e) .queue) table) (r .answer)
+  pub user :
+      memory′
+      ≡ pick (isDone (r .answer)) (countLanded base countAt (countOf (r .answer)) (bytesLanded (pairOf e) h base address (countOf (r .answer)) ring memory)) memory
 
 -- the outcome of a disposition by the answer: a refused call changes nothing
 unfoldable pub userDisposeEnds : Ends → (h disposition peerDisposition : ℕ) → Outcome

@@ -18,7 +18,8 @@ use Rattle.socket.specs.declared.Step.{Step}
 use Rattle.socket.specs.Pair.{isOne, own, peer}
 use Rattle.socket.specs.Tests.{soundTest, Lent, lentOf, slicesTest}
 use Rattle.socket.specs.Read.{pairRead}
-use Rattle.syscall.specs.Memory.{fits, countFits, isNull, RIGHT-READ, lookup, countLanded}
+use Rattle.user_memory.specs.Memory.{fits, countFits, isNull, countLanded}
+use Rattle.syscall.specs.Lookup.{RIGHT-READ, lookup}
 
 -- 01 "Calls over user memory", read: option 8 is a peek
 abbrev pub isPeek : (options : ℕ) → Bool

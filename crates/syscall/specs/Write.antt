@@ -14,7 +14,8 @@ use Rattle.socket.specs.declared.Step.{Step}
 use Rattle.socket.specs.Pair.{isOne, own, peer}
 use Rattle.socket.specs.Tests.{soundTest, Lent, lentOf, slicesTest}
 use Rattle.socket.specs.Write.{writeAnswer, pairWritten, ringWritten, tableWritten}
-use Rattle.syscall.specs.Memory.{fits, countFits, isNull, RIGHT-WRITE, lookup, countLanded}
+use Rattle.user_memory.specs.Memory.{fits, countFits, isNull, countLanded}
+use Rattle.syscall.specs.Lookup.{RIGHT-WRITE, lookup}
 
 -- 01 "Calls over user memory", write: the answer to the write's size, then the range of the bytes that it would take, then the count's range
 unfoldable pub writeRanges : (base size address countAt : ℕ) → (sized : Answer) → Answer

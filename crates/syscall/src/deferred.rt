@@ -1,5 +1,4 @@
 // The calls over user memory that change the two ends and leave the visit of the waits for later.
-use crate::memory::land_count;
 use crate::tests;
 use crate::tests::Buffer;
 use crate::tests::SOCKET_PEEK;
@@ -7,19 +6,17 @@ use ends::Ends;
 use ends::Outcome;
 use ends::unchanged;
 use status::Answer;
+use user_memory::land_count;
 ghost use mathlib.Core.Path.{_≡_};
 ghost use Prim.Native.Nat.{_-_};
 ghost use lib.ListN.{length, drop};
 ghost use Rattle.status.specs.Answer.{countOf};
-ghost use Rattle.endpoint.specs.Queue.{firstLength};
-ghost use Rattle.transfer.specs.Read.{readEnds};
 ghost use Rattle.transfer.specs.Write.{wroteEnds};
-ghost use Rattle.socket.specs.Pair.{isOne, own, peer};
+ghost use Rattle.socket.specs.Pair.{isOne, peer};
 ghost use Rattle.socket.specs.Tests.{lentOf};
 ghost use Rattle.socket.specs.Write.{ringWritten, tableWritten};
-ghost use Rattle.syscall.specs.Ends.{pairOf, wroteStep, readStep, userDisposeEnds, userShutEnds};
-ghost use Rattle.syscall.specs.Write.{Taking, UserWrote};
-ghost use Rattle.syscall.specs.Read.{isPeek, BytesRead, UserRead};
+ghost use Rattle.syscall.specs.Ends.{pairOf, EndsUserWrote, EndsBytesRead, EndsUserRead, userDisposeEnds, userShutEnds};
+ghost use Rattle.syscall.specs.Write.{Taking};
 
 // The bits of a shutdown's options; others are ignored.
 const SHUTDOWN_WRITE: u32 = 1;
@@ -62,7 +59,7 @@ pub fn write_ends(
     ring: &mut [u8],
     table: &mut [u32],
 ) -> Outcome
-    ensures { λ r. ⌜ (UserWrote (pairOf p) handle base options address count «count_at» (now (memory .entry)) (now (memory .exit)) (now (ring .entry)) (now (ring .exit)) (now (table .entry)) (now (table .exit)) (wroteStep p handle (r .answer))) × (r ≡ wroteEnds p handle (r .answer)) ⌝ }
+    ensures { λ r. ⌜ EndsUserWrote p handle base options address count «count_at» (now (memory .entry)) (now (memory .exit)) (now (ring .entry)) (now (ring .exit)) (now (table .entry)) (now (table .exit)) r ⌝ }
 {
     let b = Buffer {
         base,
@@ -93,7 +90,7 @@ pub fn bytes_ends(
     ring: &[u8],
     table: &[u32],
 ) -> Outcome
-    ensures { λ r. ⌜ (BytesRead (pairOf p) handle base options address count «count_at» (now (ring .entry)) (now (table .entry)) (now (memory .entry)) (now (memory .exit)) (readStep p handle (isPeek options) (firstLength (p .datagram) (own (isOne handle) (pairOf p) .queue) (now (table .entry))) (r .answer))) × (r ≡ readEnds p handle (isPeek options) (firstLength (p .datagram) (own (isOne handle) (pairOf p) .queue) (now (table .entry))) (r .answer)) ⌝ }
+    ensures { λ r. ⌜ EndsBytesRead p handle base options address count «count_at» (now (ring .entry)) (now (table .entry)) (now (memory .entry)) (now (memory .exit)) r ⌝ }
 {
     let b = Buffer {
         base,
@@ -131,7 +128,7 @@ pub fn read_ends(
     ring: &[u8],
     table: &[u32],
 ) -> Outcome
-    ensures { λ r. ⌜ (UserRead (pairOf p) handle base options address count «count_at» (now (ring .entry)) (now (table .entry)) (now (memory .entry)) (now (memory .exit)) (readStep p handle (isPeek options) (firstLength (p .datagram) (own (isOne handle) (pairOf p) .queue) (now (table .entry))) (r .answer))) × (r ≡ readEnds p handle (isPeek options) (firstLength (p .datagram) (own (isOne handle) (pairOf p) .queue) (now (table .entry))) (r .answer)) ⌝ }
+    ensures { λ r. ⌜ EndsUserRead p handle base options address count «count_at» (now (ring .entry)) (now (table .entry)) (now (memory .entry)) (now (memory .exit)) r ⌝ }
 {
     let r = bytes_ends(
         p,

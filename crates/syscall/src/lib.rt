@@ -12,14 +12,12 @@ ghost use Rattle.syscall.specs.Read.{BytesRead, UserRead};
 ghost use Rattle.syscall.specs.Control.{dispositionOf, userDisposeAnswer, userShutdownAnswer, shutsRead, shutsWrite};
 
 mod deferred;
-mod memory;
 mod tests;
 
 pub use deferred::dispose_ends;
 pub use deferred::read_ends;
 pub use deferred::shutdown_ends;
 pub use deferred::write_ends;
-pub use memory::land_count;
 
 // Writes the bytes of user memory to the peer's queue, and lands the count of those taken. The ring and the table are the peer's.
 pub fn write(

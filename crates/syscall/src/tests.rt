@@ -1,5 +1,4 @@
 // The tests of each call over user memory, in their order. Each answers done where they pass.
-use crate::memory;
 use endpoint::Disposition;
 use endpoint::dispose_checks;
 use ends::Ends;
@@ -17,7 +16,7 @@ ghost use Rattle.status.specs.Choice.{_or_};
 ghost use Rattle.socket.specs.Pair.{isOne, own, peer};
 ghost use Rattle.socket.specs.Tests.{lentOf};
 ghost use Rattle.syscall.specs.Ends.{pairOf};
-ghost use Rattle.syscall.specs.Memory;
+ghost use Rattle.syscall.specs.Lookup;
 ghost use Rattle.syscall.specs.Write.{writeRanges, userWriteAnswer};
 ghost use Rattle.syscall.specs.Read.{isPeek, userReadAnswer};
 ghost use Rattle.syscall.specs.Control.{dispositionOf, userDisposeAnswer, userShutdownAnswer};
@@ -43,7 +42,7 @@ pub struct Buffer {
 
 // The handle, then the right.
 fn lookup(p: Ends, handle: u32, right: u32) -> Answer
-    ensures { λ r. ⌜ r ≡ Memory.lookup (pairOf p) handle right ⌝ }
+    ensures { λ r. ⌜ r ≡ Lookup.lookup (pairOf p) handle right ⌝ }
 {
     let opened = handle_test(p, handle);
     if !status::is_done(opened) {
@@ -64,10 +63,10 @@ fn write_ranges(b: Buffer, a: Answer) -> Answer
         return a;
     }
     let m = status::count_of(a) as u64;
-    if !memory::fits(b.base, b.size, b.address, m) {
+    if !user_memory::fits(b.base, b.size, b.address, m) {
         return Answer::Refused(Status::InvalidArgs);
     }
-    if !memory::count_fits(b.base, b.size, b.count_at) {
+    if !user_memory::count_fits(b.base, b.size, b.count_at) {
         return Answer::Refused(Status::InvalidArgs);
     }
     a
@@ -97,7 +96,7 @@ pub fn write_answer(
     if options != 0 {
         return Answer::Refused(Status::InvalidArgs);
     }
-    if memory::is_null(b.address, b.count) {
+    if user_memory::is_null(b.address, b.count) {
         return Answer::Refused(Status::InvalidArgs);
     }
     let found = lookup(p, handle, RIGHT_WRITE);
@@ -140,7 +139,7 @@ pub fn read_answer(
     if !status::is_done(lent) {
         return lent;
     }
-    if memory::is_null(b.address, b.count) {
+    if user_memory::is_null(b.address, b.count) {
         return Answer::Refused(Status::InvalidArgs);
     }
     if !has_read_options(options) {
@@ -150,10 +149,10 @@ pub fn read_answer(
     if !status::is_done(found) {
         return found;
     }
-    if !memory::fits(b.base, b.size, b.address, b.count) {
+    if !user_memory::fits(b.base, b.size, b.address, b.count) {
         return Answer::Refused(Status::InvalidArgs);
     }
-    if !memory::count_fits(b.base, b.size, b.count_at) {
+    if !user_memory::count_fits(b.base, b.size, b.count_at) {
         return Answer::Refused(Status::InvalidArgs);
     }
     let first = q.first_length(p.datagram, table);

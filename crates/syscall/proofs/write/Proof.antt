@@ -26,7 +26,7 @@ same-length-3 c = search needs
 returns : tie.Need-returns
 returns c = let a = c .before .before .before .before .before .before .before .before .before .before .before .before .before .before .before .args in
     rw (c .settle .ensures)
-    (wrote-whole (a .p) (a .handle) (a .base) (a .options) (a .address) (a .count) (a .count-at) _ _ (places-128 (a .p) _ (c .before .before .before .before .before .before .before .before .before .before .before .before .before .before .before .good .0)) (c .before .before .before .before .before .before .before .before .before .before .before .ends-of .ensures) (now (a .memory)) _ (now (a .ring)) _ (now (a .table)) _ (c .before .before .before .before .before .before .before .write-ends .ensures .0) (c .before .before .before .before .before .before .before .write-ends .ensures .1))
+    (wrote-whole (a .p) (a .handle) (a .base) (a .options) (a .address) (a .count) (a .count-at) _ _ (places-128 (a .p) _ (c .before .before .before .before .before .before .before .before .before .before .before .before .before .before .before .good .0)) (c .before .before .before .before .before .before .before .before .before .before .before .ends-of .ensures) (now (a .memory)) _ (now (a .ring)) _ (now (a .table)) _ (c .before .before .before .before .before .before .before .write-ends .ensures))
 
 pub write-spec : {M : Type 1} → statement M
 write-spec = tie.close (tie.spec ends-of-requires write-ends-requires settle-requires same-length same-length-2 same-length-3 returns)

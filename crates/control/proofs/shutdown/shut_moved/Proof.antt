@@ -14,7 +14,7 @@ first-only-requires c κs = tt
 
 returns : tie.Need-returns
 unfolding shutEnd shutMoved
-returns c = pick-on _ _ _ _ _ (c .before .if1 .taken) (rw (← c .before .before .before .shut-visit .ensures, ← c .before .before .shut-end .ensures) (c .first-only .ensures))
+returns c = pick-on _ _ _ _ _ (c .before .if1 .taken) (rw (c .before .before .shut-end .ensures, c .before .before .before .shut-visit .ensures) at (c .first-only .ensures))
 
 shut-visit-requires-2 : tie.Need-shut-visit-requires-2
 shut-visit-requires-2 c κs = tt
@@ -27,7 +27,7 @@ with-visits-requires c κs = tt
 
 returns-2 : tie.Need-returns-2
 unfolding shutEnd shutMoved
-returns-2 c = pick-off _ _ _ _ _ (c .before .before .before .if1 .left) (rw (← c .before .before .before .before .before .shut-visit .ensures, ← c .before .before .before .before .shut-end .ensures, ← c .before .before .shut-visit2 .ensures, ← c .before .shut-end2 .ensures) (c .with-visits .ensures))
+returns-2 c = pick-off _ _ _ _ _ (c .before .before .before .if1 .left) (rw (c .before .before .before .before .shut-end .ensures, c .before .shut-end2 .ensures, c .before .before .before .before .before .shut-visit .ensures, c .before .before .shut-visit2 .ensures) at (c .with-visits .ensures))
 
 pub shut-moved-spec : {M : Type 1} → statement M
 shut-moved-spec =

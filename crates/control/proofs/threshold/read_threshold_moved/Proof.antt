@@ -10,7 +10,7 @@ thresholds-moved-requires c κs = tt
 
 returns : tie.Need-returns
 unfolding readThresholdMoved
-returns c = rw (← c .before .is-reached .ensures) (c .thresholds-moved .ensures)
+returns c = rw (c .before .is-reached .ensures) at (c .thresholds-moved .ensures)
 
 pub read-threshold-moved-spec : {M : Type 1} → statement M
 read-threshold-moved-spec = tie.close (tie.spec is-reached-requires thresholds-moved-requires returns)

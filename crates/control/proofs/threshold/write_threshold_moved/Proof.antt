@@ -14,7 +14,7 @@ thresholds-moved-requires c κs = tt
 
 returns : tie.Need-returns
 unfolding writeThresholdMoved
-returns c = rw (← c .before .is-reached .ensures) (c .thresholds-moved .ensures)
+returns c = rw (c .before .is-reached .ensures) at (c .thresholds-moved .ensures)
 
 pub write-threshold-moved-spec : {M : Type 1} → statement M
 write-threshold-moved-spec =

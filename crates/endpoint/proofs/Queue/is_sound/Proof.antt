@@ -1,4 +1,6 @@
 use borrow.Author.Tests.{lt-ltb, le-ltb, le-leb, lt-leb, not-true, not-false}
+use native.Mathlib.Omega.{arith}
+use Rattle.status.proofs.Rules.{and-on, and-off}
 use Rattle.status.specs.Choice.{pick, _and_}
 use Rattle.endpoint.specs.Queue.{soundQueue}
 use Rattle.endpoint.proofs.Queue.is_sound.Statement.{statement}
@@ -9,12 +11,12 @@ unfolding soundQueue pick _and_
 returns c = rw (le-ltb _ _ (c .if1 .taken))
 
 returns-2 : tie.Need-returns-2
-unfolding soundQueue pick _and_
-returns-2 c = rw (lt-ltb _ _ (c .before .before .if1 .left), le-ltb _ _ (c .if2 .taken))
+unfolding soundQueue
+returns-2 c = let a = c .before .before .before .before .args in and-on _ _ _ (lt-ltb _ _ (c .before .before .if1 .left)) (and-off _ _ (le-ltb (a .self .lengths .start) (a .capacity) (omega arith)))
 
 returns-3 : tie.Need-returns-3
-unfolding soundQueue pick _and_
-returns-3 c = rw (lt-ltb _ _ (c .before .before .before .before .if1 .left), lt-ltb _ _ (c .before .before .if2 .left), lt-leb _ _ (c .if3 .taken))
+unfolding soundQueue
+returns-3 c = let a = c .before .before .before .before .before .before .args in and-on _ _ _ (lt-ltb _ _ (c .before .before .before .before .if1 .left)) (and-on _ _ _ (lt-ltb (a .self .lengths .start) (a .capacity) (omega arith)) (and-off _ _ (lt-leb _ _ (c .if3 .taken))))
 
 returns-4 : tie.Need-returns-4
 unfolding soundQueue pick _and_

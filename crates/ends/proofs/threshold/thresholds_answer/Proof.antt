@@ -1,6 +1,9 @@
 use Rattle.status.proofs.Rules.{via-not, via-not-not, then-stop, then-go}
 use Rattle.ends.specs.Threshold.{thresholdsAnswer}
-use mathlib.Core.Path.{refl}
+use mathlib.Core.Path.{ap}
+use Rattle.status.specs.declared.Record.the-variants.{Limits}
+use Rattle.status.specs.declared.Answer.the-variants.{Done}
+use Rattle.endpoint.specs.declared.Endpoint.{Endpoint}
 use borrow.Author.Needs.{needs}
 use Rattle.ends.proofs.threshold.thresholds_answer.Statement.{statement}
 use Rattle.ends.proofs.threshold.thresholds_answer.Tie as tie
@@ -20,7 +23,7 @@ own-requires c κs = search needs
 
 returns-2 : tie.Need-returns-2
 unfolding thresholdsAnswer
-returns-2 c = rw (← c .before .own .ensures) (then-go _ _ _ _ (c .before .before .before .before .opening-test .ensures) (via-not-not (c .before .before .before .is-done .ensures) (c .before .before .if1 .left)) refl)
+returns-2 c = then-go _ _ _ _ (c .before .before .before .before .opening-test .ensures) (via-not-not (c .before .before .before .is-done .ensures) (c .before .before .if1 .left)) (ap (λ (o : Endpoint). Done (Limits (o .thresholds))) (c .before .own .ensures))
 
 pub thresholds-answer-spec : {M : Type 1} → statement M
 thresholds-answer-spec =

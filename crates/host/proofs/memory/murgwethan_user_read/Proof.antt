@@ -83,11 +83,9 @@ use Rattle.status.proofs.word as word
 use Rattle.status.proofs.word.Symbol as word-def
 use Rattle.status.proofs.word.Symbol.{name as #word}
 use Rattle.status.proofs.word.Met as word-thm
-use Rattle.syscall.specs.Read.{isPeek, UserRead}
-use Rattle.endpoint.specs.Queue.{firstLength}
-use Rattle.transfer.specs.Read.{readEnds}
-use Rattle.socket.specs.Pair.{isOne, own, endsOf}
-use Rattle.syscall.specs.Ends.{pairOf, readStep}
+use Rattle.syscall.specs.Read.{UserRead}
+use Rattle.socket.specs.Pair.{endsOf}
+use Rattle.syscall.specs.Ends.{EndsUserRead}
 use Rattle.syscall.proofs.Settled.{read-whole}
 use Rattle.syscall.proofs.read_ends as step
 use Rattle.syscall.proofs.read_ends.Symbol as step-def
@@ -186,8 +184,8 @@ module _ {M : Type 1} (𝓤 : URA M) (H : Heap 𝓤) (A : Atoms 𝓤) (W : Given
         move ! (0 ∷ 57 ∷ 53 ∷ 49 ∷ 47 ∷ []) $ join ! $ join ! $ join ! $ join ! $ use1 W (raw (Called 𝓤 H A at-mem run .pre (to-step j))) (goes-step j (g₁ .1) (g₂ .1) (g₃ .1) (g₅ .1) (g₆ .1) (g₇ .1)) $
         calls-at ! fm (Called 𝓤 H A at-mem run) known-step (to-step j) (and-then ! (load ! (from ! (stop !)) (look ! 19 refl)) (and-then ! (load ! (from ! (stop !)) (look ! 41 refl)) (and-then ! (load ! (from ! (stop !)) (look ! 39 refl)) (and-then ! (load ! (from ! (stop !)) (look ! 37 refl)) (and-then ! (load ! (from ! (stop !)) (look ! 13 refl)) (and-then ! (load ! (from ! (stop !)) (look ! 33 refl)) (and-then ! (load ! (from ! (stop !)) (look ! 31 refl)) (and-then ! (load ! (from ! (stop !)) (look ! 29 refl)) (and-then ! (load ! (from ! (stop !)) (look ! 27 refl)) (and-then ! (load ! (from ! (stop !)) (look ! 25 refl)) (no-more !))))))))))) (λ v.
         use1 W (later (some (λ (r : Outcome). ((‵ (flft κ₁ q₁) ⊛ ‵ (flft κ₂ q₂) ⊛ ‵ (flft κ₃ q₃) ⊛ ‵ ftrue) ⊛ ‵ (K.the-row .own r (v ∷ []))) ⊛ raw (ensured 𝓤 H A step.ended (step.clauses 𝓤 H A at-mem run) (κ₁, (κ₂, (κ₃, tt))) (j, (x₁, (x₂, (x₃, (r₄, (x₅, (x₆, (x₇, (x₈, (x₉, tt)))))))))) tt r)))) (id⊢ 𝓤 _) $ await ! tt $ pick ! (λ r. split ! $ move ! (1 ∷ []) $
-        use1 W (some (λ (zs : (Unit {0} × (Unit {0} × (Unit {0} × (Unit {0} × (List ℕ × (Unit {0} × (Unit {0} × (Unit {0} × (Unit {0} × (Unit {0} × Unit {0}))))))))))). ‵ (lasts step.ended (κ₁, (κ₂, (κ₃, tt))) (j, (x₁, (x₂, (x₃, (r₄, (x₅, (x₆, (x₇, (x₈, (x₉, tt)))))))))) zs) ⊛ raw (fact 𝓤 ((UserRead (pairOf j) x₁ x₃ x₂ x₅ x₆ x₇ (x₈ .now) (x₉ .now) ys₄ (zs .1 .1 .1 .1 .0) (readStep j x₁ (isPeek x₂) (firstLength (j .datagram) (own (isOne x₁) (pairOf j) .queue) (x₉ .now)) (r .answer))) × (r ≡ readEnds j x₁ (isPeek x₂) (firstLength (j .datagram) (own (isOne x₁) (pairOf j) .queue) (x₉ .now)) (r .answer)))))) (id⊢ 𝓤 _) $ pick ! (λ zs. split ! $ move ! (1 ∷ []) $
-        heard ! ((UserRead (pairOf j) x₁ x₃ x₂ x₅ x₆ x₇ (x₈ .now) (x₉ .now) ys₄ (zs .1 .1 .1 .1 .0) (readStep j x₁ (isPeek x₂) (firstLength (j .datagram) (own (isOne x₁) (pairOf j) .queue) (x₉ .now)) (r .answer))) × (r ≡ readEnds j x₁ (isPeek x₂) (firstLength (j .datagram) (own (isOne x₁) (pairOf j) .queue) (x₉ .now)) (r .answer))) (λ e. fsplit ! $ move ! (1 ∷ []) $ fsplit ! $ move ! (1 ∷ []) $ fsplit ! $ move ! (1 ∷ []) $ fsplit ! $ move ! (1 ∷ []) $ fsplit ! $ fsplit ! $ move ! (1 ∷ []) $ feqL ! (λ l₄. move ! (6 ∷ []) $ split ! $ move ! (1 ∷ []) $
+        use1 W (some (λ (zs : (Unit {0} × (Unit {0} × (Unit {0} × (Unit {0} × (List ℕ × (Unit {0} × (Unit {0} × (Unit {0} × (Unit {0} × (Unit {0} × Unit {0}))))))))))). ‵ (lasts step.ended (κ₁, (κ₂, (κ₃, tt))) (j, (x₁, (x₂, (x₃, (r₄, (x₅, (x₆, (x₇, (x₈, (x₉, tt)))))))))) zs) ⊛ raw (fact 𝓤 (EndsUserRead j x₁ x₃ x₂ x₅ x₆ x₇ (x₈ .now) (x₉ .now) ys₄ (zs .1 .1 .1 .1 .0) r)))) (id⊢ 𝓤 _) $ pick ! (λ zs. split ! $ move ! (1 ∷ []) $
+        heard ! (EndsUserRead j x₁ x₃ x₂ x₅ x₆ x₇ (x₈ .now) (x₉ .now) ys₄ (zs .1 .1 .1 .1 .0) r) (λ e. fsplit ! $ move ! (1 ∷ []) $ fsplit ! $ move ! (1 ∷ []) $ fsplit ! $ move ! (1 ∷ []) $ fsplit ! $ move ! (1 ∷ []) $ fsplit ! $ fsplit ! $ move ! (1 ∷ []) $ feqL ! (λ l₄. move ! (6 ∷ []) $ split ! $ move ! (1 ∷ []) $
         peeks ! K.the-row (Is K.the-row) (shows 𝓤 H A K.the-row) r (v ∷ []) (λ is.
         let parts = LL.owed K.the-type K′.the-laws r (v ∷ []) is in
         land ! (from ! (stop !)) (init ! 30 refl (LL.lawful K.the-type K′.the-laws 𝓤 H A W .typed r _ is .0)) $
@@ -228,12 +226,12 @@ module _ {M : Type 1} (𝓤 : URA M) (H : Heap 𝓤) (A : Atoms 𝓤) (W : Given
         move ! (9 ∷ 0 ∷ 10 ∷ 11 ∷ 12 ∷ []) $ closes ! tt T.the-row p′ (vals p′) b o $
         returns ! (look ! 51 refl) $ forget ! 11 refl $ forget ! 13 refl $ forget ! 15 refl $ forget ! 17 refl $ forget ! 19 refl $ forget ! 21 refl $ forget ! 23 refl $ forget ! 25 refl $ forget ! 27 refl $ forget ! 29 refl $ forget ! 31 refl $ forget ! 33 refl $ forget ! 35 refl $ forget ! 37 refl $ forget ! 39 refl $ forget ! 41 refl $ forget ! 43 refl $ forget ! 45 refl $ forget ! 47 refl $ forget ! 49 refl $ forget ! 51 refl $
         move ! (51 ∷ 52 ∷ []) $ free1 ! $ move ! (49 ∷ 50 ∷ []) $ free1 ! $ move ! (47 ∷ 48 ∷ []) $ free1 ! $ move ! (45 ∷ 46 ∷ []) $ free1 ! $ move ! (43 ∷ 44 ∷ []) $ free1 ! $ move ! (41 ∷ 42 ∷ []) $ free1 ! $ move ! (39 ∷ 40 ∷ []) $ free1 ! $ move ! (37 ∷ 38 ∷ []) $ free1 ! $ move ! (35 ∷ 36 ∷ []) $ free1 ! $ move ! (33 ∷ 34 ∷ []) $ free1 ! $ move ! (31 ∷ 32 ∷ []) $ free1 ! $ move ! (29 ∷ 30 ∷ []) $ free1 ! $ move ! (27 ∷ 28 ∷ []) $ free1 ! $ move ! (25 ∷ 26 ∷ []) $ free1 ! $ move ! (23 ∷ 24 ∷ []) $ free1 ! $ move ! (21 ∷ 22 ∷ []) $ free1 ! $ move ! (19 ∷ 20 ∷ []) $ free1 ! $ move ! (17 ∷ 18 ∷ []) $ free1 ! $ move ! (15 ∷ 16 ∷ []) $ free1 ! $ move ! (13 ∷ 14 ∷ []) $ free1 ! $ move ! (11 ∷ 12 ∷ []) $ free1 ! $ free0 ! $
-        keep ! (0 ∷ 1 ∷ 2 ∷ 4 ∷ 5 ∷ 3 ∷ []) $ by ! (exits p′ (r .answer) z v′ (zs .1 .1 .1 .1 .0) (subst (λ (k : Step). UserRead h x₁ x₃ x₂ x₅ x₆ x₇ (x₈ .now) (x₉ .now) ys₄ (zs .1 .1 .1 .1 .0) k) (settled-on r h p₁ p′ on e₁ e₂) (read-whole h x₁ x₃ x₂ x₅ x₆ x₇ j r (places-128 h _ was) e₀ (x₈ .now) (x₉ .now) ys₄ (zs .1 .1 .1 .1 .0) (e .0) (e .1))) d l₄)))))))
+        keep ! (0 ∷ 1 ∷ 2 ∷ 4 ∷ 5 ∷ 3 ∷ []) $ by ! (exits p′ (r .answer) z v′ (zs .1 .1 .1 .1 .0) (subst (λ (k : Step). UserRead h x₁ x₃ x₂ x₅ x₆ x₇ (x₈ .now) (x₉ .now) ys₄ (zs .1 .1 .1 .1 .0) k) (settled-on r h p₁ p′ on e₁ e₂) (read-whole h x₁ x₃ x₂ x₅ x₆ x₇ j r (places-128 h _ was) e₀ (x₈ .now) (x₉ .now) ys₄ (zs .1 .1 .1 .1 .0) e)) d l₄)))))))
         (λ off. skips ! $ exec ! C Λ _ code.Mir.t-12 (atRet _ Post) $ assigns ! (of-opd ! (load ! (from ! (stop !)) (look ! 28 refl))) (from ! (stop !)) (init ! 52 refl (sint-lawful 𝓤 H A W w64 .typed z _ is′ .0)) $
         owned ! T.the-row (Is T.the-row) ((LL.makes T.the-type T′.the-plain) 𝓤 H A) p₁ _ new $ move ! (9 ∷ 0 ∷ 10 ∷ 11 ∷ 12 ∷ []) $ closes ! tt T.the-row p₁ (vals p₁) b o $
         returns ! (look ! 51 refl) $ forget ! 15 refl $ forget ! 17 refl $ forget ! 19 refl $ forget ! 21 refl $ forget ! 23 refl $ forget ! 25 refl $ forget ! 27 refl $ forget ! 29 refl $ forget ! 31 refl $ forget ! 33 refl $ forget ! 35 refl $ forget ! 37 refl $ forget ! 39 refl $ forget ! 41 refl $ forget ! 43 refl $ forget ! 45 refl $ forget ! 47 refl $ forget ! 49 refl $ forget ! 51 refl $
         move ! (51 ∷ 52 ∷ []) $ free1 ! $ move ! (49 ∷ 50 ∷ []) $ free1 ! $ move ! (47 ∷ 48 ∷ []) $ free1 ! $ move ! (45 ∷ 46 ∷ []) $ free1 ! $ move ! (43 ∷ 44 ∷ []) $ free1 ! $ move ! (41 ∷ 42 ∷ []) $ free1 ! $ move ! (39 ∷ 40 ∷ []) $ free1 ! $ move ! (37 ∷ 38 ∷ []) $ free1 ! $ move ! (35 ∷ 36 ∷ []) $ free1 ! $ move ! (33 ∷ 34 ∷ []) $ free1 ! $ move ! (31 ∷ 32 ∷ []) $ free1 ! $ move ! (29 ∷ 30 ∷ []) $ free1 ! $ move ! (27 ∷ 28 ∷ []) $ free1 ! $ move ! (25 ∷ 26 ∷ []) $ free1 ! $ move ! (23 ∷ 24 ∷ []) $ free1 ! $ move ! (21 ∷ 22 ∷ []) $ free1 ! $ move ! (19 ∷ 20 ∷ []) $ free1 ! $ move ! (17 ∷ 18 ∷ []) $ free1 ! $ move ! (15 ∷ 16 ∷ []) $ free1 ! $ move ! (13 ∷ 14 ∷ []) $ free1 ! $ move ! (11 ∷ 12 ∷ []) $ free1 ! $ free0 ! $
-        keep ! (0 ∷ 1 ∷ 2 ∷ 4 ∷ 5 ∷ 3 ∷ []) $ by ! (exits p₁ (r .answer) z v′ (zs .1 .1 .1 .1 .0) (subst (λ (k : Step). UserRead h x₁ x₃ x₂ x₅ x₆ x₇ (x₈ .now) (x₉ .now) ys₄ (zs .1 .1 .1 .1 .0) k) (settled-off r h p₁ off e₁) (read-whole h x₁ x₃ x₂ x₅ x₆ x₇ j r (places-128 h _ was) e₀ (x₈ .now) (x₉ .now) ys₄ (zs .1 .1 .1 .1 .0) (e .0) (e .1))) d l₄)))))))))))))))))))))))))))))))))))))))))))))))))))
+        keep ! (0 ∷ 1 ∷ 2 ∷ 4 ∷ 5 ∷ 3 ∷ []) $ by ! (exits p₁ (r .answer) z v′ (zs .1 .1 .1 .1 .0) (subst (λ (k : Step). UserRead h x₁ x₃ x₂ x₅ x₆ x₇ (x₈ .now) (x₉ .now) ys₄ (zs .1 .1 .1 .1 .0) k) (settled-off r h p₁ off e₁) (read-whole h x₁ x₃ x₂ x₅ x₆ x₇ j r (places-128 h _ was) e₀ (x₈ .now) (x₉ .now) ys₄ (zs .1 .1 .1 .1 .0) e)) d l₄)))))))))))))))))))))))))))))))))))))))))))))))))))
 
 module _ {M : Type 1} (𝓤 : URA M) (H : Heap 𝓤) (A : Atoms 𝓤) (W : Given 𝓤 H A) (at-mem : Memory → SProp 𝓤) (run : Routine → Fun 𝓤) where
   walks : (C : Calls 𝓤 H) (Λ : Loops 𝓤 H) → FmC 𝓤 H (W .laws) C → Triple 𝓤 (C #step) (Called 𝓤 H A at-mem run) → Triple 𝓤 (C #word) (Word 𝓤 H A at-mem run) → Triple 𝓤 (C #fire) (Fire 𝓤 H A at-mem run) → Triple 𝓤 (C #ends) (EndsOf 𝓤 H A at-mem run) → Triple 𝓤 (C #put) (PutBack 𝓤 H A at-mem run)

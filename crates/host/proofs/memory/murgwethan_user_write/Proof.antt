@@ -84,9 +84,8 @@ use Rattle.status.proofs.word.Symbol as word-def
 use Rattle.status.proofs.word.Symbol.{name as #word}
 use Rattle.status.proofs.word.Met as word-thm
 use Rattle.syscall.specs.Write.{UserWrote}
-use Rattle.transfer.specs.Write.{wroteEnds}
 use Rattle.socket.specs.Pair.{endsOf}
-use Rattle.syscall.specs.Ends.{pairOf, wroteStep}
+use Rattle.syscall.specs.Ends.{EndsUserWrote}
 use Rattle.syscall.proofs.Settled.{wrote-whole}
 use Rattle.syscall.proofs.write_ends as step
 use Rattle.syscall.proofs.write_ends.Symbol as step-def
@@ -195,8 +194,8 @@ module _ {M : Type 1} (𝓤 : URA M) (H : Heap 𝓤) (A : Atoms 𝓤) (W : Given
         move ! (0 ∷ 65 ∷ 61 ∷ 57 ∷ 55 ∷ []) $ join ! $ join ! $ join ! $ join ! $ use1 W (raw (Called 𝓤 H A at-mem run .pre (to-step j))) (goes-step j (g₁ .1) (g₂ .1) (g₃ .1) (g₅ .1) (g₆ .1) (g₇ .1)) $
         calls-at ! fm (Called 𝓤 H A at-mem run) known-step (to-step j) (and-then ! (load ! (from ! (stop !)) (look ! 27 refl)) (and-then ! (load ! (from ! (stop !)) (look ! 49 refl)) (and-then ! (load ! (from ! (stop !)) (look ! 47 refl)) (and-then ! (load ! (from ! (stop !)) (look ! 45 refl)) (and-then ! (load ! (from ! (stop !)) (look ! 21 refl)) (and-then ! (load ! (from ! (stop !)) (look ! 41 refl)) (and-then ! (load ! (from ! (stop !)) (look ! 39 refl)) (and-then ! (load ! (from ! (stop !)) (look ! 37 refl)) (and-then ! (load ! (from ! (stop !)) (look ! 17 refl)) (and-then ! (load ! (from ! (stop !)) (look ! 13 refl)) (no-more !))))))))))) (λ v.
         use1 W (later (some (λ (r : Outcome). ((‵ (flft κ₁ q₁) ⊛ ‵ (flft κ₂ q₂) ⊛ ‵ (flft κ₃ q₃) ⊛ ‵ ftrue) ⊛ ‵ (K.the-row .own r (v ∷ []))) ⊛ raw (ensured 𝓤 H A step.ended (step.clauses 𝓤 H A at-mem run) (κ₁, (κ₂, (κ₃, tt))) (j, (x₁, (x₂, (x₃, (r₄, (x₅, (x₆, (x₇, (r₈, (r₉, tt)))))))))) tt r)))) (id⊢ 𝓤 _) $ await ! tt $ pick ! (λ r. split ! $ move ! (1 ∷ []) $
-        use1 W (some (λ (zs : (Unit {0} × (Unit {0} × (Unit {0} × (Unit {0} × (List ℕ × (Unit {0} × (Unit {0} × (Unit {0} × (List ℕ × (List ℕ × Unit {0}))))))))))). ‵ (lasts step.ended (κ₁, (κ₂, (κ₃, tt))) (j, (x₁, (x₂, (x₃, (r₄, (x₅, (x₆, (x₇, (r₈, (r₉, tt)))))))))) zs) ⊛ raw (fact 𝓤 ((UserWrote (pairOf j) x₁ x₃ x₂ x₅ x₆ x₇ ys₄ (zs .1 .1 .1 .1 .0) ys₈ (zs .1 .1 .1 .1 .1 .1 .1 .1 .0) ys₉ (zs .1 .1 .1 .1 .1 .1 .1 .1 .1 .0) (wroteStep j x₁ (r .answer))) × (r ≡ wroteEnds j x₁ (r .answer)))))) (id⊢ 𝓤 _) $ pick ! (λ zs. split ! $ move ! (1 ∷ []) $
-        heard ! ((UserWrote (pairOf j) x₁ x₃ x₂ x₅ x₆ x₇ ys₄ (zs .1 .1 .1 .1 .0) ys₈ (zs .1 .1 .1 .1 .1 .1 .1 .1 .0) ys₉ (zs .1 .1 .1 .1 .1 .1 .1 .1 .1 .0) (wroteStep j x₁ (r .answer))) × (r ≡ wroteEnds j x₁ (r .answer))) (λ e. fsplit ! $ move ! (1 ∷ []) $ fsplit ! $ move ! (1 ∷ []) $ fsplit ! $ move ! (1 ∷ []) $ fsplit ! $ move ! (1 ∷ []) $ fsplit ! $ fsplit ! $ move ! (1 ∷ []) $ feqL ! (λ l₄. move ! (1 ∷ []) $ fsplit ! $ move ! (1 ∷ []) $ fsplit ! $ move ! (1 ∷ []) $ fsplit ! $ move ! (1 ∷ []) $ fsplit ! $ fsplit ! $ move ! (1 ∷ []) $ feqL ! (λ l₈. move ! (1 ∷ []) $ fsplit ! $ fsplit ! $ move ! (1 ∷ []) $ feqL ! (λ l₉. move ! (11 ∷ []) $ split ! $ move ! (1 ∷ []) $
+        use1 W (some (λ (zs : (Unit {0} × (Unit {0} × (Unit {0} × (Unit {0} × (List ℕ × (Unit {0} × (Unit {0} × (Unit {0} × (List ℕ × (List ℕ × Unit {0}))))))))))). ‵ (lasts step.ended (κ₁, (κ₂, (κ₃, tt))) (j, (x₁, (x₂, (x₃, (r₄, (x₅, (x₆, (x₇, (r₈, (r₉, tt)))))))))) zs) ⊛ raw (fact 𝓤 (EndsUserWrote j x₁ x₃ x₂ x₅ x₆ x₇ ys₄ (zs .1 .1 .1 .1 .0) ys₈ (zs .1 .1 .1 .1 .1 .1 .1 .1 .0) ys₉ (zs .1 .1 .1 .1 .1 .1 .1 .1 .1 .0) r)))) (id⊢ 𝓤 _) $ pick ! (λ zs. split ! $ move ! (1 ∷ []) $
+        heard ! (EndsUserWrote j x₁ x₃ x₂ x₅ x₆ x₇ ys₄ (zs .1 .1 .1 .1 .0) ys₈ (zs .1 .1 .1 .1 .1 .1 .1 .1 .0) ys₉ (zs .1 .1 .1 .1 .1 .1 .1 .1 .1 .0) r) (λ e. fsplit ! $ move ! (1 ∷ []) $ fsplit ! $ move ! (1 ∷ []) $ fsplit ! $ move ! (1 ∷ []) $ fsplit ! $ move ! (1 ∷ []) $ fsplit ! $ fsplit ! $ move ! (1 ∷ []) $ feqL ! (λ l₄. move ! (1 ∷ []) $ fsplit ! $ move ! (1 ∷ []) $ fsplit ! $ move ! (1 ∷ []) $ fsplit ! $ move ! (1 ∷ []) $ fsplit ! $ fsplit ! $ move ! (1 ∷ []) $ feqL ! (λ l₈. move ! (1 ∷ []) $ fsplit ! $ fsplit ! $ move ! (1 ∷ []) $ feqL ! (λ l₉. move ! (11 ∷ []) $ split ! $ move ! (1 ∷ []) $
         peeks ! K.the-row (Is K.the-row) (shows 𝓤 H A K.the-row) r (v ∷ []) (λ is.
         let parts = LL.owed K.the-type K′.the-laws r (v ∷ []) is in
         land ! (from ! (stop !)) (init ! 43 refl (LL.lawful K.the-type K′.the-laws 𝓤 H A W .typed r _ is .0)) $
@@ -237,12 +236,12 @@ module _ {M : Type 1} (𝓤 : URA M) (H : Heap 𝓤) (A : Atoms 𝓤) (W : Given
         move ! (14 ∷ 0 ∷ 15 ∷ 16 ∷ 17 ∷ []) $ closes ! tt T.the-row p′ (vals p′) b o $
         returns ! (look ! 64 refl) $ forget ! 16 refl $ forget ! 18 refl $ forget ! 20 refl $ forget ! 22 refl $ forget ! 24 refl $ forget ! 26 refl $ forget ! 28 refl $ forget ! 30 refl $ forget ! 32 refl $ forget ! 34 refl $ forget ! 36 refl $ forget ! 38 refl $ forget ! 40 refl $ forget ! 42 refl $ forget ! 44 refl $ forget ! 46 refl $ forget ! 48 refl $ forget ! 50 refl $ forget ! 52 refl $ forget ! 54 refl $ forget ! 56 refl $ forget ! 58 refl $ forget ! 60 refl $ forget ! 62 refl $ forget ! 64 refl $
         move ! (64 ∷ 65 ∷ []) $ free1 ! $ move ! (62 ∷ 63 ∷ []) $ free1 ! $ move ! (60 ∷ 61 ∷ []) $ free1 ! $ move ! (58 ∷ 59 ∷ []) $ free1 ! $ move ! (56 ∷ 57 ∷ []) $ free1 ! $ move ! (54 ∷ 55 ∷ []) $ free1 ! $ move ! (52 ∷ 53 ∷ []) $ free1 ! $ move ! (50 ∷ 51 ∷ []) $ free1 ! $ move ! (48 ∷ 49 ∷ []) $ free1 ! $ move ! (46 ∷ 47 ∷ []) $ free1 ! $ move ! (44 ∷ 45 ∷ []) $ free1 ! $ move ! (42 ∷ 43 ∷ []) $ free1 ! $ move ! (40 ∷ 41 ∷ []) $ free1 ! $ move ! (38 ∷ 39 ∷ []) $ free1 ! $ move ! (36 ∷ 37 ∷ []) $ free1 ! $ move ! (34 ∷ 35 ∷ []) $ free1 ! $ move ! (32 ∷ 33 ∷ []) $ free1 ! $ move ! (30 ∷ 31 ∷ []) $ free1 ! $ move ! (28 ∷ 29 ∷ []) $ free1 ! $ move ! (26 ∷ 27 ∷ []) $ free1 ! $ move ! (24 ∷ 25 ∷ []) $ free1 ! $ move ! (22 ∷ 23 ∷ []) $ free1 ! $ move ! (20 ∷ 21 ∷ []) $ free1 ! $ move ! (18 ∷ 19 ∷ []) $ free1 ! $ move ! (16 ∷ 17 ∷ []) $ free1 ! $ free0 ! $
-        keep ! (0 ∷ 1 ∷ 2 ∷ 4 ∷ 11 ∷ 7 ∷ 5 ∷ 3 ∷ []) $ by ! (exits p′ (r .answer) z v′ (zs .1 .1 .1 .1 .0) (zs .1 .1 .1 .1 .1 .1 .1 .1 .0) (zs .1 .1 .1 .1 .1 .1 .1 .1 .1 .0) (subst (λ (k : Step). UserWrote h x₁ x₃ x₂ x₅ x₆ x₇ ys₄ (zs .1 .1 .1 .1 .0) ys₈ (zs .1 .1 .1 .1 .1 .1 .1 .1 .0) ys₉ (zs .1 .1 .1 .1 .1 .1 .1 .1 .1 .0) k) (settled-on r h p₁ p′ on e₁ e₂) (wrote-whole h x₁ x₃ x₂ x₅ x₆ x₇ j r (places-128 h _ was) e₀ ys₄ (zs .1 .1 .1 .1 .0) ys₈ (zs .1 .1 .1 .1 .1 .1 .1 .1 .0) ys₉ (zs .1 .1 .1 .1 .1 .1 .1 .1 .1 .0) (e .0) (e .1))) d l₄ l₈ l₉)))))))
+        keep ! (0 ∷ 1 ∷ 2 ∷ 4 ∷ 11 ∷ 7 ∷ 5 ∷ 3 ∷ []) $ by ! (exits p′ (r .answer) z v′ (zs .1 .1 .1 .1 .0) (zs .1 .1 .1 .1 .1 .1 .1 .1 .0) (zs .1 .1 .1 .1 .1 .1 .1 .1 .1 .0) (subst (λ (k : Step). UserWrote h x₁ x₃ x₂ x₅ x₆ x₇ ys₄ (zs .1 .1 .1 .1 .0) ys₈ (zs .1 .1 .1 .1 .1 .1 .1 .1 .0) ys₉ (zs .1 .1 .1 .1 .1 .1 .1 .1 .1 .0) k) (settled-on r h p₁ p′ on e₁ e₂) (wrote-whole h x₁ x₃ x₂ x₅ x₆ x₇ j r (places-128 h _ was) e₀ ys₄ (zs .1 .1 .1 .1 .0) ys₈ (zs .1 .1 .1 .1 .1 .1 .1 .1 .0) ys₉ (zs .1 .1 .1 .1 .1 .1 .1 .1 .1 .0) e)) d l₄ l₈ l₉)))))))
         (λ off. skips ! $ exec ! C Λ _ code.Mir.t-16 (atRet _ Post) $ assigns ! (of-opd ! (load ! (from ! (stop !)) (look ! 41 refl))) (from ! (stop !)) (init ! 65 refl (sint-lawful 𝓤 H A W w64 .typed z _ is′ .0)) $
         owned ! T.the-row (Is T.the-row) ((LL.makes T.the-type T′.the-plain) 𝓤 H A) p₁ _ new $ move ! (14 ∷ 0 ∷ 15 ∷ 16 ∷ 17 ∷ []) $ closes ! tt T.the-row p₁ (vals p₁) b o $
         returns ! (look ! 64 refl) $ forget ! 20 refl $ forget ! 22 refl $ forget ! 24 refl $ forget ! 26 refl $ forget ! 28 refl $ forget ! 30 refl $ forget ! 32 refl $ forget ! 34 refl $ forget ! 36 refl $ forget ! 38 refl $ forget ! 40 refl $ forget ! 42 refl $ forget ! 44 refl $ forget ! 46 refl $ forget ! 48 refl $ forget ! 50 refl $ forget ! 52 refl $ forget ! 54 refl $ forget ! 56 refl $ forget ! 58 refl $ forget ! 60 refl $ forget ! 62 refl $ forget ! 64 refl $
         move ! (64 ∷ 65 ∷ []) $ free1 ! $ move ! (62 ∷ 63 ∷ []) $ free1 ! $ move ! (60 ∷ 61 ∷ []) $ free1 ! $ move ! (58 ∷ 59 ∷ []) $ free1 ! $ move ! (56 ∷ 57 ∷ []) $ free1 ! $ move ! (54 ∷ 55 ∷ []) $ free1 ! $ move ! (52 ∷ 53 ∷ []) $ free1 ! $ move ! (50 ∷ 51 ∷ []) $ free1 ! $ move ! (48 ∷ 49 ∷ []) $ free1 ! $ move ! (46 ∷ 47 ∷ []) $ free1 ! $ move ! (44 ∷ 45 ∷ []) $ free1 ! $ move ! (42 ∷ 43 ∷ []) $ free1 ! $ move ! (40 ∷ 41 ∷ []) $ free1 ! $ move ! (38 ∷ 39 ∷ []) $ free1 ! $ move ! (36 ∷ 37 ∷ []) $ free1 ! $ move ! (34 ∷ 35 ∷ []) $ free1 ! $ move ! (32 ∷ 33 ∷ []) $ free1 ! $ move ! (30 ∷ 31 ∷ []) $ free1 ! $ move ! (28 ∷ 29 ∷ []) $ free1 ! $ move ! (26 ∷ 27 ∷ []) $ free1 ! $ move ! (24 ∷ 25 ∷ []) $ free1 ! $ move ! (22 ∷ 23 ∷ []) $ free1 ! $ move ! (20 ∷ 21 ∷ []) $ free1 ! $ move ! (18 ∷ 19 ∷ []) $ free1 ! $ move ! (16 ∷ 17 ∷ []) $ free1 ! $ free0 ! $
-        keep ! (0 ∷ 1 ∷ 2 ∷ 4 ∷ 11 ∷ 7 ∷ 5 ∷ 3 ∷ []) $ by ! (exits p₁ (r .answer) z v′ (zs .1 .1 .1 .1 .0) (zs .1 .1 .1 .1 .1 .1 .1 .1 .0) (zs .1 .1 .1 .1 .1 .1 .1 .1 .1 .0) (subst (λ (k : Step). UserWrote h x₁ x₃ x₂ x₅ x₆ x₇ ys₄ (zs .1 .1 .1 .1 .0) ys₈ (zs .1 .1 .1 .1 .1 .1 .1 .1 .0) ys₉ (zs .1 .1 .1 .1 .1 .1 .1 .1 .1 .0) k) (settled-off r h p₁ off e₁) (wrote-whole h x₁ x₃ x₂ x₅ x₆ x₇ j r (places-128 h _ was) e₀ ys₄ (zs .1 .1 .1 .1 .0) ys₈ (zs .1 .1 .1 .1 .1 .1 .1 .1 .0) ys₉ (zs .1 .1 .1 .1 .1 .1 .1 .1 .1 .0) (e .0) (e .1))) d l₄ l₈ l₉)))))))))))))))))))))))))))))))))))))))))))))))))))))))))
+        keep ! (0 ∷ 1 ∷ 2 ∷ 4 ∷ 11 ∷ 7 ∷ 5 ∷ 3 ∷ []) $ by ! (exits p₁ (r .answer) z v′ (zs .1 .1 .1 .1 .0) (zs .1 .1 .1 .1 .1 .1 .1 .1 .0) (zs .1 .1 .1 .1 .1 .1 .1 .1 .1 .0) (subst (λ (k : Step). UserWrote h x₁ x₃ x₂ x₅ x₆ x₇ ys₄ (zs .1 .1 .1 .1 .0) ys₈ (zs .1 .1 .1 .1 .1 .1 .1 .1 .0) ys₉ (zs .1 .1 .1 .1 .1 .1 .1 .1 .1 .0) k) (settled-off r h p₁ off e₁) (wrote-whole h x₁ x₃ x₂ x₅ x₆ x₇ j r (places-128 h _ was) e₀ ys₄ (zs .1 .1 .1 .1 .0) ys₈ (zs .1 .1 .1 .1 .1 .1 .1 .1 .0) ys₉ (zs .1 .1 .1 .1 .1 .1 .1 .1 .1 .0) e)) d l₄ l₈ l₉)))))))))))))))))))))))))))))))))))))))))))))))))))))))))
 
 module _ {M : Type 1} (𝓤 : URA M) (H : Heap 𝓤) (A : Atoms 𝓤) (W : Given 𝓤 H A) (at-mem : Memory → SProp 𝓤) (run : Routine → Fun 𝓤) where
   walks : (C : Calls 𝓤 H) (Λ : Loops 𝓤 H) → FmC 𝓤 H (W .laws) C → Triple 𝓤 (C #step) (Called 𝓤 H A at-mem run) → Triple 𝓤 (C #word) (Word 𝓤 H A at-mem run) → Triple 𝓤 (C #fire) (Fire 𝓤 H A at-mem run) → Triple 𝓤 (C #ends) (EndsOf 𝓤 H A at-mem run) → Triple 𝓤 (C #put) (PutBack 𝓤 H A at-mem run)

@@ -4,8 +4,7 @@ use denote.Ref.{now}
 use native.Mathlib.Omega.{arith}
 use Rattle.transfer.proofs.Outcomes.{unchanged-read}
 use Rattle.syscall.specs.Ends.{pairOf}
-use Rattle.syscall.specs.Read.{BytesRead}
-use Rattle.syscall.proofs.Calls.{read-by, read-none, read-room, read-some}
+use Rattle.syscall.proofs.Calls.{read-room, ends-none, ends-some}
 use borrow.Author.Needs.{needs}
 use Rattle.syscall.proofs.deferred.bytes_ends.Statement.{statement}
 use Rattle.syscall.proofs.deferred.bytes_ends.Tie as tie
@@ -22,7 +21,7 @@ unchanged-requires c κs = search needs
 returns : tie.Need-returns
 returns c = let a = c .before .before .before .before .before .before .before .args in
     let z = sym (c .before .before .count-of .ensures) ∙ c .before .if1 .taken in
-    read-by (BytesRead (pairOf (a .p)) (a .handle) (a .base) (a .options) (a .address) (a .count) (a .count-at) (now (a .ring)) (now (a .table)) (now (a .memory)) _) (a .p) (a .handle) _ _ _ _ (c .unchanged .ensures ∙ unchanged-read (a .p) (a .handle) _ _ _ z) (read-none (pairOf (a .p)) (a .handle) (a .base) (a .options) (a .address) (a .count) (a .count-at) (now (a .ring)) (now (a .table)) (now (a .memory)) _ (c .before .before .before .read-answer .ensures) z)
+    ends-none (a .p) (a .handle) (a .base) (a .options) (a .address) (a .count) (a .count-at) (now (a .ring)) (now (a .table)) (now (a .memory)) _ _ (c .before .before .before .read-answer .ensures) z (c .unchanged .ensures ∙ unchanged-read (a .p) (a .handle) _ _ _ z)
 
 sub-from : tie.Need-sub-from
 sub-from c = let a = c .before .before .before .before .before .before .args in read-room (pairOf (a .p)) (a .handle) (a .base) (a .options) (a .address) (a .count) (a .count-at) (now (a .ring)) (now (a .table)) (now (a .memory)) _ (c .before .before .read-answer .ensures) (λ y. c .if1 .left (c .before .count-of .ensures ∙ y)) .0
@@ -47,7 +46,7 @@ same-length c = search needs
 
 returns-2 : tie.Need-returns-2
 returns-2 c = let a = c .before .before .before .before .before .before .before .before .before .before .args in
-    (read-some (pairOf (a .p)) (a .handle) (a .base) (a .options) (a .address) (a .count) (a .count-at) (now (a .ring)) (now (a .table)) (now (a .memory)) _ (c .before .before .before .before .before .before .read-answer .ensures) (a .address - a .base + a .count - (a .address - a .base)) _ _ (λ y. c .before .before .before .before .if1 .left (c .before .before .before .before .before .count-of .ensures ∙ y)) (omega arith) (c .before .before .read-ends .ensures .answer) (c .before .before .read-ends .ensures .bytes), c .before .before .read-ends .ensures .next)
+    ends-some (a .p) (a .handle) (a .base) (a .options) (a .address) (a .count) (a .count-at) (now (a .ring)) (now (a .table)) (now (a .memory)) _ _ (a .address - a .base + a .count - (a .address - a .base)) _ (c .before .before .before .before .before .before .read-answer .ensures) (λ y. c .before .before .before .before .if1 .left (c .before .before .before .before .before .count-of .ensures ∙ y)) (omega arith) (c .before .before .read-ends .ensures)
 
 pub bytes-ends-spec : {M : Type 1} → statement M
 bytes-ends-spec = tie.close (tie.spec read-answer-requires count-of-requires unchanged-requires returns sub-from add-to sub-read-ends part-read-ends-start part-read-ends-end read-ends-requires same-length returns-2)

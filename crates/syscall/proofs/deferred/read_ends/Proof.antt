@@ -1,8 +1,7 @@
 use mathlib.Core.Path.{refl}
 use denote.Ref.{now}
 use Rattle.status.proofs.Rules.{pick-on, pick-off, via}
-use Rattle.syscall.proofs.Calls.{count-after}
-use Rattle.syscall.specs.Ends.{pairOf}
+use Rattle.syscall.proofs.Calls.{ends-after}
 use borrow.Author.Needs.{needs}
 use Rattle.syscall.proofs.deferred.read_ends.Statement.{statement}
 use Rattle.syscall.proofs.deferred.read_ends.Tie as tie
@@ -24,14 +23,14 @@ same-length c = search needs
 
 returns : tie.Need-returns
 returns c = let a = c .before .before .before .before .before .before .before .before .before .before .before .before .before .before .args in
-    (count-after (pairOf (a .p)) (a .handle) (a .base) (a .options) (a .address) (a .count) (a .count-at) (now (a .ring)) (now (a .table)) (now (a .memory)) _ _ _ (c .before .before .before .before .before .before .before .before .before .bytes-ends .ensures .0) (pick-on _ _ _ _ _ (via (c .before .before .before .before .before .before .is-done .ensures) (c .before .before .before .before .before .if1 .taken)) (rw (← c .before .before .before .count-of .ensures) (c .before .before .land-count .ensures))), c .before .before .before .before .before .before .before .before .before .bytes-ends .ensures .1)
+    ends-after (a .p) (a .handle) (a .base) (a .options) (a .address) (a .count) (a .count-at) (now (a .ring)) (now (a .table)) (now (a .memory)) _ _ _ (c .before .before .before .before .before .before .before .before .before .bytes-ends .ensures) (pick-on _ _ _ _ _ (via (c .before .before .before .before .before .before .is-done .ensures) (c .before .before .before .before .before .if1 .taken)) (rw (← c .before .before .before .count-of .ensures) (c .before .before .land-count .ensures)))
 
 same-length-2 : tie.Need-same-length-2
 same-length-2 c = search needs
 
 returns-2 : tie.Need-returns-2
 returns-2 c = let a = c .before .before .before .before .before .before .before .before .before .args in
-    (count-after (pairOf (a .p)) (a .handle) (a .base) (a .options) (a .address) (a .count) (a .count-at) (now (a .ring)) (now (a .table)) (now (a .memory)) _ _ _ (c .before .before .before .before .bytes-ends .ensures .0) (pick-off _ _ _ _ _ (via (c .before .is-done .ensures) (c .if1 .left)) refl), c .before .before .before .before .bytes-ends .ensures .1)
+    ends-after (a .p) (a .handle) (a .base) (a .options) (a .address) (a .count) (a .count-at) (now (a .ring)) (now (a .table)) (now (a .memory)) _ _ _ (c .before .before .before .before .bytes-ends .ensures) (pick-off _ _ _ _ _ (via (c .before .is-done .ensures) (c .if1 .left)) refl)
 
 pub read-ends-spec : {M : Type 1} → statement M
 read-ends-spec = tie.close (tie.spec bytes-ends-requires is-done-requires count-of-requires land-count-requires same-length returns same-length-2 returns-2)

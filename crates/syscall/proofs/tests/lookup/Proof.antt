@@ -1,7 +1,7 @@
 use Rattle.status.proofs.Rules.{via-not, via-not-not, then-stop, then-go}
 use Rattle.status.proofs.Rules.{refuse-last, pass-last}
 use borrow.Author.Tests.{ne-eqb, eq-eqb}
-use Rattle.syscall.specs.Memory.{lookup}
+use Rattle.syscall.specs.Lookup.{lookup}
 use borrow.Author.Needs.{needs}
 use Rattle.syscall.proofs.tests.lookup.Statement.{statement}
 use Rattle.syscall.proofs.tests.lookup.Tie as tie

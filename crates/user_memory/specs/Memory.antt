@@ -1,18 +1,11 @@
--- User memory: one lent slice at a 64-bit base; and the lookup of a handle with a right. 01 "Calls over user memory".
+-- User memory: one lent slice at a 64-bit base. 01 "Calls over user memory".
 use Prim.Native.Nat.{ℕ, zero, suc, _+_, _-_, _/_, _%_}
 use mathlib.Core.Bool.{Bool, not}
 use mathlib.Core.List.{List, [], _∷_}
 use lib.Dec.{leb, eqb}
-use lib.Bits.{bitAnd}
 use lib.ListN.{length}
 use lib.Seq.{paste}
-use Rattle.status.specs.declared.Status.the-variants.{AccessDenied}
-use Rattle.status.specs.declared.Answer.{Answer}
 use Rattle.status.specs.Choice.{pick, _and_, _or_}
-use Rattle.status.specs.Answer.{refuseIf, _then_}
-use Rattle.socket.specs.declared.Pair.{Pair}
-use Rattle.socket.specs.Pair.{isOne, own}
-use Rattle.socket.specs.Tests.{handleTest}
 
 -- 01 "Calls over user memory", ranges: n bytes at an address lie in memory of that size, or n is 0. Numbers are exact, so no address wraps.
 unfoldable pub fits : (base size address n : ℕ) → Bool
@@ -25,22 +18,6 @@ countFits base size countAt = eqb countAt 0 or fits base size countAt 8
 -- 01 "Calls over user memory", write and read: address 0 with a count above 0
 unfoldable pub isNull : (address n : ℕ) → Bool
 isNull address n = eqb address 0 and not (eqb n 0)
-
--- 01 "Status and answer word", create: the right to read
-abbrev pub RIGHT-READ : ℕ
-RIGHT-READ = 1
-
--- 01 "Status and answer word", create: the right to write
-abbrev pub RIGHT-WRITE : ℕ
-RIGHT-WRITE = 2
-
--- 01 "Status and answer word", create: the right to manage
-abbrev pub RIGHT-MANAGE : ℕ
-RIGHT-MANAGE = 4
-
--- 01 "Calls over user memory", lookup: the handle, then whether its end has the right
-unfoldable pub lookup : Pair → (h right : ℕ) → Answer
-lookup p h right = handleTest p h then refuseIf (eqb (bitAnd (own (isOne h) p .rights) right) 0) AccessDenied
 
 -- 01 "Calls over user memory", write: little-endian, the k low bytes of n with the lowest first
 unfoldable pub littleEndian : (k n : ℕ) → List ℕ

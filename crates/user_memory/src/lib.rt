@@ -3,7 +3,7 @@ ghost use mathlib.Core.Path.{_≡_};
 ghost use Prim.Native.Nat.{_+_, _≤_};
 ghost use lib.ListN.{length};
 ghost use lib.Seq.{paste};
-ghost use Rattle.syscall.specs.Memory;
+ghost use Rattle.user_memory.specs.Memory;
 
 // Whether a range of n bytes lies in memory of `size` bytes. No sum is made, so none wraps.
 pub fn fits(base: u64, size: usize, address: u64, n: u64) -> bool

@@ -1,9 +1,9 @@
 use Rattle.status.proofs.Rules.{and-on, and-off}
 use borrow.Author.Tests.{ne-eqb, eq-eqb}
 use mathlib.Core.Path.{refl}
-use Rattle.syscall.specs.Memory.{isNull}
-use Rattle.syscall.proofs.memory.is_null.Statement.{statement}
-use Rattle.syscall.proofs.memory.is_null.Tie as tie
+use Rattle.user_memory.specs.Memory.{isNull}
+use Rattle.user_memory.proofs.is_null.Statement.{statement}
+use Rattle.user_memory.proofs.is_null.Tie as tie
 
 returns : tie.Need-returns
 unfolding isNull

@@ -2,10 +2,10 @@ use denote.Ref.{now}
 use native.Mathlib.Omega.{arith}
 use Rattle.status.proofs.Rules.{via-not, via-not-not}
 use mathlib.Core.Path.{_∙_}
-use Rattle.syscall.proofs.Landed.{count-none, count-out, count-in, fits-in}
+use Rattle.user_memory.proofs.Landed.{count-none, count-out, count-in, fits-in}
 use borrow.Author.Needs.{needs}
-use Rattle.syscall.proofs.memory.land_count.Statement.{statement}
-use Rattle.syscall.proofs.memory.land_count.Tie as tie
+use Rattle.user_memory.proofs.land_count.Statement.{statement}
+use Rattle.user_memory.proofs.land_count.Tie as tie
 
 returns : tie.Need-returns
 returns c = count-none (c .before .before .args .base) (c .before .before .args .count-at) (c .before .before .args .n) (now (c .before .before .args .memory)) (c .if1 .taken)

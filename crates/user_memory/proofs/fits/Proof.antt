@@ -3,11 +3,11 @@ use borrow.Author.Tests.{ne-eqb, le-leb, lt-leb, eq-eqb}
 use mathlib.Core.Path.{sym}
 use Prim.Native.Nat.{_+_, _-_}
 use native.Mathlib.Omega.{arith}
-use Rattle.syscall.proofs.Lists.{leb-room}
-use Rattle.syscall.specs.Memory.{fits}
+use Rattle.user_memory.proofs.Lists.{leb-room}
+use Rattle.user_memory.specs.Memory.{fits}
 use borrow.Author.Needs.{needs}
-use Rattle.syscall.proofs.memory.fits.Statement.{statement}
-use Rattle.syscall.proofs.memory.fits.Tie as tie
+use Rattle.user_memory.proofs.fits.Statement.{statement}
+use Rattle.user_memory.proofs.fits.Tie as tie
 
 returns : tie.Need-returns
 unfolding fits

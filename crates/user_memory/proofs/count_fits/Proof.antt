@@ -1,9 +1,9 @@
 use Rattle.status.proofs.Rules.{or-on, or-off}
 use borrow.Author.Tests.{ne-eqb, eq-eqb}
-use Rattle.syscall.specs.Memory.{countFits}
+use Rattle.user_memory.specs.Memory.{countFits}
 use borrow.Author.Needs.{needs}
-use Rattle.syscall.proofs.memory.count_fits.Statement.{statement}
-use Rattle.syscall.proofs.memory.count_fits.Tie as tie
+use Rattle.user_memory.proofs.count_fits.Statement.{statement}
+use Rattle.user_memory.proofs.count_fits.Tie as tie
 
 returns : tie.Need-returns
 unfolding countFits

@@ -11,8 +11,8 @@ use borrow.Author.Tests.{leb-true, eq-eqb, ne-eqb}
 use Rattle.status.specs.Choice.{_or_}
 use Rattle.status.proofs.Rules.{pick-on, pick-off, or-on, or-off}
 use Rattle.status.proofs.Chains.{both}
-use Rattle.syscall.specs.Memory.{fits, countFits, littleEndian, countLanded, countPut}
-use Rattle.syscall.proofs.Lists.{paste-cons}
+use Rattle.user_memory.specs.Memory.{fits, countFits, littleEndian, countLanded, countPut}
+use Rattle.user_memory.proofs.Lists.{paste-cons}
 
 -- a range that fits, of more than 0 bytes
 pub fits-in : (base size address n : ℕ) → fits base size address n ≡ true → (n ≡ 0 → ⊥) → (base ≤ address) × (address - base + n ≤ size)

@@ -5,10 +5,10 @@ use lib.ListN.{length}
 use lib.Seq.{paste}
 use denote.Ref.{now}
 use borrow.Author.Needs.{needs}
-use Rattle.syscall.specs.Memory.{littleEndian}
-use Rattle.syscall.proofs.Landed.{byte-put, all-put}
-use Rattle.syscall.proofs.memory.put_count.Statement.{statement}
-use Rattle.syscall.proofs.memory.put_count.Tie as tie
+use Rattle.user_memory.specs.Memory.{littleEndian}
+use Rattle.user_memory.proofs.Landed.{byte-put, all-put}
+use Rattle.user_memory.proofs.put_count.Statement.{statement}
+use Rattle.user_memory.proofs.put_count.Tie as tie
 
 abbrev Inv-loop : tie.InvT-loop
 Inv-loop memory₀ at n rest₀ i₀ memory rest i =
