@@ -10,7 +10,7 @@ pub mod Refused
 pub mod Views
 pub mod Any
 pub mod Idle
-mod Only
+pub mod FirstPlace
 pub mod Sound
 pub mod Length
 pub mod Cases

@@ -45,10 +45,6 @@ unfoldable pub droppedOf : Bool → Places → Places
 droppedOf one t =
     tableOf (packetsOf t) (others one (waitsOf t)) (replicate (t .waits - length (others one (waitsOf t))) free ++ unusedOf t)
 
--- whether the only place used is a wait
-unfoldable pub onlyWait : Places → Bool
-onlyWait t = eqb (t .packets) 0 and eqb (t .waits) 1
-
 -- ---- the operations
 
 -- 01 "Status and answer word": a refused call changes nothing

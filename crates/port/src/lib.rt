@@ -14,7 +14,9 @@ ghost use Rattle.status.specs.Answer.{refuseIf, refuseUnless, _then_};
 ghost use Rattle.status.specs.declared.Status.the-variants.{Internal, NoResources};
 ghost use Rattle.port.specs.Signal.{changedWord, meets};
 ghost use Rattle.port.specs.Table.{free, endNumber, fires, anyFires, observe, newPlaces, waitsOf};
-ghost use Rattle.port.specs.Port.{onlyWait, firedOf, droppedOf, insertedOf, appendedOf, registerOf, firesOf, changeOf, takeOf, dropOf};
+ghost use Rattle.port.specs.Port.{firedOf, droppedOf, insertedOf, appendedOf, registerOf, firesOf, changeOf, takeOf, dropOf};
+
+pub mod first;
 
 // The signals of a socket, by the bits of the public header.
 pub const READABLE: u32 = 0x1;
@@ -212,47 +214,6 @@ fn dropped(t: Places, one: bool, sound: bool) -> Places
             }
         }
         out.waits = n - packets;
-    }
-    out
-}
-
-// Whether the only place used is a wait.
-pub fn is_only_wait(packets: usize, waits: usize) -> bool
-    ensures { λ r. ⌜ r ≡ (eqb packets 0 and eqb waits 1) ⌝ }
-{
-    if packets != 0 {
-        return false;
-    }
-    waits == 1
-}
-
-// Whether the only place used is a wait, and a change to this word fires it.
-fn only_fires(t: Places, one: bool, word: u32, next: u32) -> bool
-    ensures { λ r. ⌜ r ≡ (onlyWait t and not (eqb next word) and fires one next (getD (t .table) 0 free)) ⌝ }
-{
-    if !is_only_wait(t.packets, t.waits) {
-        return false;
-    }
-    if next == word {
-        return false;
-    }
-    let wait = t.table[0];
-    is_fired(wait, one, next)
-}
-
-// Visits the wait of a table whose only place used is a wait. It stands in the first place, so that no index is computed, and the compiler
-// leaves one copy of the table.
-pub fn only_visited(t: Places, one: bool, word: u32, clear: u32, set: u32) -> Places
-    ensures { λ r. ⌜ r ≡ pick (onlyWait t) (changeOf one word clear set t .places) t ⌝ }
-{
-    let next = changed(word, clear, set);
-    let wait = t.table[0];
-    let packet = observed_at(wait, next);
-    let mut out = t;
-    if only_fires(t, one, word, next) {
-        out.table[0] = packet;
-        out.packets = 1;
-        out.waits = 0;
     }
     out
 }

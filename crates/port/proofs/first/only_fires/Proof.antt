@@ -3,9 +3,9 @@ use borrow.Author.Needs.{needs}
 use borrow.Author.Tests.{eq-eqb, ne-eqb}
 use Rattle.status.specs.Choice.{_and_}
 use Rattle.status.proofs.Rules.{via-not, via-not-not}
-use Rattle.port.specs.Port.{onlyWait}
-use Rattle.port.proofs.only_fires.Statement.{statement}
-use Rattle.port.proofs.only_fires.Tie as tie
+use Rattle.port.specs.First.{onlyWait}
+use Rattle.port.proofs.first.only_fires.Statement.{statement}
+use Rattle.port.proofs.first.only_fires.Tie as tie
 
 is-only-wait-requires : tie.Need-is-only-wait-requires
 is-only-wait-requires c κs = tt

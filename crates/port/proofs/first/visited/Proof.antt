@@ -1,9 +1,9 @@
 use mathlib.Core.Path.{refl, sym, _∙_}
 use borrow.Author.Needs.{needs}
 use Rattle.port.proofs.Size.{table-128}
-use Rattle.port.proofs.Only.{only-on, only-off}
-use Rattle.port.proofs.only_visited.Statement.{statement}
-use Rattle.port.proofs.only_visited.Tie as tie
+use Rattle.port.proofs.FirstPlace.{only-on, only-off}
+use Rattle.port.proofs.first.visited.Statement.{statement}
+use Rattle.port.proofs.first.visited.Tie as tie
 
 changed-requires : tie.Need-changed-requires
 changed-requires c κs = tt
@@ -34,8 +34,8 @@ returns-2 c =
     let e = rw n at (sym (c .before .only-fires .ensures) ∙ c .if1 .left) in
     only-off (s .args .one) (s .args .word) (s .args .clear) (s .args .set) (s .args .t1) (table-128 (s .args .t1) _ (s .good .0)) e
 
-pub only-visited-spec : {M : Type 1} → statement M
-only-visited-spec =
+pub visited-spec : {M : Type 1} → statement M
+visited-spec =
     tie.close
     (tie.spec
     changed-requires
