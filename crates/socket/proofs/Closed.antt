@@ -38,8 +38,8 @@ use Rattle.socket.proofs.Visiting.{visited-none, visited-idle, no-visit
 use Rattle.socket.proofs.Steps.{steps-refused, steps-done}
 
 -- the waits of end t dropped, then those of its peer visited
-unfoldable closedWaits : Bool → Visits → Pair → Pair
-closedWaits t v p = withPlaces (visited (v .first) (dropOf t (p .places) .places)) p
+unfoldable droppedVisited : Bool → Visits → Pair → Pair
+droppedVisited t v p = withPlaces (visited (v .first) (dropOf t (p .places) .places)) p
 
 one-visit : (v : Visits) (q : Pair) → v .second ≡ noVisit → visitedPair v q ≡ withPlaces (visited (v .first) (q .places)) q
 unfolding visitedPair
@@ -47,8 +47,8 @@ one-visit v q e = ap (λ (a : Pending). withPlaces (visited a (visited (v .first
 
 -- the code's step: one change at most
 by-fires : (f t : Bool) (r : Outcome) (p : Pair) → r .fires ≡ f → r .more ≡ noVisits → r .visits .second ≡ noVisit
-    → settledClose t r p ≡ record { pair = pick f (closedWaits t (r .visits) (withOutcome r p)) (withOutcome r p); answer = r .answer }
-unfolding settledClose settled visitedAll closedWaits withoutWaits withEnds withPlaces dropOf pick
+    → settledClose t r p ≡ record { pair = pick f (droppedVisited t (r .visits) (withOutcome r p)) (withOutcome r p); answer = r .answer }
+unfolding settledClose settled visitedAll droppedVisited withoutWaits withEnds withPlaces dropOf pick
 by-fires true t r p f m n =
     rw f
     (ap (λ (k : Pair). record { pair = k; answer = r .answer })
@@ -65,7 +65,7 @@ dropped t p s = ap (λ (n : Next). n .places) (drop-done t (p .places) s)
 
 -- the pair after the visits of a close, its waits being dropped
 abbrev closedPair : Bool → Moved → Pair → Pair
-closedPair t m p = closedWaits t (m .visits) (withEnds (pick t (m .own) (m .peer)) (pick t (m .peer) (m .own)) p)
+closedPair t m p = droppedVisited t (m .visits) (withEnds (pick t (m .own) (m .peer)) (pick t (m .peer) (m .own)) p)
 
 by-closed : (c t : Bool) (m n : Moved) (p q r : Pair) → closedPair t m p ≡ q → closedPair t n p ≡ r → closedPair t (pick c m n) p ≡ pick c q r
 unfolding pick
@@ -73,7 +73,7 @@ by-closed true t m n p q r e g = e
 by-closed false t m n p q r e g = g
 
 closed-visited : (t : Bool) (p : Pair) → sound (p .places) ≡ true → closedPair t (closeMoved t (own t p) (peer t p)) p ≡ closed t p
-unfolding closeMoved closed closedWaits closeVisit firstOnly keptEnds changedEnd visited withEnds withEnd withPlaces pick
+unfolding closeMoved closed droppedVisited closeVisit firstOnly keptEnds changedEnd visited withEnds withEnd withPlaces pick
 closed-visited true p s =
     by-closed (p .two .closed) true _ _ p _ _
     (ap (λ u. withPlaces u (withEnd true (closedEnd (p .one)) p)) (visited-none _ ∙ dropped true p s))
@@ -86,8 +86,8 @@ closed-visited false p s =
     ∙ rw (dropped false p s) refl))
 
 -- where there are no waits, nothing is to be done with them
-no-waits : (t : Bool) (v : Visits) (p : Pair) → length (p .places .table) ≡ 128 → p .places .waits ≡ 0 → closedWaits t v p ≡ p
-unfolding closedWaits withPlaces
+no-waits : (t : Bool) (v : Visits) (p : Pair) → length (p .places .table) ≡ 128 → p .places .waits ≡ 0 → droppedVisited t v p ≡ p
+unfolding droppedVisited withPlaces
 no-waits t v p l w =
     ap (λ u. withPlaces (visited (v .first) u) p) (idle-drop t (p .places) w l) ∙ ap (λ u. withPlaces u p) (visited-idle (v .first) (p .places) w l)
 
@@ -111,7 +111,7 @@ closed-settled p t a l s =
     let q = withEnds (pick t (m .own) (m .peer)) (pick t (m .peer) (m .own)) p in
     by-fires (not (eqb (p .places .waits) 0)) t _ p refl refl (one-change t p)
     ∙ ap (λ (k : Pair). record { pair = k; answer = a })
-    (settled-pair (not (eqb (p .places .waits) 0)) (closedWaits t (m .visits) q) q (λ f. no-waits t (m .visits) q l (none _ f)) ∙ closed-visited t p s)
+    (settled-pair (not (eqb (p .places .waits) 0)) (droppedVisited t (m .visits) q) q (λ f. no-waits t (m .visits) q l (none _ f)) ∙ closed-visited t p s)
 
 unchanged-settled : (t : Bool) (p : Pair) (a : Answer) → settledClose t (unchangedEnds (endsOf p) a) p ≡ record { pair = p; answer = a }
 unfolding settledClose settled unchangedEnds withEnds pick

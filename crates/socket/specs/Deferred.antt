@@ -57,6 +57,10 @@ settled r p = record { pair = pick (r .fires) (visitedAll r (withOutcome r p)) (
 unfoldable pub withoutWaits : Bool → Pair → Pair
 withoutWaits t p = withPlaces (dropOf t (p .places) .places) p
 
+-- the pair without the waits of end t, where there are any, once the others are visited
+unfoldable pub closedWaits : Bool → Outcome → Pair → Pair
+closedWaits t r p = pick (r .fires) (visitedAll r (withoutWaits t p)) p
+
 -- the step of a close with this outcome, by end t: its waits are gone before those of its peer are visited
 unfoldable pub settledClose : Bool → Outcome → Pair → Step
 settledClose t r p = settled r (pick (r .fires) (withoutWaits t p) p)

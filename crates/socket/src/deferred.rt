@@ -13,7 +13,7 @@ ghost use mathlib.Core.Path.{_≡_};
 ghost use Rattle.status.specs.Choice.{pick};
 ghost use Rattle.port.specs.First.{onlyWait};
 ghost use Rattle.socket.specs.Pair.{isOne};
-ghost use Rattle.socket.specs.Deferred.{due, anyDue, needsVisit, visited, visitedAll, withEnds, settled, withoutWaits};
+ghost use Rattle.socket.specs.Deferred.{due, anyDue, needsVisit, visited, visitedAll, withEnds, withOutcome, settled, withoutWaits};
 
 // Whether a change fires a wait. The table is only read.
 fn is_due(t: Places, a: Pending) -> bool
@@ -100,7 +100,7 @@ pub fn visit_only(p: Pair, r: Outcome) -> Pair
 }
 
 // The pair with both ends replaced.
-pub fn with_ends(p: Pair, one: Endpoint, two: Endpoint) -> Pair
+fn with_ends(p: Pair, one: Endpoint, two: Endpoint) -> Pair
     ensures { λ r. ⌜ r ≡ withEnds one two p ⌝ }
 {
     let places = p.places;
@@ -111,6 +111,15 @@ pub fn with_ends(p: Pair, one: Endpoint, two: Endpoint) -> Pair
         two,
         places,
     }
+}
+
+// The pair with the ends of an outcome.
+pub fn with_outcome(p: Pair, r: Outcome) -> Pair
+    ensures { λ q. ⌜ q ≡ withOutcome r p ⌝ }
+{
+    let one = r.one;
+    let two = r.two;
+    with_ends(p, one, two)
 }
 
 fn visit(p: Pair, r: Outcome) -> Pair
@@ -129,11 +138,9 @@ fn visit(p: Pair, r: Outcome) -> Pair
 pub fn settle(p: Pair, r: Outcome) -> Step
     ensures { λ s. ⌜ s ≡ settled r p ⌝ }
 {
-    let one = r.one;
-    let two = r.two;
     let answer = r.answer;
     Step {
-        pair: visit(with_ends(p, one, two), r),
+        pair: visit(with_outcome(p, r), r),
         answer,
     }
 }
@@ -145,4 +152,17 @@ pub fn without_waits(p: Pair, handle: u32) -> Pair
     let n = p.places.drop_waits(handle == 1);
     let places = n.places;
     parts::with_places(p, places)
+}
+
+// The pair without the waits of an end, once the others are visited.
+pub fn close_waits(p: Pair, handle: u32, r: Outcome) -> Pair
+    ensures { λ q. ⌜ q ≡ visitedAll r (withoutWaits (isOne handle) p) ⌝ }
+{
+    let n = p.places.drop_waits(handle == 1);
+    let mut t = n.places;
+    t = visited(t, r.visits.first);
+    t = visited(t, r.visits.second);
+    t = visited(t, r.more.first);
+    t = visited(t, r.more.second);
+    parts::with_places(p, t)
 }

@@ -17,13 +17,14 @@ mod threshold;
 mod wait;
 mod write;
 
+pub use create::new_pair;
+pub use deferred::close_waits;
 pub use deferred::has_only_wait;
 pub use deferred::needs_visit;
 pub use deferred::settle;
 pub use deferred::visit_each;
 pub use deferred::visit_only;
-pub use deferred::with_ends;
-pub use deferred::without_waits;
+pub use deferred::with_outcome;
 pub use parts::ends_of;
 pub use wait::has_only_packet;
 pub use wait::is_unused;

@@ -33,14 +33,7 @@ pub fn is_unused(p: Pair) -> bool
 }
 
 // The same as `registered` for a pair of which no place is used.
-pub fn registered_first(
-    p: Pair,
-    a: Answer,
-    handle: u32,
-    key: u64,
-    mask: u32,
-    edge: u8,
-) -> Pair
+pub fn registered_first(p: Pair, a: Answer, handle: u32, key: u64, mask: u32, edge: u8) -> Pair
     ensures { λ r. ⌜ r ≡ pick (unused (p .places)) (registeredPair (isDone a) (isOne handle) key mask edge p) p ⌝ }
 {
     let one = handle == 1;
