@@ -2,4 +2,4 @@ pub mod Partition
 pub mod Any
 pub mod Operations
 pub mod Idle
-mod Only
+pub mod Only

@@ -1,2 +1,3 @@
 pub mod Recorded
-pub mod Settle
+pub mod Stored
+pub mod Callees

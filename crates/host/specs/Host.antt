@@ -1,4 +1,5 @@
--- A call on a pair that the host keeps: the promise of the by-value call, told of that pair. 01 "Status and answer word".
+-- A call on a pair that the host keeps behind a reference: what the by-value call ensures, with the pair at exit in place of the pair returned.
+-- 01 "Status and answer word".
 use Prim.Native.Nat.{ℕ}
 use mathlib.Core.Path.{_≡_}
 use lib.IntN.{ℤ, pos, negℤ}
@@ -16,7 +17,7 @@ pub record Answered (promise : Step → Type 0) (p′ : Pair) (w : ℤ) : Type 0
   pub word : w ≡ answerWord answer
   pub kept : promise (record { pair = p′; answer = answer })
 
--- 01 "Script program": the word that an end shows; −1 for a closed end and for another handle
+-- 01 "Status and answer word": the word that an end shows; BAD_HANDLE for a closed end and for another handle
 unfoldable pub signalNumber : SignalWord → ℤ
-signalNumber Closed = negℤ (pos 1)
+signalNumber Closed = negℤ (pos 11)
 signalNumber (Word w) = pos w

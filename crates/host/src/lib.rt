@@ -5,7 +5,7 @@ ghost use mathlib.Core.Path.{_≡_};
 ghost use lib.ListN.{length};
 ghost use lib.Dec.{eqb};
 ghost use Rattle.ends.specs.Create.{createAnswer};
-ghost use Rattle.socket.specs.Pair.{isOne, newPair, noPair, shownBy};
+ghost use Rattle.socket.specs.Pair.{isOne, newPair, shownBy};
 ghost use Rattle.socket.specs.Tests.{Steps};
 ghost use Rattle.socket.specs.Write.{Wrote};
 ghost use Rattle.socket.specs.Read.{Read};
@@ -17,10 +17,10 @@ ghost use Rattle.host.specs.Host.{Answered, signalNumber};
 
 mod memory;
 mod records;
+mod store;
 mod values;
 
-// A new pair over the rings and tables of its two ends. What the record held before is gone in any case; where the call is refused, the record
-// left answers −1 to every call.
+// A new pair over the rings and tables of its two ends, of which it looks at the lengths. Where the call is refused, the record stays as it is.
 #[no_mangle]
 pub extern "C" fn murgwethan_create(
     p: &mut Pair,
@@ -33,9 +33,9 @@ pub extern "C" fn murgwethan_create(
     ring_two: &[u8],
     table_two: &[u32],
 ) -> i64
-    ensures { λ w. ⌜ Answered (Steps noPair (createAnswer kind capacity «rights_one» «rights_two» (length (now («ring_one» .entry))) (length (now («table_one» .entry))) (length (now («ring_two» .entry))) (length (now («table_two» .entry)))) (newPair (eqb kind 1) capacity «rights_one» «rights_two»)) (now (p .exit)) w ⌝ }
+    ensures { λ w. ⌜ Answered (Steps (now (p .entry)) (createAnswer kind capacity «rights_one» «rights_two» (length (now («ring_one» .entry))) (length (now («table_one» .entry))) (length (now («ring_two» .entry))) (length (now («table_two» .entry)))) (newPair (eqb kind 1) capacity «rights_one» «rights_two»)) (now (p .exit)) w ⌝ }
 {
-    let r = Pair::create(
+    let a = values::create_answer(
         kind,
         capacity,
         rights_one,
@@ -45,8 +45,7 @@ pub extern "C" fn murgwethan_create(
         ring_two,
         table_two,
     );
-    *p = r.pair;
-    status::word(r.answer)
+    store::create(p, a, kind, capacity, rights_one, rights_two)
 }
 
 // Writes to the peer's queue. The ring and the table are the peer's.
@@ -61,12 +60,7 @@ pub extern "C" fn murgwethan_write(
     ensures { λ w. ⌜ Answered (Wrote (now (p .entry)) handle (now (bytes .entry)) (now (ring .entry)) (now (ring .exit)) (now (table .entry)) (now (table .exit))) (now (p .exit)) w ⌝ }
 {
     let r = transfer::write_ends(socket::ends_of(*p), handle, ring, table, bytes);
-    *p = socket::with_outcome(*p, r);
-    let w = status::word(r.answer);
-    if r.fires {
-        *p = socket::visit(*p, r.visits);
-    }
-    w
+    store::outcome(p, r)
 }
 
 // Reads the front of the own queue into the buffer. The ring and the table are the reader's. A peek leaves the bytes in the queue.
@@ -82,12 +76,7 @@ pub extern "C" fn murgwethan_read(
     ensures { λ w. ⌜ Answered (Read (now (p .entry)) handle peek (now (ring .entry)) (now (table .entry)) (now (buffer .entry)) (now (buffer .exit))) (now (p .exit)) w ⌝ }
 {
     let r = transfer::read_ends(socket::ends_of(*p), handle, peek, ring, table, buffer);
-    *p = socket::with_outcome(*p, r);
-    let w = status::word(r.answer);
-    if r.fires {
-        *p = socket::visit(*p, r.visits);
-    }
-    w
+    store::outcome(p, r)
 }
 
 // Disables or enables the writing of an end and of its peer: 1 disables, 2 enables, any other number changes nothing. No right is asked.
@@ -101,12 +90,7 @@ pub extern "C" fn murgwethan_set_disposition(
     ensures { λ w. ⌜ Answered (Steps (now (p .entry)) (disposeAnswer (now (p .entry)) handle (dispositionOf disposition) (dispositionOf «peer_disposition»)) (disposed (isOne handle) (dispositionOf disposition) (dispositionOf «peer_disposition») (now (p .entry)))) (now (p .exit)) w ⌝ }
 {
     let r = values::dispose_ends(socket::ends_of(*p), handle, disposition, peer_disposition);
-    *p = socket::with_outcome(*p, r);
-    let w = status::word(r.answer);
-    if r.fires {
-        *p = socket::visit_all(*p, r);
-    }
-    w
+    store::outcome(p, r)
 }
 
 #[no_mangle]
@@ -114,12 +98,7 @@ pub extern "C" fn murgwethan_shutdown(p: &mut Pair, handle: u32, read: bool, wri
     ensures { λ w. ⌜ Answered (Steps (now (p .entry)) (shutdownAnswer (now (p .entry)) handle) (shut (isOne handle) read write (now (p .entry)))) (now (p .exit)) w ⌝ }
 {
     let r = control::shutdown_ends(socket::ends_of(*p), handle, read, write);
-    *p = socket::with_outcome(*p, r);
-    let w = status::word(r.answer);
-    if r.fires {
-        *p = socket::visit(*p, r.visits);
-    }
-    w
+    store::outcome(p, r)
 }
 
 #[no_mangle]
@@ -127,12 +106,7 @@ pub extern "C" fn murgwethan_set_read_threshold(p: &mut Pair, handle: u32, thres
     ensures { λ w. ⌜ Answered (Steps (now (p .entry)) (readThresholdAnswer (now (p .entry)) handle threshold) (readThresholdSet (isOne handle) threshold (now (p .entry)))) (now (p .exit)) w ⌝ }
 {
     let r = control::read_threshold_ends(socket::ends_of(*p), handle, threshold);
-    *p = socket::with_outcome(*p, r);
-    let w = status::word(r.answer);
-    if r.fires {
-        *p = socket::visit(*p, r.visits);
-    }
-    w
+    store::outcome(p, r)
 }
 
 #[no_mangle]
@@ -140,12 +114,7 @@ pub extern "C" fn murgwethan_set_write_threshold(p: &mut Pair, handle: u32, thre
     ensures { λ w. ⌜ Answered (Steps (now (p .entry)) (writeThresholdAnswer (now (p .entry)) handle threshold) (writeThresholdSet (isOne handle) threshold (now (p .entry)))) (now (p .exit)) w ⌝ }
 {
     let r = control::write_threshold_ends(socket::ends_of(*p), handle, threshold);
-    *p = socket::with_outcome(*p, r);
-    let w = status::word(r.answer);
-    if r.fires {
-        *p = socket::visit(*p, r.visits);
-    }
-    w
+    store::outcome(p, r)
 }
 
 // Registers a wait of an end: tested at once against the present word unless edge is 1.
@@ -153,9 +122,8 @@ pub extern "C" fn murgwethan_set_write_threshold(p: &mut Pair, handle: u32, thre
 pub extern "C" fn murgwethan_wait(p: &mut Pair, handle: u32, key: u64, mask: u32, edge: u8) -> i64
     ensures { λ w. ⌜ Answered (Steps (now (p .entry)) (waitAnswer (now (p .entry)) handle edge) (waited (isOne handle) key mask edge (now (p .entry)))) (now (p .exit)) w ⌝ }
 {
-    let r = Pair::wait(*p, handle, key, mask, edge);
-    *p = r.pair;
-    status::word(r.answer)
+    let a = ends::wait_answer(socket::ends_of(*p), handle, edge);
+    store::wait(p, a, handle, key, mask, edge)
 }
 
 #[no_mangle]
@@ -163,15 +131,10 @@ pub extern "C" fn murgwethan_close(p: &mut Pair, handle: u32) -> i64
     ensures { λ w. ⌜ Answered (Steps (now (p .entry)) (closeAnswer (now (p .entry)) handle) (closed (isOne handle) (now (p .entry)))) (now (p .exit)) w ⌝ }
 {
     let r = control::close_ends(socket::ends_of(*p), handle);
-    *p = socket::with_outcome(*p, r);
-    let w = status::word(r.answer);
-    if r.fires {
-        *p = socket::close_waits(*p, handle, r.visits);
-    }
-    w
+    store::close(p, handle, r)
 }
 
-// The signal word that an end shows; −1 for a closed end and for another handle.
+// The signal word that an end shows; −11 for a closed end and for another handle.
 #[no_mangle]
 pub extern "C" fn murgwethan_signal(p: &mut Pair, handle: u32) -> i64
     ensures { λ w. ⌜ (w ≡ signalNumber (shownBy (now (p .entry)) handle)) × (now (p .exit) ≡ now (p .entry)) ⌝ }

@@ -1,4 +1,5 @@
 // The calls whose record goes to an array that the caller lends. A refused call leaves the array as it is.
+use crate::store;
 use crate::values;
 use socket::Pair;
 ghost use mathlib.Core.Path.{_≡_};
@@ -39,7 +40,6 @@ pub extern "C" fn murgwethan_info(
 pub extern "C" fn murgwethan_take(p: &mut Pair, out: &mut [u64; 5]) -> i64
     ensures { λ w. ⌜ Answered (Recorded packetNumbers (now (p .entry)) (takeAnswer (now (p .entry))) (took (now (p .entry))) (now (out .entry)) (now (out .exit))) (now (p .exit)) w ⌝ }
 {
-    let r = values::take(*p, out);
-    *p = r.pair;
-    status::word(r.answer)
+    let a = values::take_answer(*p, out);
+    store::take(p, a)
 }

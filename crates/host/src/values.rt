@@ -4,7 +4,6 @@ use endpoint::SignalWord;
 use ends::Ends;
 use ends::Outcome;
 use socket::Pair;
-use socket::Step;
 use status::Answer;
 use status::Record;
 ghost use mathlib.Core.Path.{_≡_};
@@ -14,10 +13,28 @@ ghost use Rattle.socket.specs.Tests.{lentOf};
 ghost use Rattle.control.specs.Disposition.{disposeEnds};
 ghost use Rattle.socket.specs.Info.{infoAnswer};
 ghost use Rattle.socket.specs.Threshold.{thresholdsAnswer};
-ghost use Rattle.socket.specs.Wait.{takeAnswer, took};
+ghost use Rattle.socket.specs.Wait.{takeAnswer};
+ghost use Rattle.ends.specs.Create.{createAnswer};
+ghost use lib.ListN.{length};
 ghost use Rattle.syscall.specs.Control.{dispositionOf};
+ghost use Rattle.status.specs.Answer.{answerWord};
 ghost use Rattle.host.specs.Host.{signalNumber};
 ghost use Rattle.host.specs.Records.{thresholdNumbers, infoNumbers, packetNumbers, arrayOf, Recorded};
+
+// The word of an outcome's answer.
+pub fn word(r: Outcome) -> i64
+    ensures { λ w. ⌜ w ≡ answerWord (r .answer) ⌝ }
+{
+    let a = r.answer;
+    status::word(a)
+}
+
+// Whether the waits are to be looked at.
+pub fn fires(r: Outcome) -> bool
+    ensures { λ f. ⌜ f ≡ r .fires ⌝ }
+{
+    r.fires
+}
 
 // What a number asks for an end's writing.
 fn disposition_of(n: u32) -> Disposition
@@ -50,7 +67,7 @@ pub fn signal(p: Pair, handle: u32) -> i64
 {
     let s = p.signal(handle);
     match s {
-        SignalWord::Closed => -1,
+        SignalWord::Closed => -11,
         SignalWord::Word(w) => w as i64,
     }
 }
@@ -142,12 +159,36 @@ pub fn info(p: Pair, handle: u32, table: &[u32], out: &mut [u64; 6]) -> Answer
     a
 }
 
-// Takes the oldest packet into the array.
-pub fn take(p: Pair, out: &mut [u64; 5]) -> Step
-    ensures { λ r. ⌜ Recorded packetNumbers p (takeAnswer p) (took p) (now (out .entry)) (now (out .exit)) r ⌝ }
+// The answer to taking the oldest packet, and its packet put into the array.
+pub fn take_answer(p: Pair, out: &mut [u64; 5]) -> Answer
+    ensures { λ a. ⌜ (a ≡ takeAnswer p) × (now (out .exit) ≡ arrayOf packetNumbers a (now (out .entry))) ⌝ }
 {
-    let s = p.take();
-    let a = s.answer;
+    let a = socket::take_answer(p);
     put_packet(a, out);
-    s
+    a
+}
+
+// The answer to a create, by the lengths of the rings and tables.
+pub fn create_answer(
+    kind: u32,
+    capacity: u32,
+    rights_one: u32,
+    rights_two: u32,
+    ring_one: &[u8],
+    table_one: &[u32],
+    ring_two: &[u8],
+    table_two: &[u32],
+) -> Answer
+    ensures { λ a. ⌜ a ≡ createAnswer kind capacity «rights_one» «rights_two» (length (now («ring_one» .entry))) (length (now («table_one» .entry))) (length (now («ring_two» .entry))) (length (now («table_two» .entry))) ⌝ }
+{
+    ends::create_answer(
+        kind,
+        capacity,
+        rights_one,
+        rights_two,
+        ring_one.len(),
+        table_one.len(),
+        ring_two.len(),
+        table_two.len(),
+    )
 }

@@ -2,6 +2,8 @@
 use places::FREE;
 use places::Next;
 use places::Places;
+use places::both;
+use places::is_only_packet;
 use places::is_sound;
 use status::Answer;
 use status::PortPacket;
@@ -12,6 +14,7 @@ ghost use mathlib.Core.Bool.{not};
 ghost use Prim.Native.Nat.{_+_};
 ghost use lib.Dec.{leb, eqb};
 ghost use Rattle.status.specs.Choice.{pick, _and_};
+ghost use Rattle.places.specs.Table.{onlyPacket};
 ghost use Rattle.packets.specs.Packets.{takeOf};
 
 // Whether a packet is to be taken and there is one, in a sound table.
@@ -44,6 +47,20 @@ pub fn taken(t: Places, asked: bool) -> Places
         let free = FREE;
         out.table[last] = free;
         out.packets = packets - 1;
+    }
+    out
+}
+
+// The same for a table whose only place used is a packet. It stands in the first place: no index is computed, so that the compiler changes the
+// place where it stands and copies nothing.
+pub fn only_taken(t: Places, asked: bool) -> Places
+    ensures { λ r. ⌜ r ≡ pick (asked and onlyPacket t) (takeOf t .places) t ⌝ }
+{
+    let mut out = t;
+    if both(asked, is_only_packet(t.packets, t.waits)) {
+        let free = FREE;
+        out.table[0] = free;
+        out.packets = 0;
     }
     out
 }

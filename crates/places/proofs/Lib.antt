@@ -3,3 +3,4 @@ pub mod Shift
 pub mod Size
 pub mod Tests
 pub mod Views
+pub mod First

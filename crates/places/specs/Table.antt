@@ -24,9 +24,17 @@ used t = t .packets + t .waits
 abbrev pub sound : Places → Bool
 sound t = leb (t .packets + t .waits) 128
 
+-- whether no place is used
+unfoldable pub unused : Places → Bool
+unused t = eqb (t .packets) 0 and eqb (t .waits) 0
+
 -- whether the only place used is a wait
 unfoldable pub onlyWait : Places → Bool
 onlyWait t = eqb (t .packets) 0 and eqb (t .waits) 1
+
+-- whether the only place used is a packet
+unfoldable pub onlyPacket : Places → Bool
+onlyPacket t = eqb (t .packets) 1 and eqb (t .waits) 0
 
 -- the packets in the order of their firing, oldest first
 unfoldable pub packetsOf : Places → List Place

@@ -83,14 +83,45 @@ pub fn is_sound(packets: usize, waits: usize) -> bool
     waits <= 128 - packets
 }
 
+// Whether so many packets and so many waits are used.
+fn counts_are(packets: usize, waits: usize, some_packets: usize, some_waits: usize) -> bool
+    ensures { λ r. ⌜ r ≡ (eqb packets «some_packets» and eqb waits «some_waits») ⌝ }
+{
+    if packets != some_packets {
+        return false;
+    }
+    waits == some_waits
+}
+
+// Whether no place is used.
+pub fn is_unused(packets: usize, waits: usize) -> bool
+    ensures { λ r. ⌜ r ≡ (eqb packets 0 and eqb waits 0) ⌝ }
+{
+    counts_are(packets, waits, 0, 0)
+}
+
 // Whether the only place used is a wait.
 pub fn is_only_wait(packets: usize, waits: usize) -> bool
     ensures { λ r. ⌜ r ≡ (eqb packets 0 and eqb waits 1) ⌝ }
 {
-    if packets != 0 {
-        return false;
+    counts_are(packets, waits, 0, 1)
+}
+
+// Whether the only place used is a packet.
+pub fn is_only_packet(packets: usize, waits: usize) -> bool
+    ensures { λ r. ⌜ r ≡ (eqb packets 1 and eqb waits 0) ⌝ }
+{
+    counts_are(packets, waits, 1, 0)
+}
+
+// Whether both hold.
+pub fn both(a: bool, b: bool) -> bool
+    ensures { λ r. ⌜ r ≡ (a and b) ⌝ }
+{
+    if a {
+        return b;
     }
-    waits == 1
+    false
 }
 
 // The number of an end in a place.

@@ -7,3 +7,4 @@ pub mod Idle
 pub mod Sound
 pub mod Length
 pub mod Cases
+mod First

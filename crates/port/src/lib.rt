@@ -3,8 +3,10 @@ use places::FREE;
 use places::Next;
 use places::Place;
 use places::Places;
+use places::both;
 use places::end_number;
 use places::is_sound;
+use places::is_unused;
 use places::sound_answer;
 use places::word_if;
 use status::Answer;
@@ -18,6 +20,7 @@ ghost use Rattle.status.specs.Choice.{pick, _and_};
 ghost use Rattle.status.specs.Answer.{refuseIf, refuseUnless, _then_};
 ghost use Rattle.status.specs.declared.Status.the-variants.{Internal, NoResources};
 ghost use Rattle.signal.specs.Signal.{meets};
+ghost use Rattle.places.specs.Table.{unused};
 ghost use Rattle.port.specs.Port.{insertedOf, appendedOf, droppedOf, registerOf, dropOf};
 
 // One of two counts.
@@ -96,6 +99,37 @@ pub fn registered(
         end: end_number(one),
     };
     placed(t, p, now, has_room(asked, t.packets, t.waits))
+}
+
+// The same for a table of which no place is used. The wait or its packet comes into the first place: no index is computed, so that the compiler
+// changes the place where it stands and copies nothing.
+pub fn first_registered(
+    t: Places,
+    asked: bool,
+    one: bool,
+    word: u32,
+    key: u64,
+    mask: u32,
+    edge: bool,
+) -> Places
+    ensures { λ r. ⌜ r ≡ pick (asked and unused t) (registerOf one word key mask edge t .places) t ⌝ }
+{
+    let now = fires_at_once(word, mask, edge);
+    let p = Place {
+        key: key,
+        mask: mask,
+        observed: word_if(now, word, 0),
+        end: end_number(one),
+    };
+    let packets = count_if(now, 1, 0);
+    let waits = count_if(now, 0, 1);
+    let mut out = t;
+    if both(asked, is_unused(t.packets, t.waits)) {
+        out.table[0] = p;
+        out.packets = packets;
+        out.waits = waits;
+    }
+    out
 }
 
 // The answer to the registration of a wait.

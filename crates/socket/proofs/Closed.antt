@@ -10,6 +10,7 @@ use Rattle.status.specs.declared.Answer.{Answer}
 use Rattle.status.specs.Choice.{pick}
 use Rattle.status.specs.Answer.{isDone}
 use Rattle.status.proofs.Rules.{pick-on, pick-off}
+use Rattle.places.specs.declared.Places.{Places}
 use Rattle.places.specs.declared.Next.{Next}
 use Rattle.signal.specs.Signal.{WRITABLE, «PEER_CLOSED»}
 use Rattle.places.specs.Table.{sound}
@@ -22,9 +23,10 @@ use Rattle.port.proofs.Sound.{sound-drop}
 use Rattle.endpoint.specs.Endpoint.{withSignals, closedEnd}
 use Rattle.ends.specs.declared.Ends.{Ends}
 use Rattle.ends.specs.declared.Moved.{Moved}
+use Rattle.ends.specs.declared.Pending.{Pending}
 use Rattle.ends.specs.declared.Visits.{Visits}
 use Rattle.ends.specs.declared.Outcome.{Outcome}
-use Rattle.ends.specs.Outcome.{noVisits, outcomeOf, keptEnds, unchangedEnds}
+use Rattle.ends.specs.Outcome.{noVisit, noVisits, outcomeOf, keptEnds, unchangedEnds}
 use Rattle.ends.proofs.Sound.{opening-passed}
 use Rattle.control.specs.Signal.{changedEnd, firstOnly}
 use Rattle.control.specs.Close.{closeVisit, closeMoved, closeOutcome, closeEnds}
@@ -32,23 +34,31 @@ use Rattle.socket.specs.declared.Pair.{Pair}
 use Rattle.socket.specs.Pair.{isOne, own, peer, endsOf, withEnd, withPlaces, signalChange}
 use Rattle.socket.specs.Tests.{Steps}
 use Rattle.socket.specs.Wait.{closeAnswer, closed}
-use Rattle.socket.specs.Deferred.{visited, withEnds, withOutcome, closedWaits, settledClose}
-use Rattle.socket.proofs.Visiting.{visited-none, visited-idle, signal-visited, settled-pair}
+use Rattle.socket.specs.Deferred.{visited, visitedPair, visitedAll, withEnds, withOutcome, settled, withoutWaits, settledClose}
+use Rattle.socket.proofs.Visiting.{visited-none, visited-idle, no-visits, signal-visited, settled-pair}
 use Rattle.socket.proofs.Steps.{steps-refused, steps-done}
 
--- ---- the code's step
+-- the waits of end t dropped, then those of its peer visited
+unfoldable droppedVisited : Bool → Visits → Pair → Pair
+droppedVisited t v p = withPlaces (visited (v .first) (dropOf t (p .places) .places)) p
 
-pub close-on : (t : Bool) (r : Outcome) (p q q′ : Pair) → r .fires ≡ true → q ≡ withOutcome r p → q′ ≡ closedWaits t (r .visits) q
-    → record { pair = q′; answer = r .answer } ≡ settledClose t r p
-unfolding settledClose
-close-on t r p q q′ f e g =
-    ap (λ (k : Pair). record { pair = k; answer = r .answer }) (pick-on _ _ _ _ _ f (g ∙ ap (closedWaits t (r .visits)) e))
+one-visit : (v : Visits) (q : Pair) → v .second ≡ noVisit → visitedPair v q ≡ withPlaces (visited (v .first) (q .places)) q
+unfolding visitedPair
+one-visit v q e = ap (λ (a : Pending). withPlaces (visited a (visited (v .first) (q .places))) q) e ∙ ap (λ (u : Places). withPlaces u q) (visited-none _)
 
-pub close-off : (t : Bool) (r : Outcome) (p q : Pair) → r .fires ≡ false → q ≡ withOutcome r p → record { pair = q; answer = r .answer } ≡ settledClose t r p
-unfolding settledClose
-close-off t r p q f e = ap (λ (k : Pair). record { pair = k; answer = r .answer }) (pick-off _ _ _ _ _ f e)
+-- the code's step: one change at most
+by-fires : (f t : Bool) (r : Outcome) (p : Pair) → r .fires ≡ f → r .more ≡ noVisits → r .visits .second ≡ noVisit
+    → settledClose t r p ≡ record { pair = pick f (droppedVisited t (r .visits) (withOutcome r p)) (withOutcome r p); answer = r .answer }
+unfolding settledClose settled visitedAll droppedVisited withoutWaits withEnds withPlaces dropOf pick
+by-fires true t r p f m n =
+    rw f
+    (ap (λ (k : Pair). record { pair = k; answer = r .answer })
+    (ap (λ (v : Visits). visitedPair v (visitedPair (r .visits) (withOutcome r (withoutWaits t p)))) m
+    ∙ no-visits _
+    ∙ one-visit (r .visits) (withOutcome r (withoutWaits t p)) n))
+by-fires false t r p f m n = rw f refl
 
--- ---- the waits dropped, then the peer told
+-- ---- the waits dropped, then the change of the peer
 
 dropped : (t : Bool) (p : Pair) → sound (p .places) ≡ true → dropOf t (p .places) .places ≡ droppedOf t (p .places)
 unfolding done
@@ -56,7 +66,7 @@ dropped t p s = ap (λ (n : Next). n .places) (drop-done t (p .places) s)
 
 -- the pair after the visits of a close, its waits being dropped
 abbrev closedPair : Bool → Moved → Pair → Pair
-closedPair t m p = closedWaits t (m .visits) (withEnds (pick t (m .own) (m .peer)) (pick t (m .peer) (m .own)) p)
+closedPair t m p = droppedVisited t (m .visits) (withEnds (pick t (m .own) (m .peer)) (pick t (m .peer) (m .own)) p)
 
 by-closed : (c t : Bool) (m n : Moved) (p q r : Pair) → closedPair t m p ≡ q → closedPair t n p ≡ r → closedPair t (pick c m n) p ≡ pick c q r
 unfolding pick
@@ -64,7 +74,7 @@ by-closed true t m n p q r e g = e
 by-closed false t m n p q r e g = g
 
 closed-visited : (t : Bool) (p : Pair) → sound (p .places) ≡ true → closedPair t (closeMoved t (own t p) (peer t p)) p ≡ closed t p
-unfolding closeMoved closed closedWaits closeVisit firstOnly keptEnds changedEnd visited withEnds withEnd withPlaces pick
+unfolding closeMoved closed droppedVisited closeVisit firstOnly keptEnds changedEnd visited withEnds withEnd withPlaces pick
 closed-visited true p s =
     by-closed (p .two .closed) true _ _ p _ _
     (ap (λ u. withPlaces u (withEnd true (closedEnd (p .one)) p)) (visited-none _ ∙ dropped true p s))
@@ -77,25 +87,35 @@ closed-visited false p s =
     ∙ rw (dropped false p s) refl))
 
 -- where there are no waits, nothing is to be done with them
-no-waits : (t : Bool) (v : Visits) (p : Pair) → length (p .places .table) ≡ 128 → p .places .waits ≡ 0 → closedWaits t v p ≡ p
-unfolding closedWaits withPlaces
+no-waits : (t : Bool) (v : Visits) (p : Pair) → length (p .places .table) ≡ 128 → p .places .waits ≡ 0 → droppedVisited t v p ≡ p
+unfolding droppedVisited withPlaces
 no-waits t v p l w =
     ap (λ u. withPlaces (visited (v .first) u) p) (idle-drop t (p .places) w l) ∙ ap (λ u. withPlaces u p) (visited-idle (v .first) (p .places) w l)
 
 none : (n : ℕ) → not (eqb n 0) ≡ false → n ≡ 0
 none n e = ⊎-elim (λ (z : eqb n 0 ≡ true). eqb-true n 0 z) (λ (z : eqb n 0 ≡ false). absurd (false≢true (sym (rw z at e)))) (either (eqb n 0))
 
+second-none : (c : Bool) (a b : Moved) → a .visits .second ≡ noVisit → b .visits .second ≡ noVisit → pick c a b .visits .second ≡ noVisit
+unfolding pick
+second-none true a b e f = e
+second-none false a b e f = f
+
+one-change : (t : Bool) (p : Pair) → closeMoved t (own t p) (peer t p) .visits .second ≡ noVisit
+unfolding closeMoved keptEnds firstOnly
+one-change t p = second-none (peer t p .closed) _ _ refl refl
+
 closed-settled : (p : Pair) (t : Bool) (a : Answer) → length (p .places .table) ≡ 128 → sound (p .places) ≡ true
     → settledClose t (closeOutcome (p .places .waits) t a (closeMoved t (own t p) (peer t p))) p ≡ record { pair = closed t p; answer = a }
-unfolding settledClose closeOutcome outcomeOf withEnds
+unfolding closeOutcome outcomeOf withEnds
 closed-settled p t a l s =
     let m = closeMoved t (own t p) (peer t p) in
     let q = withEnds (pick t (m .own) (m .peer)) (pick t (m .peer) (m .own)) p in
-    ap (λ (k : Pair). record { pair = k; answer = a })
-    (settled-pair (not (eqb (p .places .waits) 0)) (closedWaits t (m .visits) q) q (λ f. no-waits t (m .visits) q l (none _ f)) ∙ closed-visited t p s)
+    by-fires (not (eqb (p .places .waits) 0)) t _ p refl refl (one-change t p)
+    ∙ ap (λ (k : Pair). record { pair = k; answer = a })
+    (settled-pair (not (eqb (p .places .waits) 0)) (droppedVisited t (m .visits) q) q (λ f. no-waits t (m .visits) q l (none _ f)) ∙ closed-visited t p s)
 
 unchanged-settled : (t : Bool) (p : Pair) (a : Answer) → settledClose t (unchangedEnds (endsOf p) a) p ≡ record { pair = p; answer = a }
-unfolding settledClose unchangedEnds withEnds pick
+unfolding settledClose settled unchangedEnds withEnds pick
 unchanged-settled t p a = refl
 
 pub close-whole : (p : Pair) (h : ℕ) (e : Ends) (r : Outcome) → length (p .places .table) ≡ 128

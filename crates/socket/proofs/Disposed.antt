@@ -23,22 +23,11 @@ use Rattle.socket.specs.declared.Step.{Step}
 use Rattle.socket.specs.Pair.{isOne, own, peer, endsOf, withPlaces}
 use Rattle.socket.specs.Tests.{Steps}
 use Rattle.socket.specs.Disposition.{disposeAnswer, disposedOwn, disposedPeer, disposed}
-use Rattle.socket.specs.Deferred.{visited, visitedPair, visitedAll, withEnds, withOutcome, settledAll}
+use Rattle.socket.specs.Deferred.{visited, visitedPair, visitedAll, withEnds, settled}
 use Rattle.socket.proofs.Visiting.{movedPair, cannot-fire, settled-pair}
 use Rattle.socket.proofs.Control.{own-disposed, peer-disposed}
+use Rattle.socket.proofs.Settled.{unchanged-settled}
 use Rattle.socket.proofs.Steps.{steps-refused, steps-done}
-
--- ---- the code's step
-
-pub settled-all-on : (r : Outcome) (p q q′ : Pair) → r .fires ≡ true → q ≡ withOutcome r p → q′ ≡ visitedAll r q
-    → record { pair = q′; answer = r .answer } ≡ settledAll r p
-unfolding settledAll
-settled-all-on r p q q′ f e g =
-    ap (λ (k : Pair). record { pair = k; answer = r .answer }) (pick-on _ _ _ _ _ f (g ∙ ap (visitedAll r) e))
-
-pub settled-all-off : (r : Outcome) (p q : Pair) → r .fires ≡ false → q ≡ withOutcome r p → record { pair = q; answer = r .answer } ≡ settledAll r p
-unfolding settledAll
-settled-all-off r p q f e = ap (λ (k : Pair). record { pair = k; answer = r .answer }) (pick-off _ _ _ _ _ f e)
 
 -- ---- disposition
 
@@ -55,9 +44,9 @@ peer-after true f m p s = peer-disposed true f (movedPair true m p) (sound-moved
 peer-after false f m p s = peer-disposed false f (movedPair false m p) (sound-moved false m p s)
 
 all-moved : (t : Bool) (a : Answer) (m n : Moved) (p : Pair) → length (p .places .table) ≡ 128
-    → settledAll (outcomeOf (p .places .waits) t a (record { own = n .own; peer = n .peer; visits = m .visits }) (n .visits)) p
+    → settled (outcomeOf (p .places .waits) t a (record { own = n .own; peer = n .peer; visits = m .visits }) (n .visits)) p
     ≡ record { pair = movedPair t n (movedPair t m p); answer = a }
-unfolding settledAll visitedAll outcomeOf visitedPair withPlaces withEnds anyFires
+unfolding settled visitedAll outcomeOf visitedPair withPlaces withEnds anyFires
 all-moved t a m n p l =
     let q = withEnds (pick t (n .own) (n .peer)) (pick t (n .peer) (n .own)) p in
     ap (λ (k : Pair). record { pair = k; answer = a })
@@ -65,35 +54,31 @@ all-moved t a m n p l =
     (λ f. ap (visitedPair (n .visits)) (cannot-fire (m .visits) q l (neither _ _ f .0)) ∙ cannot-fire (n .visits) q l (neither _ _ f .1)))
 
 disposed-settled : (p : Pair) (t : Bool) (a : Answer) (d f : Disposition) → length (p .places .table) ≡ 128 → sound (p .places) ≡ true
-    → settledAll (disposedEnds (endsOf p) t a d f) p ≡ record { pair = disposed t d f p; answer = a }
+    → settled (disposedEnds (endsOf p) t a d f) p ≡ record { pair = disposed t d f p; answer = a }
 unfolding disposedEnds disposed
 disposed-settled p t a d f l s =
     let m = ownMoved t (own t p) (peer t p) d in
     all-moved t a m (peerMoved t (m .own) (m .peer) f) p l
     ∙ ap (λ (k : Pair). record { pair = k; answer = a }) (peer-after t f m p s ∙ ap (disposedPeer t f) (own-disposed t d p s))
 
-pub unchanged-all : (p : Pair) (a : Answer) → settledAll (unchangedEnds (endsOf p) a) p ≡ record { pair = p; answer = a }
-unfolding settledAll unchangedEnds withEnds pick
-unchanged-all p a = refl
-
 dispose-sound : (p : Pair) (h : ℕ) (d f : Disposition) → isDone (disposeAnswer p h d f) ≡ true → sound (p .places) ≡ true
 unfolding E.disposeAnswer
 dispose-sound p h d f e = opening-passed (endsOf p) h (then-both _ _ e .0) .places
 
 pub dispose-whole : (p : Pair) (h : ℕ) (d f : Disposition) (e : Ends) (r : Outcome) → length (p .places .table) ≡ 128
-    → e ≡ endsOf p → r ≡ disposeEnds e h d f → Steps p (disposeAnswer p h d f) (disposed (isOne h) d f p) (settledAll r p)
+    → e ≡ endsOf p → r ≡ disposeEnds e h d f → Steps p (disposeAnswer p h d f) (disposed (isOne h) d f p) (settled r p)
 unfolding disposeEnds
 dispose-whole p h d f e r l i g = by (isDone (disposeAnswer p h d f)) refl
   where
     is : r ≡ disposeEnds (endsOf p) h d f
     is = g ∙ ap (λ (k : Ends). disposeEnds k h d f) i
 
-    by : (b : Bool) → isDone (disposeAnswer p h d f) ≡ b → Steps p (disposeAnswer p h d f) (disposed (isOne h) d f p) (settledAll r p)
+    by : (b : Bool) → isDone (disposeAnswer p h d f) ≡ b → Steps p (disposeAnswer p h d f) (disposed (isOne h) d f p) (settled r p)
     by true c =
         subst (Steps p (disposeAnswer p h d f) (disposed (isOne h) d f p))
-        (sym (ap (λ (k : Outcome). settledAll k p) (is ∙ sym (pick-on _ _ _ _ _ c refl)) ∙ disposed-settled p (isOne h) (disposeAnswer p h d f) d f l (dispose-sound p h d f c)))
+        (sym (ap (λ (k : Outcome). settled k p) (is ∙ sym (pick-on _ _ _ _ _ c refl)) ∙ disposed-settled p (isOne h) (disposeAnswer p h d f) d f l (dispose-sound p h d f c)))
         (steps-done p _ _ _ _ refl c refl)
     by false c =
         subst (Steps p (disposeAnswer p h d f) (disposed (isOne h) d f p))
-        (sym (ap (λ (k : Outcome). settledAll k p) (is ∙ sym (pick-off _ _ _ _ _ c refl)) ∙ unchanged-all p (disposeAnswer p h d f)))
+        (sym (ap (λ (k : Outcome). settled k p) (is ∙ sym (pick-off _ _ _ _ _ c refl)) ∙ unchanged-settled p (disposeAnswer p h d f)))
         (steps-refused p p _ _ _ refl c refl)

@@ -16,7 +16,7 @@ use Rattle.status.proofs.Rules.{pick-on, pick-off}
 use Rattle.status.proofs.Chains.{neither}
 use Rattle.places.specs.declared.Places.{Places}
 use Rattle.signal.specs.Signal.{changedWord}
-use Rattle.places.specs.Table.{sound, onlyWait}
+use Rattle.places.specs.Table.{sound}
 use Rattle.firing.specs.Firing.{changeOf}
 use Rattle.places.proofs.Lists.{either}
 use Rattle.firing.proofs.Operations.{change-sound, change-unsound, change-same}
@@ -37,7 +37,7 @@ use Rattle.socket.proofs.Pair.Laws as T′
 use Rattle.socket.specs.Pair.{own, peer, withEnd, withPlaces, withChange, signalChange}
 use Rattle.socket.specs.Write.{wrote}
 use Rattle.socket.specs.Read.{consumed}
-use Rattle.socket.specs.Deferred.{due, visited, visitedPair, settled, withEnds, withOutcome}
+use Rattle.socket.specs.Deferred.{due, visited, visitedPair, visitedAll, settled, withEnds}
 
 -- ---- a change that fires nothing
 
@@ -64,16 +64,6 @@ not-due a t l e =
     (λ (k : eqb (changedWord (a .clear) (a .set) (a .word)) (a .word) ≡ true). visited-same a t (eqb-true _ _ k))
     (λ (k : eqb (changedWord (a .clear) (a .set) (a .word)) (a .word) ≡ false). idle-change (a .one) (a .word) (a .clear) (a .set) t l (rw k at e))
     (either (eqb (changedWord (a .clear) (a .set) (a .word)) (a .word)))
-
--- a change that is visited, and one that keeps the word
-pub keeps : (a : Pending) (t : Places) → keepsWord a ≡ true → visited a t ≡ t
-unfolding keepsWord
-keeps a t e = visited-same a t (eqb-true _ _ e)
-
--- a table whose only place used is a wait
-pub only-wait : (t u r : Places) → (eqb (t .packets) 0 and eqb (t .waits) 1) ≡ true → r ≡ pick (onlyWait t) u t → r ≡ u
-unfolding onlyWait pick
-only-wait t u r e f = f ∙ rw e refl
 
 pub visited-both : (v : Visits) (p : Pair) → visited (v .first) (p .places) ≡ p .places → visited (v .second) (p .places) ≡ p .places → visitedPair v p ≡ p
 unfolding visitedPair withPlaces
@@ -203,23 +193,18 @@ unfolding pick
 settled-pair true p q g = refl
 settled-pair false p q g = sym (g refl)
 
-pub settled-on : (r : Outcome) (p q q′ : Pair) → r .fires ≡ true → q ≡ withOutcome r p → q′ ≡ visitedPair (r .visits) q
-    → record { pair = q′; answer = r .answer } ≡ settled r p
-unfolding settled
-settled-on r p q q′ f e g =
-    ap (λ (k : Pair). record { pair = k; answer = r .answer }) (pick-on _ _ _ _ _ f (g ∙ ap (visitedPair (r .visits)) e))
-
-pub settled-off : (r : Outcome) (p q : Pair) → r .fires ≡ false → q ≡ withOutcome r p → record { pair = q; answer = r .answer } ≡ settled r p
-unfolding settled
-settled-off r p q f e = ap (λ (k : Pair). record { pair = k; answer = r .answer }) (pick-off _ _ _ _ _ f e)
+-- a call that changes no more than two words
+pub no-visits : (p : Pair) → visitedPair noVisits p ≡ p
+no-visits p = visited-both noVisits p (visited-none (p .places)) (visited-none (p .places))
 
 pub settled-moved : (p : Pair) (t : Bool) (a : Answer) (d : Moved) → length (p .places .table) ≡ 128
     → settled (outcomeOf (p .places .waits) t a d noVisits) p ≡ record { pair = movedPair t d p; answer = a }
-unfolding settled outcomeOf withEnds anyFires
+unfolding settled visitedAll outcomeOf withEnds anyFires
 settled-moved p t a d l =
     let q = withEnds (pick t (d .own) (d .peer)) (pick t (d .peer) (d .own)) p in
+    let f = anyFires (p .places .waits) (d .visits) noVisits in
     ap (λ (k : Pair). record { pair = k; answer = a })
-    (settled-pair (anyFires (p .places .waits) (d .visits) noVisits) (visitedPair (d .visits) q) q (λ f. cannot-fire (d .visits) q l (neither _ _ f .0)))
+    (ap (λ (k : Pair). pick f k q) (no-visits (visitedPair (d .visits) q)) ∙ settled-pair f (visitedPair (d .visits) q) q (λ g. cannot-fire (d .visits) q l (neither _ _ g .0)))
 
 -- ---- the places of a pair that is owned
 

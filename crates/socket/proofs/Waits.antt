@@ -11,23 +11,24 @@ use Rattle.status.specs.declared.Status.the-variants.{ShouldWait}
 use Rattle.status.specs.declared.Record.the-variants.{Packet}
 use Rattle.status.specs.declared.Answer.{Answer}
 use Rattle.status.specs.declared.Answer.the-variants.{Done}
-use Rattle.status.specs.Choice.{pick}
+use Rattle.status.specs.Choice.{pick, _and_}
 use Rattle.status.specs.Answer.{isDone, refuseIf, _then_}
 use Rattle.status.proofs.Chains.{then-both, refuse-passed}
 use Rattle.places.specs.declared.Places.{Places}
 use Rattle.places.specs.declared.Next.{Next}
 use Rattle.places.specs.Table.{sound, free, packetsOf, packetOf}
 use Rattle.places.specs.Next.{done, refused}
-use Rattle.packets.specs.Packets.{takeOf}
 use Rattle.port.specs.Port.{registerOf}
+use Rattle.packets.specs.Packets.{takeOf}
 use Rattle.places.proofs.Lists.{either}
-use Rattle.packets.proofs.Operations.{take-none, take-done}
 use Rattle.port.proofs.Operations.{register-done}
+use Rattle.packets.proofs.Operations.{take-none, take-done}
 use Rattle.ends.proofs.Sound.{sound-passed, wait-room}
 use Rattle.socket.specs.declared.Pair.{Pair}
 use Rattle.socket.specs.Pair.{isOne, own, endsOf, withPlaces}
 use Rattle.socket.specs.Tests.{Steps}
 use Rattle.socket.specs.Wait.{waitAnswer, waited, takeAnswer, took}
+use Rattle.socket.specs.Deferred.{registeredPair, takenPair}
 
 -- the next pair by the answer: the next table where the call is done, else the same pair
 by-answer : (b c : Bool) (p q p′ : Pair) (t : Places) → c ≡ b → p′ ≡ withPlaces (pick c t (p .places)) p → (b ≡ true → withPlaces t p ≡ q) → p′ ≡ pick b q p
@@ -35,18 +36,25 @@ unfolding pick withPlaces
 by-answer true c p q p′ t e f g = f ∙ rw e (g refl)
 by-answer false c p q p′ t e f g = f ∙ rw e refl
 
-pub wait-steps : (p : Pair) (h key mask edge : ℕ) (x : Answer) (b : Bool) (p′ : Pair) → x ≡ waitAnswer p h edge → b ≡ isDone x
-    → p′ ≡ withPlaces (pick b (registerOf (isOne h) (own (isOne h) p .signals) key mask (eqb edge 1) (p .places) .places) (p .places)) p
+pub wait-steps : (p : Pair) (h key mask edge : ℕ) (x : Answer) (p′ : Pair) → x ≡ waitAnswer p h edge → p′ ≡ registeredPair (isDone x) (isOne h) key mask edge p
     → Steps p (waitAnswer p h edge) (waited (isOne h) key mask edge p) (record { pair = p′; answer = x })
-unfolding waited done
-wait-steps p h key mask edge x b p′ e d f =
+unfolding waited registeredPair done
+wait-steps p h key mask edge x p′ e f =
     record {
       answer = e;
       pair =
-          by-answer _ b p _ p′ _ (d ∙ ap isDone e) f
+          by-answer _ (isDone x) p _ p′ _ (ap isDone e) f
           (λ w. ap (λ (n : Next). withPlaces (n .places) p)
           (register-done (isOne h) (own (isOne h) p .signals) key mask (eqb edge 1) (p .places) (wait-room (endsOf p) h edge _ refl w)));
     }
+
+-- the same with the test of the first place
+pub first-only : (a u : Bool) (r : Places) (p : Pair) → withPlaces (pick (a and u) r (p .places)) p ≡ pick u (withPlaces (pick a r (p .places)) p) p
+unfolding pick _and_ withPlaces
+first-only true true r p = refl
+first-only true false r p = refl
+first-only false true r p = refl
+first-only false false r p = refl
 
 -- ---- take
 
@@ -60,14 +68,13 @@ oldest-answer t s =
     (λ (z : eqb (t .packets) 0 ≡ false). rw (s, z) refl)
     (either (eqb (t .packets) 0))
 
-pub take-steps : (p : Pair) (x : Answer) (b : Bool) (p′ : Pair) → x ≡ takeAnswer p → b ≡ isDone x
-    → p′ ≡ withPlaces (pick b (takeOf (p .places) .places) (p .places)) p → Steps p (takeAnswer p) (took p) (record { pair = p′; answer = x })
-unfolding takeAnswer took
-take-steps p x b p′ e d f =
+pub take-steps : (p : Pair) (x : Answer) (p′ : Pair) → x ≡ takeAnswer p → p′ ≡ takenPair (isDone x) p → Steps p (takeAnswer p) (took p) (record { pair = p′; answer = x })
+unfolding takeAnswer took takenPair
+take-steps p x p′ e f =
     record {
       answer = e;
       pair =
-          by-answer _ b p _ p′ _ (d ∙ ap isDone e) f
+          by-answer _ (isDone x) p _ p′ _ (ap isDone e) f
           (λ w.
           let v = then-both _ _ w in
           let some : 0 < p .places .packets = omega (arith, eqb-false (p .places .packets) 0 (refuse-passed (eqb (p .places .packets) 0) ShouldWait (then-both _ _ (v .1) .0))) in

@@ -1,11 +1,15 @@
--- A call whose waits are visited last. 01 "Signal word and packets": a change of a word visits the end's waits. The laws of
--- proofs/Visiting, Control, Disposed and Closed say that the visits can wait until all words have changed.
+-- How the code goes: a call whose waits are visited last, and a table that is passed on by whether the call is done. 01 "Signal word and packets":
+-- a change of a word visits the end's waits. The laws of proofs/ say that the visits can wait until all words have changed.
+use Prim.Native.Nat.{ℕ}
 use mathlib.Core.Bool.{Bool, false}
-use Rattle.status.specs.Choice.{pick}
+use lib.Dec.{eqb}
+use Rattle.status.specs.Choice.{pick, _and_, _or_}
 use Rattle.places.specs.declared.Places.{Places}
 use Rattle.signal.specs.Signal.{changedWord}
+use Rattle.port.specs.Port.{registerOf, dropOf}
 use Rattle.firing.specs.Firing.{firesOf, changeOf}
-use Rattle.port.specs.Port.{dropOf}
+use Rattle.packets.specs.Packets.{takeOf}
+use Rattle.places.specs.Table.{onlyWait}
 use Rattle.endpoint.specs.declared.Endpoint.{Endpoint}
 use Rattle.ends.specs.declared.Pending.{Pending}
 use Rattle.ends.specs.declared.Visits.{Visits}
@@ -13,13 +17,13 @@ use Rattle.ends.specs.declared.Outcome.{Outcome}
 use Rattle.ends.specs.Outcome.{keepsWord}
 use Rattle.socket.specs.declared.Pair.{Pair}
 use Rattle.socket.specs.declared.Step.{Step}
-use Rattle.socket.specs.Pair.{withPlaces}
+use Rattle.socket.specs.Pair.{own, withPlaces}
 
--- 01 "Signal word and packets": whether a change fires a wait, so that the word is another then and a wait of its end meets it
+-- 01 "Signal word and packets": whether a change fires a wait: the word becomes another, and a wait of its end meets the new one
 unfoldable pub due : Pending → Places → Bool
 due a t = pick (keepsWord a) false (firesOf (a .one) (changedWord (a .clear) (a .set) (a .word)) t)
 
--- the table after the waits of a change are visited
+-- 01 "Signal word and packets": the table after the waits of a change are visited
 unfoldable pub visited : Pending → Places → Places
 visited a t = changeOf (a .one) (a .word) (a .clear) (a .set) t .places
 
@@ -31,7 +35,15 @@ visitedPair v p = withPlaces (visited (v .second) (visited (v .first) (p .places
 unfoldable pub visitedAll : Outcome → Pair → Pair
 visitedAll r p = visitedPair (r .more) (visitedPair (r .visits) p)
 
--- the pair with both ends put anew
+-- whether one of all changes of a call fires a wait
+unfoldable pub anyDue : Outcome → Places → Bool
+anyDue r t = due (r .visits .first) t or due (r .visits .second) t or due (r .more .first) t or due (r .more .second) t
+
+-- whether the waits are to be visited: one fires, or the only place used is a wait
+unfoldable pub needsVisit : Outcome → Places → Bool
+needsVisit r t = r .fires and (onlyWait t or anyDue r t)
+
+-- the pair with both ends replaced
 unfoldable pub withEnds : (one two : Endpoint) → Pair → Pair
 withEnds a b p = record { datagram = p .datagram; capacity = p .capacity; one = a; two = b; places = p .places }
 
@@ -39,18 +51,27 @@ withEnds a b p = record { datagram = p .datagram; capacity = p .capacity; one = 
 abbrev pub withOutcome : Outcome → Pair → Pair
 withOutcome r p = withEnds (r .one) (r .two) p
 
--- the step of a call with this outcome and two changes, once the waits are visited where one can fire
+-- the step of a call with this outcome, once the waits are visited where one can fire
 unfoldable pub settled : Outcome → Pair → Step
-settled r p = record { pair = pick (r .fires) (visitedPair (r .visits) (withOutcome r p)) (withOutcome r p); answer = r .answer }
+settled r p = record { pair = pick (r .fires) (visitedAll r (withOutcome r p)) (withOutcome r p); answer = r .answer }
 
--- the same with all its changes
-unfoldable pub settledAll : Outcome → Pair → Step
-settledAll r p = record { pair = pick (r .fires) (visitedAll r (withOutcome r p)) (withOutcome r p); answer = r .answer }
+-- 01 "Delivered bytes", close: the waits of end t are gone
+unfoldable pub withoutWaits : Bool → Pair → Pair
+withoutWaits t p = withPlaces (dropOf t (p .places) .places) p
 
--- 01 "Delivered bytes", close: the waits of end t are gone, then those of its peer are visited
-unfoldable pub closedWaits : Bool → Visits → Pair → Pair
-closedWaits t v p = withPlaces (visited (v .first) (dropOf t (p .places) .places)) p
+-- the pair without the waits of end t, where there are any, once the others are visited
+unfoldable pub closedWaits : Bool → Outcome → Pair → Pair
+closedWaits t r p = pick (r .fires) (visitedAll r (withoutWaits t p)) p
 
--- the step of a close with this outcome
+-- the step of a close with this outcome, by end t: its waits are gone before those of its peer are visited
 unfoldable pub settledClose : Bool → Outcome → Pair → Step
-settledClose t r p = record { pair = pick (r .fires) (closedWaits t (r .visits) (withOutcome r p)) (withOutcome r p); answer = r .answer }
+settledClose t r p = settled r (pick (r .fires) (withoutWaits t p) p)
+
+-- 01 "Signal word and packets": the pair with a wait of end t more, where that is asked
+unfoldable pub registeredPair : (asked t : Bool) → (key mask edge : ℕ) → Pair → Pair
+registeredPair asked t key mask edge p =
+    withPlaces (pick asked (registerOf t (own t p .signals) key mask (eqb edge 1) (p .places) .places) (p .places)) p
+
+-- 01 "Signal word and packets": the pair without its oldest packet, where that is asked
+unfoldable pub takenPair : (asked : Bool) → Pair → Pair
+takenPair asked p = withPlaces (pick asked (takeOf (p .places) .places) (p .places)) p

@@ -13,15 +13,10 @@ impl Pair {
         ensures { λ r. ⌜ Steps self (closeAnswer self handle) (closed (isOne handle) self) r ⌝ }
     {
         let r = control::close_ends(parts::ends_of(self), handle);
-        let pair = deferred::with_outcome(self, r);
-        let answer = r.answer;
+        let mut p = self;
         if r.fires {
-            let visits = r.visits;
-            return Step {
-                pair: deferred::close_waits(pair, handle, visits),
-                answer,
-            };
+            p = deferred::without_waits(p, handle);
         }
-        Step { pair, answer }
+        deferred::settle(p, r)
     }
 }

@@ -48,6 +48,19 @@ fn pair_if(made: bool, datagram: bool, capacity: u32, rights_one: u32, rights_tw
     }
 }
 
+// A new pair of this kind, 1 for datagram.
+pub fn new_pair(kind: u32, capacity: u32, rights_one: u32, rights_two: u32) -> Pair
+    ensures { λ r. ⌜ r ≡ newPair (eqb kind 1) capacity «rights_one» «rights_two» ⌝ }
+{
+    Pair {
+        datagram: kind == 1,
+        capacity,
+        one: Endpoint::new(rights_one),
+        two: Endpoint::new(rights_two),
+        places: Places::new(),
+    }
+}
+
 impl Pair {
     // A new pair. Each later call is lent the rings and tables that it uses; create looks at the lengths of all four.
     pub fn create(

@@ -3,15 +3,16 @@
 use crate::Pair;
 use crate::Step;
 use crate::parts;
+use endpoint::Endpoint;
 use ends::Outcome;
 use ends::Pending;
-use ends::Visits;
 use places::Places;
 use signal::changed;
 ghost use mathlib.Core.Path.{_≡_};
+ghost use Rattle.status.specs.Choice.{pick};
+ghost use Rattle.places.specs.Table.{onlyWait};
 ghost use Rattle.socket.specs.Pair.{isOne};
-ghost use Rattle.port.specs.Port.{dropOf};
-ghost use Rattle.socket.specs.Deferred.{due, visited, visitedPair, visitedAll, withOutcome, settled, settledAll, closedWaits};
+ghost use Rattle.socket.specs.Deferred.{due, anyDue, needsVisit, visited, visitedAll, withEnds, withOutcome, settled, withoutWaits};
 
 // Whether a change fires a wait. The table is only read.
 fn is_due(t: Places, a: Pending) -> bool
@@ -23,37 +24,52 @@ fn is_due(t: Places, a: Pending) -> bool
     firing::fires(t, a.one, changed(a.word, a.clear, a.set))
 }
 
-// Visits the waits of a change. Mostly there is one wait alone, and then little of the table is touched.
+// Whether one of all changes of a call fires a wait.
+fn any_due(t: Places, r: Outcome) -> bool
+    ensures { λ d. ⌜ d ≡ anyDue r t ⌝ }
+{
+    if is_due(t, r.visits.first) {
+        return true;
+    }
+    if is_due(t, r.visits.second) {
+        return true;
+    }
+    if is_due(t, r.more.first) {
+        return true;
+    }
+    is_due(t, r.more.second)
+}
+
+// Whether the only place used is a wait.
+pub fn has_only_wait(p: Pair) -> bool
+    ensures { λ r. ⌜ r ≡ onlyWait (p .places) ⌝ }
+{
+    places::is_only_wait(p.places.packets, p.places.waits)
+}
+
+// Whether the waits are to be visited: where one fires, and where the only place used is a wait, which is as quickly visited as asked.
+pub fn needs_visit(p: Pair, r: Outcome) -> bool
+    ensures { λ d. ⌜ d ≡ needsVisit r (p .places) ⌝ }
+{
+    if !r.fires {
+        return false;
+    }
+    if has_only_wait(p) {
+        return true;
+    }
+    any_due(p.places, r)
+}
+
 fn visited(t: Places, a: Pending) -> Places
     ensures { λ r. ⌜ r ≡ visited a t ⌝ }
 {
-    if places::is_only_wait(t.packets, t.waits) {
-        return firing::only_visited(t, a.one, a.word, a.clear, a.set);
-    }
-    if is_due(t, a) {
-        let c = firing::change(t, a.one, a.word, a.clear, a.set);
-        let places = c.places;
-        return places;
-    }
-    t
-}
-
-// Visits the waits of two changes. Mostly only one word is another then, so that the table is handed on once.
-pub fn visit(p: Pair, v: Visits) -> Pair
-    ensures { λ r. ⌜ r ≡ visitedPair v p ⌝ }
-{
-    let mut t = p.places;
-    if !ends::keeps_word(v.first) {
-        t = visited(t, v.first);
-    }
-    if !ends::keeps_word(v.second) {
-        t = visited(t, v.second);
-    }
-    parts::with_places(p, t)
+    let c = firing::change(t, a.one, a.word, a.clear, a.set);
+    let places = c.places;
+    places
 }
 
 // Visits the waits of all changes of a call.
-pub fn visit_all(p: Pair, r: Outcome) -> Pair
+pub fn visit_each(p: Pair, r: Outcome) -> Pair
     ensures { λ q. ⌜ q ≡ visitedAll r p ⌝ }
 {
     let mut t = p.places;
@@ -64,62 +80,88 @@ pub fn visit_all(p: Pair, r: Outcome) -> Pair
     parts::with_places(p, t)
 }
 
-// The pair with both ends put anew.
-pub fn with_outcome(mut p: Pair, r: Outcome) -> Pair
+fn visited_only(t: Places, a: Pending) -> Places
+    ensures { λ r. ⌜ r ≡ pick (onlyWait t) (visited a t) t ⌝ }
+{
+    firing::only_visited(t, a.one, a.word, a.clear, a.set)
+}
+
+// The same for a pair whose only place used is a wait.
+pub fn visit_only(p: Pair, r: Outcome) -> Pair
+    ensures { λ q. ⌜ q ≡ pick (onlyWait (p .places)) (visitedAll r p) p ⌝ }
+{
+    let mut t = p.places;
+    t = visited_only(t, r.visits.first);
+    t = visited_only(t, r.visits.second);
+    t = visited_only(t, r.more.first);
+    t = visited_only(t, r.more.second);
+    parts::with_places(p, t)
+}
+
+// The pair with both ends replaced.
+fn with_ends(p: Pair, one: Endpoint, two: Endpoint) -> Pair
+    ensures { λ r. ⌜ r ≡ withEnds one two p ⌝ }
+{
+    let places = p.places;
+    Pair {
+        datagram: p.datagram,
+        capacity: p.capacity,
+        one,
+        two,
+        places,
+    }
+}
+
+// The pair with the ends of an outcome.
+pub fn with_outcome(p: Pair, r: Outcome) -> Pair
     ensures { λ q. ⌜ q ≡ withOutcome r p ⌝ }
 {
     let one = r.one;
     let two = r.two;
-    p.one = one;
-    p.two = two;
-    p
+    with_ends(p, one, two)
 }
 
-// The step of a call with this outcome and two changes: the waits are visited where one can fire.
+fn visit(p: Pair, r: Outcome) -> Pair
+    ensures { λ q. ⌜ q ≡ pick (needsVisit r (p .places)) (visitedAll r p) p ⌝ }
+{
+    if !needs_visit(p, r) {
+        return p;
+    }
+    if has_only_wait(p) {
+        return visit_only(p, r);
+    }
+    visit_each(p, r)
+}
+
+// The step of a call with this outcome: the waits are visited where one can fire.
 pub fn settle(p: Pair, r: Outcome) -> Step
     ensures { λ s. ⌜ s ≡ settled r p ⌝ }
 {
-    let pair = with_outcome(p, r);
     let answer = r.answer;
-    if r.fires {
-        let visits = r.visits;
-        return Step {
-            pair: visit(pair, visits),
-            answer,
-        };
+    Step {
+        pair: visit(with_outcome(p, r), r),
+        answer,
     }
-    Step { pair, answer }
 }
 
-// The same with all its changes.
-pub fn settle_all(p: Pair, r: Outcome) -> Step
-    ensures { λ s. ⌜ s ≡ settledAll r p ⌝ }
+// The pair without the waits of an end.
+pub fn without_waits(p: Pair, handle: u32) -> Pair
+    ensures { λ r. ⌜ r ≡ withoutWaits (isOne handle) p ⌝ }
 {
-    let pair = with_outcome(p, r);
-    let answer = r.answer;
-    if r.fires {
-        return Step {
-            pair: visit_all(pair, r),
-            answer,
-        };
-    }
-    Step { pair, answer }
-}
-
-fn without_waits(t: Places, one: bool) -> Places
-    ensures { λ r. ⌜ r ≡ dropOf one t .places ⌝ }
-{
-    let n = port::drop_waits(t, one);
+    let n = port::drop_waits(p.places, handle == 1);
     let places = n.places;
-    places
+    parts::with_places(p, places)
 }
 
-// Drops the waits of the end that closes, then visits those of its peer.
-pub fn close_waits(p: Pair, handle: u32, v: Visits) -> Pair
-    ensures { λ r. ⌜ r ≡ closedWaits (isOne handle) v p ⌝ }
+// The pair without the waits of an end, once the others are visited.
+pub fn close_waits(p: Pair, handle: u32, r: Outcome) -> Pair
+    ensures { λ q. ⌜ q ≡ visitedAll r (withoutWaits (isOne handle) p) ⌝ }
 {
-    let mut t = p.places;
-    t = without_waits(t, handle == 1);
-    t = visited(t, v.first);
+    let n = port::drop_waits(p.places, handle == 1);
+    let mut t = n.places;
+    t = visited(t, r.visits.first);
+    t = visited(t, r.visits.second);
+    t = visited(t, r.more.first);
+    t = visited(t, r.more.second);
     parts::with_places(p, t)
 }

@@ -19,6 +19,6 @@ impl Pair {
         ensures { λ r. ⌜ Steps self (disposeAnswer self handle disposition «peer_disposition») (disposed (isOne handle) disposition «peer_disposition» self) r ⌝ }
     {
         let r = control::dispose_ends(parts::ends_of(self), handle, disposition, peer_disposition);
-        deferred::settle_all(self, r)
+        deferred::settle(self, r)
     }
 }

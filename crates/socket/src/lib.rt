@@ -17,13 +17,22 @@ mod threshold;
 mod wait;
 mod write;
 
+pub use create::new_pair;
 pub use deferred::close_waits;
+pub use deferred::has_only_wait;
+pub use deferred::needs_visit;
 pub use deferred::settle;
-pub use deferred::settle_all;
-pub use deferred::visit;
-pub use deferred::visit_all;
+pub use deferred::visit_each;
+pub use deferred::visit_only;
 pub use deferred::with_outcome;
 pub use parts::ends_of;
+pub use wait::has_only_packet;
+pub use wait::is_unused;
+pub use wait::registered;
+pub use wait::registered_first;
+pub use wait::take_answer;
+pub use wait::taken;
+pub use wait::taken_only;
 
 // Both ends of a pair, and the places of its waits and packets. It holds no byte that was written.
 #[repr(C)]

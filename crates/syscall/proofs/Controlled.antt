@@ -17,17 +17,17 @@ use Rattle.socket.specs.declared.Pair.{Pair}
 use Rattle.socket.specs.Pair.{isOne, endsOf}
 use Rattle.socket.specs.Tests.{Steps}
 use Rattle.socket.specs.Disposition.{disposed, shutdownAnswer, shut}
-use Rattle.socket.specs.Deferred.{settled, settledAll}
+use Rattle.socket.specs.Deferred.{settled}
 use Rattle.socket.proofs.Steps.{steps-refused}
 use Rattle.socket.proofs.Settled.{unchanged-settled, shutdown-whole as socket-shutdown}
-use Rattle.socket.proofs.Disposed.{unchanged-all, dispose-whole as socket-dispose}
+use Rattle.socket.proofs.Disposed.{dispose-whole as socket-dispose}
 use Rattle.syscall.specs.Control.{dispositionOf, userDisposeAnswer, shutsRead, shutsWrite, userShutdownAnswer}
 use Rattle.syscall.specs.Ends.{pairOf, userDisposeEnds, userShutEnds}
 use Rattle.syscall.proofs.Passed.{dispose-passed, shutdown-passed}
 use Rattle.syscall.proofs.Same.{told-dispose, told-shutdown}
 
 pub dispose-whole : (p : Pair) (h a b : ℕ) (e : Ends) (r : Outcome) → length (p .places .table) ≡ 128 → e ≡ endsOf p → r ≡ userDisposeEnds e h a b
-    → Steps p (userDisposeAnswer p h a b) (disposed (isOne h) (dispositionOf a) (dispositionOf b) p) (settledAll r p)
+    → Steps p (userDisposeAnswer p h a b) (disposed (isOne h) (dispositionOf a) (dispositionOf b) p) (settled r p)
 unfolding userDisposeEnds
 dispose-whole p h a b e r l f g = by (isDone (userDisposeAnswer (pairOf e) h a b)) refl
   where
@@ -35,14 +35,14 @@ dispose-whole p h a b e r l f g = by (isDone (userDisposeAnswer (pairOf e) h a b
     told = told-dispose p h a b e _ f refl
 
     by : (c : Bool) → isDone (userDisposeAnswer (pairOf e) h a b) ≡ c
-        → Steps p (userDisposeAnswer p h a b) (disposed (isOne h) (dispositionOf a) (dispositionOf b) p) (settledAll r p)
+        → Steps p (userDisposeAnswer p h a b) (disposed (isOne h) (dispositionOf a) (dispositionOf b) p) (settled r p)
     by true d =
-        subst (λ (x : Answer). Steps p x (disposed (isOne h) (dispositionOf a) (dispositionOf b) p) (settledAll r p))
+        subst (λ (x : Answer). Steps p x (disposed (isOne h) (dispositionOf a) (dispositionOf b) p) (settled r p))
         (dispose-passed p h a b (ap isDone (sym told) ∙ d))
         (socket-dispose p h (dispositionOf a) (dispositionOf b) e r l f (g ∙ sym (pick-on _ _ _ _ _ d refl)))
     by false d =
         subst (Steps p (userDisposeAnswer p h a b) (disposed (isOne h) (dispositionOf a) (dispositionOf b) p))
-        (sym (ap (λ (k : Outcome). settledAll k p) (g ∙ sym (pick-off _ _ _ _ _ d refl) ∙ ap (λ (k : Ends). unchangedEnds k (userDisposeAnswer (pairOf e) h a b)) f) ∙ unchanged-all p _))
+        (sym (ap (λ (k : Outcome). settled k p) (g ∙ sym (pick-off _ _ _ _ _ d refl) ∙ ap (λ (k : Ends). unchangedEnds k (userDisposeAnswer (pairOf e) h a b)) f) ∙ unchanged-settled p _))
         (steps-refused p p _ _ _ told d refl)
 
 pub shutdown-whole : (p : Pair) (h options : ℕ) (e : Ends) (r : Outcome) → length (p .places .table) ≡ 128 → e ≡ endsOf p → r ≡ userShutEnds e h options

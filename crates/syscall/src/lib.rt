@@ -3,7 +3,6 @@ use socket::Pair;
 use socket::Step;
 use socket::ends_of;
 use socket::settle;
-use socket::settle_all;
 ghost use Rattle.socket.specs.Pair.{isOne};
 ghost use Rattle.socket.specs.Tests.{Steps};
 ghost use Rattle.socket.specs.Disposition.{disposed, shut};
@@ -114,7 +113,7 @@ pub fn set_disposition(p: Pair, handle: u32, disposition: u32, peer_disposition:
     ensures { λ r. ⌜ Steps p (userDisposeAnswer p handle disposition «peer_disposition») (disposed (isOne handle) (dispositionOf disposition) (dispositionOf «peer_disposition») p) r ⌝ }
 {
     let r = dispose_ends(ends_of(p), handle, disposition, peer_disposition);
-    settle_all(p, r)
+    settle(p, r)
 }
 
 // Prevents reading or writing by the end of a handle, by bits.

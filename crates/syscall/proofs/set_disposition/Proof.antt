@@ -9,14 +9,14 @@ ends-of-requires c κs = tt
 dispose-ends-requires : tie.Need-dispose-ends-requires
 dispose-ends-requires c κs = tt
 
-settle-all-requires : tie.Need-settle-all-requires
-settle-all-requires c κs = tt
+settle-requires : tie.Need-settle-requires
+settle-requires c κs = tt
 
 returns : tie.Need-returns
 returns c =
     let s = c .before .before .before in
-    rw (c .settle-all .ensures)
+    rw (c .settle .ensures)
     (dispose-whole (s .args .p) (s .args .handle) (s .args .disposition) (s .args .peer-disposition) _ _ (places-128 (s .args .p) _ (s .good .0)) (c .before .before .ends-of .ensures) (c .before .dispose-ends .ensures))
 
 pub set-disposition-spec : {M : Type 1} → statement M
-set-disposition-spec = tie.close (tie.spec ends-of-requires dispose-ends-requires settle-all-requires returns)
+set-disposition-spec = tie.close (tie.spec ends-of-requires dispose-ends-requires settle-requires returns)

@@ -10,13 +10,13 @@ ends-of-requires c κs = search needs
 dispose-ends-requires : tie.Need-dispose-ends-requires
 dispose-ends-requires c κs = search needs
 
-settle-all-requires : tie.Need-settle-all-requires
-settle-all-requires c κs = search needs
+settle-requires : tie.Need-settle-requires
+settle-requires c κs = search needs
 
 returns : tie.Need-returns
 returns c = let s = c .before .before .before in
-    rw (c .settle-all .ensures)
+    rw (c .settle .ensures)
     (dispose-whole (s .args .self) (s .args .handle) (s .args .disposition) (s .args .peer-disposition) _ _ (places-128 (s .args .self) _ (s .good .0)) (c .before .before .ends-of .ensures) (c .before .dispose-ends .ensures))
 
 pub set-disposition-spec : {M : Type 1} → statement M
-set-disposition-spec = tie.close (tie.spec ends-of-requires dispose-ends-requires settle-all-requires returns)
+set-disposition-spec = tie.close (tie.spec ends-of-requires dispose-ends-requires settle-requires returns)

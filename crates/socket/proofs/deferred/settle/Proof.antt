@@ -1,4 +1,9 @@
-use Rattle.socket.proofs.Visiting.{settled-on, settled-off}
+use mathlib.Core.Path.{_≡_, refl, sym, ap, _∙_}
+use Rattle.status.specs.Choice.{pick}
+use Rattle.socket.specs.declared.Pair.{Pair}
+use Rattle.socket.specs.Deferred.{needsVisit, visitedAll, settled}
+use Rattle.socket.proofs.Visiting.{places-128}
+use Rattle.socket.proofs.Needed.{settled-need}
 use borrow.Author.Needs.{needs}
 use Rattle.socket.proofs.deferred.settle.Statement.{statement}
 use Rattle.socket.proofs.deferred.settle.Tie as tie
@@ -10,10 +15,13 @@ visit-requires : tie.Need-visit-requires
 visit-requires c κs = search needs
 
 returns : tie.Need-returns
-returns c = let a = c .before .before .before .before .args in settled-on (a .r) (a .p) _ _ (c .before .before .if1 .taken) (c .before .before .before .with-outcome .ensures) (c .visit .ensures)
-
-returns-2 : tie.Need-returns-2
-returns-2 c = let a = c .before .before .args in settled-off (a .r) (a .p) _ (c .if1 .left) (c .before .with-outcome .ensures)
+unfolding settled
+returns c =
+    let s = c .before .before in
+    ap (λ (k : Pair). record { pair = k; answer = s .args .r .answer })
+    (c .visit .ensures
+    ∙ ap (λ (k : Pair). pick (needsVisit (s .args .r) (k .places)) (visitedAll (s .args .r) k) k) (c .before .with-outcome .ensures)
+    ∙ settled-need (s .args .r) (s .args .p) (places-128 (s .args .p) _ (s .good .0)))
 
 pub settle-spec : {M : Type 1} → statement M
-settle-spec = tie.close (tie.spec with-outcome-requires visit-requires returns returns-2)
+settle-spec = tie.close (tie.spec with-outcome-requires visit-requires returns)

@@ -1,8 +1,8 @@
-use borrow.Author.Needs.{needs}
 use Rattle.socket.specs.Pair.{withPlaces}
 use Rattle.socket.specs.Deferred.{visitedPair, visitedAll}
-use Rattle.socket.proofs.deferred.visit_all.Statement.{statement}
-use Rattle.socket.proofs.deferred.visit_all.Tie as tie
+use borrow.Author.Needs.{needs}
+use Rattle.socket.proofs.deferred.visit_each.Statement.{statement}
+use Rattle.socket.proofs.deferred.visit_each.Tie as tie
 
 visited-requires : tie.Need-visited-requires
 visited-requires c κs = search needs
@@ -23,8 +23,8 @@ returns : tie.Need-returns
 unfolding visitedAll visitedPair withPlaces
 returns c = rw (c .before .visited4 .ensures, c .before .before .visited3 .ensures, c .before .before .before .visited2 .ensures, c .before .before .before .before .visited .ensures) at (c .with-places .ensures)
 
-pub visit-all-spec : {M : Type 1} → statement M
-visit-all-spec =
+pub visit-each-spec : {M : Type 1} → statement M
+visit-each-spec =
     tie.close
     (tie.spec
     visited-requires

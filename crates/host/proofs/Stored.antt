@@ -1,0 +1,105 @@
+-- What the stored pair is, by the way that the code went. Assumes nothing.
+use Prim.Native.Nat.{ℕ}
+use mathlib.Core.Path.{_≡_, refl, sym, ap, _∙_}
+use mathlib.Core.Bool.{Bool, true, false, not}
+use lib.Dec.{T}
+use lib.ListN.{length}
+use Rattle.status.specs.declared.Answer.{Answer}
+use Rattle.status.specs.Choice.{pick}
+use Rattle.status.specs.Answer.{isDone}
+use Rattle.status.proofs.Rules.{via, pick-on, pick-off}
+use Rattle.places.specs.Table.{unused, onlyWait, onlyPacket}
+use Rattle.ends.specs.declared.Outcome.{Outcome}
+use Rattle.socket.specs.declared.Pair.{Pair}
+use Rattle.socket.specs.declared.Step.{Step}
+use Rattle.socket.specs.Pair.{isOne, withPlaces}
+use Rattle.socket.specs.Tests.{Steps}
+use Rattle.socket.specs.Deferred.{needsVisit, visitedAll, withEnds, withOutcome, settled, withoutWaits, closedWaits, settledClose}
+use Rattle.socket.proofs.Needed.{need}
+
+on : (b : Bool) → T b → b ≡ true
+on true t = refl
+on false t = absurd t
+
+off : (b : Bool) → T (not b) → b ≡ false
+off true t = absurd t
+off false t = refl
+
+-- a choice whose test was taken, or left
+on-pick : {A : Type 0} (b c : Bool) (x y : A) → c ≡ b → T c → x ≡ pick b x y
+on-pick b c x y e t = pick-on _ b x x y (via e (on c t)) refl
+
+off-pick : {A : Type 0} (b c : Bool) (x y : A) → c ≡ b → T (not c) → y ≡ pick b x y
+off-pick b c x y e t = pick-off _ b y x y (via e (off c t)) refl
+
+-- ---- the visit
+
+pub each-visited : (r : Outcome) (p q : Pair) (n : Bool) → length (p .places .table) ≡ 128 → n ≡ needsVisit r (p .places) → T n → q ≡ visitedAll r p
+    → q ≡ pick (r .fires) (visitedAll r p) p
+each-visited r p q n l e t g = g ∙ on-pick (needsVisit r (p .places)) n (visitedAll r p) p e t ∙ need r p l
+
+pub only-visited : (r : Outcome) (p q : Pair) (n o : Bool) → length (p .places .table) ≡ 128 → n ≡ needsVisit r (p .places) → T n
+    → o ≡ onlyWait (p .places) → T o → q ≡ pick (onlyWait (p .places)) (visitedAll r p) p → q ≡ pick (r .fires) (visitedAll r p) p
+only-visited r p q n o l e t f u g =
+    each-visited r p q n l e t (g ∙ sym (on-pick (onlyWait (p .places)) o (visitedAll r p) p f u))
+
+pub not-visited : (r : Outcome) (p : Pair) (n : Bool) → length (p .places .table) ≡ 128 → n ≡ needsVisit r (p .places) → T (not n)
+    → p ≡ pick (r .fires) (visitedAll r p) p
+not-visited r p n l e t = off-pick (needsVisit r (p .places)) n (visitedAll r p) p e t ∙ need r p l
+
+-- ---- an outcome
+
+pub outcome-settled : (r : Outcome) (p q q′ : Pair) → q ≡ withOutcome r p → q′ ≡ pick (r .fires) (visitedAll r q) q → q′ ≡ settled r p .pair
+unfolding settled
+outcome-settled r p q q′ e g = g ∙ ap (λ (k : Pair). pick (r .fires) (visitedAll r k) k) e
+
+-- the step of a call whose pair was stored
+pub settled-as : (r : Outcome) (p q : Pair) → q ≡ settled r p .pair → settled r p ≡ record { pair = q; answer = r .answer }
+unfolding settled
+settled-as r p q e = ap (λ (k : Pair). record { pair = k; answer = r .answer }) (sym e)
+
+-- ---- a close
+
+-- the waits may be dropped before or after the ends are replaced
+swapped : (t : Bool) (r : Outcome) (p : Pair) → withoutWaits t (withOutcome r p) ≡ withOutcome r (withoutWaits t p)
+unfolding withoutWaits withPlaces withEnds
+swapped t r p = refl
+
+pub dropped-on : (h : ℕ) (r : Outcome) (p q : Pair) (f : Bool) → f ≡ r .fires → T f → q ≡ visitedAll r (withoutWaits (isOne h) p)
+    → q ≡ closedWaits (isOne h) r p
+unfolding closedWaits
+dropped-on h r p q f e t j = j ∙ on-pick (r .fires) f (visitedAll r (withoutWaits (isOne h) p)) p e t
+
+pub dropped-off : (h : ℕ) (r : Outcome) (p : Pair) (f : Bool) → f ≡ r .fires → T (not f) → p ≡ closedWaits (isOne h) r p
+unfolding closedWaits
+dropped-off h r p f e t = off-pick (r .fires) f (visitedAll r (withoutWaits (isOne h) p)) p e t
+
+pub close-settled : (h : ℕ) (r : Outcome) (p q q′ : Pair) → q ≡ withOutcome r p → q′ ≡ closedWaits (isOne h) r q → q′ ≡ settledClose (isOne h) r p .pair
+unfolding settledClose settled closedWaits pick
+close-settled h r p q q′ e g = g ∙ ap (λ (k : Pair). pick (r .fires) (visitedAll r (withoutWaits (isOne h) k)) k) e ∙ by (r .fires)
+  where
+    by : (f : Bool) → pick f (visitedAll r (withoutWaits (isOne h) (withOutcome r p))) (withOutcome r p)
+        ≡ pick f (visitedAll r (withOutcome r (pick f (withoutWaits (isOne h) p) p))) (withOutcome r (pick f (withoutWaits (isOne h) p) p))
+    by true = ap (visitedAll r) (swapped (isOne h) r p)
+    by false = refl
+
+pub closed-as : (h : ℕ) (r : Outcome) (p q : Pair) → q ≡ settledClose (isOne h) r p .pair → settledClose (isOne h) r p ≡ record { pair = q; answer = r .answer }
+unfolding settledClose
+closed-as h r p q e = settled-as r (pick (r .fires) (withoutWaits (isOne h) p) p) q e
+
+-- ---- create, wait and take
+
+pub made-on : (a : Answer) (n p : Pair) (b : Bool) (q : Pair) → b ≡ isDone a → T b → q ≡ n → q ≡ pick (isDone a) n p
+made-on a n p b q e t g = g ∙ on-pick (isDone a) b n p e t
+
+pub made-off : (a : Answer) (n p : Pair) (b : Bool) → b ≡ isDone a → T (not b) → p ≡ pick (isDone a) n p
+made-off a n p b e t = off-pick (isDone a) b n p e t
+
+pub made-steps : (p : Pair) (x a : Answer) (n q : Pair) → a ≡ x → q ≡ pick (isDone a) n p → Steps p x n (record { pair = q; answer = a })
+made-steps p x a n q e g = record { answer = e; pair = g ∙ ap (λ (k : Answer). pick (isDone k) n p) e }
+
+pub waited-on : (p q : Pair) (b : Bool) (n : Pair) → b ≡ unused (p .places) → T b → q ≡ pick (unused (p .places)) n p → q ≡ n
+waited-on p q b n e t g = g ∙ sym (on-pick (unused (p .places)) b n p e t)
+
+pub taken-on : (p q : Pair) (b : Bool) (n : Pair) → b ≡ onlyPacket (p .places) → T b → q ≡ pick (onlyPacket (p .places)) n p → q ≡ n
+taken-on p q b n e t g = g ∙ sym (on-pick (onlyPacket (p .places)) b n p e t)
