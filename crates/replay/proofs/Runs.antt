@@ -24,6 +24,7 @@ use Rattle.script.specs.Machine.{Machine, machine, startState, moveOf, stay}
 use Rattle.script.specs.Listing.{header, run, closing}
 use Rattle.script.specs.Feed.{isReady, FeedDone}
 use Rattle.script.proofs.Runs.{run-stay}
+use Rattle.script.proofs.Blocks.{fed-rest, fed-stuck}
 use Rattle.replay.specs.Ran.{Ran}
 
 -- what a writer gives back lies in the list
@@ -63,10 +64,10 @@ module _ (s memory memory′ l sub l₂ sub₂ : List ℕ) (z z′ : Rings) (c :
     lines hs room last =
         let m : Machine = machine (f .state) memory′ z′ in
         let left : List ℕ = drop (f .taken) s in
-        let still : moveOf m left ≡ stay = d .stuck (ready (length s) (length memory) hs small) (omega arith) in
+        let still : moveOf m left ≡ stay = fed-stuck d (ready (length s) (length memory) hs small) (omega arith) in
         let end : run (f .taken) m left ≡ take c sub₂ = run-stay (f .taken) m left still ∙ sym (put-all (w .fit .put last)) in
         let begin : run 0 (machine startState memory z) s ≡ take (f .written) sub ++ run (0 + f .taken) m (left ++ []) =
-        ap (λ (x : List ℕ). run 0 (machine startState memory z) x) (sym (append-nil s)) ∙ d .rest [] in
+        ap (λ (x : List ℕ). run 0 (machine startState memory z) x) (sym (append-nil s)) ∙ fed-rest d [] in
         let same : run (0 + f .taken) m (left ++ []) ≡ run (f .taken) m left =
         ap (λ (n : ℕ). run n m (left ++ [])) (zero-add (f .taken)) ∙ ap (λ (x : List ℕ). run (f .taken) m x) (append-nil left) in
         sym (begin ∙ ap (λ (x : List ℕ). take (f .written) sub ++ x) (same ∙ end))
