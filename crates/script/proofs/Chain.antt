@@ -1,4 +1,4 @@
--- What feeding a script in blocks puts out is its listing. Assumes nothing.
+-- What feeding a script in blocks puts out is its listing, and every script has a feeding. Assumes nothing.
 use Prim.Native.Nat.{ℕ}
 use native.Mathlib.Omega.{arith}
 use mathlib.Core.Path.{_≡_, sym, ap, _∙_}

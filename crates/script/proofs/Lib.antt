@@ -1,12 +1,13 @@
 -- Moves, Runs: the listing move by move
 -- Blocks: what a block does move by move
--- Chain: what is claimed of feeding
+-- Chain, Complete: what is claimed of feeding
 -- Delivered: the bytes that a read delivered, and the line of a call
 -- Turns, Feeding, Shifts: what the functions say of a move, of a block, of the bytes that are left
 pub mod Moves
 pub mod Runs
 pub mod Blocks
 pub mod Chain
+pub mod Complete
 pub mod Delivered
 pub mod Turns
 pub mod Feeding

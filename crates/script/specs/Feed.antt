@@ -13,7 +13,7 @@ use Rattle.script.specs.declared.feed.Fed.{Fed}
 use Rattle.line.specs.Line.{LINE}
 use Rattle.call.specs.Call.{Rings}
 use Rattle.script.specs.Machine.{Machine, machine, start, Move, stay, halt, go, moveOf}
-use Rattle.script.specs.Listing.{closing, header, listing}
+use Rattle.script.specs.Listing.{closing, run, header, listing}
 use Rattle.script.specs.Turn.{LIMIT, machineAfter}
 
 -- whether a block can be fed: the numbers are far from 2 ^ 64, and memory is such that no line is longer than LINE
@@ -102,3 +102,20 @@ pub data Feeds (room : ℕ) : (offset : ℕ) → Machine → (s : List ℕ) → 
 -- the header, then what feeding puts out, is the listing, however the script is cut into blocks
 abbrev pub Chain : Type 0
 Chain = (room : ℕ) (bs : List (List ℕ)) (o : List ℕ) → Feeds room 0 start [] bs o → header ++ o ≡ listing (flatten bs)
+
+-- from wherever bytes can be fed there is a feeding to the end, where the output has room for the listing and one line more
+abbrev pub Complete : Type 0
+Complete =
+    (offset room : ℕ) (m : Machine) (s : List ℕ) (bs : List (List ℕ)) → isReady (m .state) offset (length (s ++ flatten bs)) (length (m .memory)) ≡ true
+    → length (run offset m (s ++ flatten bs)) + LINE ≤ room → (o : List ℕ) × Feeds room offset m s bs o
+
+-- every script has a feeding, however it is cut into blocks
+abbrev pub Every : Type 0
+Every =
+    (room : ℕ) (bs : List (List ℕ)) → length (flatten bs) ≤ LIMIT → length (listing (flatten bs)) + LINE ≤ room → (o : List ℕ) × Feeds room 0 start [] bs o
+
+-- what is claimed of feeding
+pub record Claims : Type 0 where
+  pub chain : Chain
+  pub complete : Complete
+  pub every : Every
