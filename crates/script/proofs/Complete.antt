@@ -21,6 +21,7 @@ use Rattle.script.specs.Listing.{closing, run, header, listing}
 use Rattle.script.specs.Turn.{LIMIT}
 use Rattle.script.specs.Feed.{isReady, Block, noBlock, behind, fedMove, fedBy, fedFrom, fedOf, allOf, FeedDone, Feeds, more, fed, done, Complete, Every, Claims}
 use Rattle.script.proofs.Blocks.{tells, fed-ready, fed-stuck, passes}
+use Rattle.script.proofs.Alls.{all-passes}
 use Rattle.script.proofs.Chain.{chain}
 
 -- ---- with room for all text and a line more, room does not matter
@@ -143,4 +144,11 @@ every room bs h g =
     complete 0 room start [] bs (start-ready (length (flatten bs)) h) (omega (arith, g, length-append header (run 0 start (flatten bs))))
 
 pub claims : Claims
-claims = record { chain = chain; complete = complete; every = every }
+claims =
+    record {
+      block = λ offset room m s. passes offset room m s .rest;
+      all = λ offset m s. all-passes offset m s .rest;
+      chain = chain;
+      complete = complete;
+      every = every;
+    }

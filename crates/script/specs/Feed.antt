@@ -10,6 +10,7 @@ use Rattle.text.specs.Answer.{stopOf}
 use Rattle.text.specs.Put.{place, Written}
 use Rattle.script.specs.declared.State.{State}
 use Rattle.script.specs.declared.feed.Fed.{Fed}
+use Rattle.script.specs.declared.feed.Progress.{Progress}
 use Rattle.line.specs.Line.{LINE}
 use Rattle.call.specs.Call.{Rings}
 use Rattle.script.specs.Machine.{Machine, machine, start, Move, stay, halt, go, moveOf}
@@ -82,7 +83,28 @@ moved from n buffer = take n (drop from buffer) ++ drop n buffer
 unfoldable pub shifted : (from to : ℕ) → (buffer : List ℕ) → List ℕ
 shifted from to buffer = pick (leb from to and leb to (length buffer)) (moved from (to - from) buffer) buffer
 
+-- what the bytes in use do that stand at the front of a buffer; a buffer that is shorter does nothing
+unfoldable pub frontOf : Progress → (room : ℕ) → (buffer memory : List ℕ) → Rings → Block
+frontOf p room buffer memory z =
+    let m = machine (p .state) memory z in
+    pick (leb (p .used) (length buffer)) (fedOf (p .offset) room m (take (p .used) buffer)) (noBlock m)
+
+-- b was done with the bytes in use: those that it did not take stand at the front, and those that it took are counted
+pub record Advanced (b : Block) (p : Progress) (buffer buffer′ memory′ : List ℕ) (z′ : Rings) (out out′ : List ℕ) (r : Progress) : Type 0 where
+  pub after : machine (r .state) memory′ z′ ≡ b .after
+  pub offset : r .offset ≡ p .offset + b .taken
+  pub used : r .used ≡ p .used - b .taken
+  pub left : buffer′ ≡ shifted (b .taken) (p .used) buffer
+  pub written : r .written ≡ length (b .text)
+  pub text : out′ ≡ place 0 (b .text) out
+  pub within : r .used ≤ p .used
+  pub fits : r .written ≤ length out′
+
 -- ---- what is claimed
+
+-- whatever bytes follow those of a block, the listing is its text, and then the listing from the machine after it with the bytes that are left
+abbrev pub Listed : (offset : ℕ) → Machine → List ℕ → Block → Type 0
+Listed offset m s b = (t : List ℕ) → run offset m (s ++ t) ≡ b .text ++ run (offset + b .taken) (b .after) (drop (b .taken) s ++ t)
 
 -- What is put out when a machine that has taken so many bytes has the bytes s at hand and the blocks bs are to come, with room for so many bytes of
 -- text: `more` is a block that comes, `fed` a call of `feed` on the bytes at hand, `done` a call of `finish` at the end of the input.
@@ -116,6 +138,8 @@ Every =
 
 -- what is claimed of feeding
 pub record Claims : Type 0 where
+  pub block : (offset room : ℕ) (m : Machine) (s : List ℕ) → Listed offset m s (fedOf offset room m s)
+  pub all : (offset : ℕ) (m : Machine) (s : List ℕ) → Listed offset m s (allOf offset m s)
   pub chain : Chain
   pub complete : Complete
   pub every : Every
