@@ -3,6 +3,8 @@ use Prim.Native.Nat.{ℕ, _+_, _-_, _≤_, _<_}
 use mathlib.Core.Path.{_≡_}
 use mathlib.Core.List.{List}
 use lib.ListN.{length, take, drop, getD}
+use lib.Dec.{ltb}
+use Rattle.status.specs.Choice.{pick}
 use Rattle.record.specs.Fields.{four}
 use Rattle.script.specs.Listing.{listing}
 use Rattle.replay.specs.declared.entry.Field.{Field}
@@ -60,19 +62,41 @@ Agreement s at middle end Agrees = Agreed s at middle end
 Agreement s at middle end (DiffersAt i) = FirstDifference (listing (bytesOf s at middle)) (bytesOf s middle end) i
 Agreement s at middle end NoRoom = Unit {0}
 
+-- the tally before any entry
+unfoldable pub noTally : Tally
+noTally = record { total = 0; agree = 0; number = 0; first = Agrees }
+
+-- an entry is counted that does not agree: it is the first such if all before it agree
+unfoldable pub missed : Tally → Outcome → Tally
+missed t o =
+    record {
+      total = t .total + 1;
+      agree = t .agree;
+      number = pick (ltb (t .agree) (t .total)) (t .number) (t .total);
+      first = pick (ltb (t .agree) (t .total)) (t .first) o;
+    }
+
 -- one entry more is counted
-pub record Counted (t : Tally) (o : Outcome) (r : Tally) : Type 0 where
-  pub total : r .total ≡ t .total + 1
-  pub agree : r .agree ≤ r .total
-  pub all : r .agree ≡ r .total → (t .agree ≡ t .total) × (o ≡ Agrees)
+unfoldable pub countedOf : Tally → Outcome → Tally
+countedOf t Agrees = record { total = t .total + 1; agree = t .agree + 1; number = t .number; first = t .first }
+countedOf t (DiffersAt i) = missed t (DiffersAt i)
+countedOf t NoRoom = missed t NoRoom
+
+-- the tally of the entries before a place: each, from the first on, is counted with its outcome
+pub data Tallied (s : List ℕ) : ℕ → Tally → Type 0 where
+  start : Tallied s 0 noTally
+  next :
+      {at middle end : ℕ} (t : Tally) (o : Outcome) → Tallied s at t → EntryIn s at middle end → Agreement s at middle end o
+      → Tallied s end (countedOf t o)
 
 -- every entry before a place agrees
 pub data AllAgree (s : List ℕ) : ℕ → Type 0 where
   none : AllAgree s 0
   more : {at middle end : ℕ} → AllAgree s at → EntryIn s at middle end → Agreed s at middle end → AllAgree s end
 
--- the entries that were run end at a place; if as many agree as were run, all agree. Behind the place the input ends, or an entry is cut
+-- the entries that were run end at a place, and are counted; if as many agree as were run, all agree. Behind the place the input ends, or an entry is cut
 pub record AgreeTo (s : List ℕ) (r : Replayed) : Type 0 where
   pub within : r .at ≤ length s
+  pub tally : Tallied s (r .at) (r .tally)
   pub all : r .tally .agree ≡ r .tally .total → AllAgree s (r .at)
   pub cut : r .at < length s → length s < fieldEnd s (fieldEnd s (r .at))

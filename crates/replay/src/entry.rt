@@ -4,7 +4,7 @@ ghost use Prim.Native.Nat.{_+_, _≤_, _<_};
 ghost use mathlib.Core.Path.{_≡_};
 ghost use lib.ListN.{length};
 ghost use Rattle.record.specs.Fields.{four};
-ghost use Rattle.replay.specs.Entry.{FieldAt, EntryAt, EntryIn, Compares, Agreement, AgreeTo, Counted};
+ghost use Rattle.replay.specs.Entry.{FieldAt, EntryAt, EntryIn, Compares, Agreement, AgreeTo, countedOf};
 
 // Where a field ends: its length and its bytes.
 enum Field {
@@ -118,7 +118,7 @@ fn replay_entry(s: &[u8], at: usize, middle: usize, end: usize, out: &mut [u8]) 
 
 fn counted(t: Tally, o: Outcome) -> Tally
     requires { ⌜ (t .total < 9223372036854775808) × (t .agree ≤ t .total) ⌝ }
-    ensures { λ r. ⌜ Counted t o r ⌝ }
+    ensures { λ r. ⌜ r ≡ countedOf t o ⌝ }
 {
     let first = t.first;
     match o {
