@@ -4,9 +4,10 @@ use native.Mathlib.Omega.{arith}
 use mathlib.Core.Path.{_≡_, refl, sym, subst, _∙_}
 use borrow.Author.Tests.{lt-ltb, le-ltb}
 use Rattle.status.specs.Choice.{pick}
-use mathlib.Core.List.{List}
+use mathlib.Core.List.{List, _++_}
 use lib.ListN.{length}
-use Rattle.script.specs.Listing.{listing}
+use Rattle.script.specs.Machine.{start}
+use Rattle.script.specs.Listing.{header, run, listing}
 use Rattle.replay.specs.declared.entry.Outcome.{Outcome}
 use Rattle.replay.specs.declared.entry.Outcome.the-variants.{Agrees, DiffersAt, NoRoom}
 use Rattle.replay.specs.declared.entry.Tally.{Tally}
@@ -14,6 +15,10 @@ use Rattle.replay.specs.Entry.{fieldEnd, bytesOf, FirstDifference, Compa
 
 pub cut-behind : (s : List ℕ) (at middle : ℕ) → middle ≡ fieldEnd s at → length s < fieldEnd s middle → length s < fieldEnd s (fieldEnd s at)
 cut-behind s at middle e h = subst (λ (k : ℕ). length s < fieldEnd s k) e h
+
+pub listing-is : (s : List ℕ) → header ++ run 0 start s ≡ listing s
+unfolding listing
+listing-is s = refl
 
 -- the text compared is the script's listing
 pub agreement :

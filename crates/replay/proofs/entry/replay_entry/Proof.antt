@@ -6,7 +6,7 @@ use mathlib.Core.Path.{ap, _∙_}
 use lib.ListN.{length, take, drop, length-take}
 use Rattle.script.specs.Turn.{LIMIT}
 use Rattle.replay.specs.Entry.{bytesOf}
-use Rattle.replay.proofs.Entries.{agreement}
+use Rattle.replay.proofs.Entries.{listing-is, agreement}
 use borrow.Author.Needs.{needs}
 use Rattle.replay.proofs.entry.replay_entry.Statement.{statement}
 use Rattle.replay.proofs.entry.replay_entry.Tie as tie
@@ -72,7 +72,7 @@ returns-2 c =
     let short : length (bytesOf s at (a .middle)) ≤ LIMIT =
     omega (arith, c .before .before .before .before .before .before .before .before .before .before .before .before .pre .script, length-take (a .middle - (at + 4)) (drop (at + 4) s), b at, b (at + 1), b (at + 2), b (at + 3)) in
     agreement s at (a .middle) (a .end) (take (r .result - 0) (r .last .1 .0)) (c .compare .result)
-    (ap (λ (k : ℕ). take k (r .last .1 .0)) (sub-zero (r .result)) ∙ r .ensures .whole short (omega (arith, c .before .before .before .before .if1 .left, r .ensures .fits)))
+    (ap (λ (k : ℕ). take k (r .last .1 .0)) (sub-zero (r .result)) ∙ r .ensures .whole short (omega (arith, c .before .before .before .before .if1 .left, r .ensures .fits)) ∙ listing-is (bytesOf s at (a .middle)))
     (c .compare .ensures)
 
 pub replay-entry-spec : {M : Type 1} → statement M
