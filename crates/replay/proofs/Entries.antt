@@ -22,11 +22,11 @@ listing-is s = refl
 
 -- the text compared is the script's listing
 pub agreement :
-    (s : List ℕ) (at middle end : ℕ) (text : List ℕ) (o : Outcome) → text ≡ listing (bytesOf s at middle) → Compares text (bytesOf s middle end) o
-    → Agreement s at middle end o
-agreement s at middle end text Agrees e h = sym e ∙ h
-agreement s at middle end text (DiffersAt i) e h = subst (λ (x : List ℕ). FirstDifference x (bytesOf s middle end) i) e h
-agreement s at middle end text NoRoom e h = tt
+    (room : ℕ) (s : List ℕ) (at middle end : ℕ) (text : List ℕ) (o : Outcome) → text ≡ listing (bytesOf s at middle) → Compares text (bytesOf s middle end) o
+    → Agreement room s at middle end o
+agreement room s at middle end text Agrees e h = sym e ∙ h
+agreement room s at middle end text (DiffersAt i) e h = subst (λ (x : List ℕ). FirstDifference x (bytesOf s middle end) i) e h
+agreement room s at middle end text NoRoom e h = absurd h
 
 -- ---- what is counted
 

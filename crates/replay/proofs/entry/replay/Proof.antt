@@ -8,17 +8,17 @@ use borrow.Author.Needs.{needs}
 use lib.ListN.{length}
 use Rattle.replay.specs.declared.entry.Outcome.the-variants.{Agrees}
 use Rattle.replay.specs.declared.entry.Tally.{Tally}
-use Rattle.replay.specs.Entry.{AllAgree, none, more, noTally, Tallied, start, next}
+use Rattle.replay.specs.Entry.{AllAgree, none, more, noTally, Tallied, begun, next}
 use Rattle.replay.proofs.Entries.{counted-total, counted-most, counted-all}
 use Rattle.replay.proofs.entry.replay.Statement.{statement}
 use Rattle.replay.proofs.entry.replay.Tie as tie
 
-begins : {s : List ℕ} → Tallied s 0 (record { total = 0; agree = 0; number = 0; first = Agrees })
+begins : {s out : List ℕ} → Tallied s out 0 (record { total = 0; agree = 0; number = 0; first = Agrees }) out
 unfolding noTally
-begins = start
+begins = begun
 
 abbrev Inv-loop : tie.InvT-loop
-Inv-loop s out₀ t₀ at₀ out t at = (at ≤ length s) × (t .total ≤ at) × (t .agree ≤ t .total) × (t .agree ≡ t .total → AllAgree s at) × (length out ≡ length out₀) × Tallied s at t
+Inv-loop s out₀ t₀ at₀ out t at = (at ≤ length s) × (t .total ≤ at) × (t .agree ≤ t .total) × (t .agree ≡ t .total → AllAgree s at) × (length out ≡ length out₀) × Tallied s out₀ at t out
 
 abbrev μ-loop : tie.MeasureT-loop
 μ-loop s out₀ t₀ at₀ out t at = length s - at
@@ -65,7 +65,7 @@ loop-again c =
       entry .within,
       omega (arith, entry .script, entry .stored, total),
       rw e (counted-most t (k .result) (h .2)),
-      (λ g. let w = counted-all t (k .result) (h .2) (rw e at g) in more (h .3 (w .0)) entry (rw (w .1) at (k .ensures))),
+      (λ g. let w = counted-all t (k .result) (h .2) (rw e at g) in more (h .3 (w .0)) entry (rw (w .1) at (k .ensures .outcome))),
       omega (arith, k .kept .1 .1 .1 .1 .0),
       rw e (next t (k .result) (h .5) entry (k .ensures)),
     )
