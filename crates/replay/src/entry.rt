@@ -4,7 +4,7 @@ ghost use Prim.Native.Nat.{_+_, _≤_, _<_};
 ghost use mathlib.Core.Path.{_≡_};
 ghost use lib.ListN.{length};
 ghost use Rattle.record.specs.Fields.{four};
-ghost use Rattle.replay.specs.Entry.{FieldAt, EntryAt, EntryIn, Compares, Agreement, AgreeTo, Counted};
+ghost use Rattle.replay.specs.Entry.{FieldAt, EntryAt, EntryIn, Compares, EntryRun, AgreeTo, countedOf};
 
 // Where a field ends: its length and its bytes.
 enum Field {
@@ -105,7 +105,7 @@ fn compare(a: &[u8], b: &[u8]) -> Outcome
 // Runs an entry's script, and compares. A listing has no room where another line might not have fit behind it.
 fn replay_entry(s: &[u8], at: usize, middle: usize, end: usize, out: &mut [u8]) -> Outcome
     requires { ⌜ EntryIn (now s) at middle end ⌝ }
-    ensures { λ r. ⌜ Agreement (now (s .entry)) at middle end r ⌝ }
+    ensures { λ r. ⌜ EntryRun (now (s .entry)) at middle end (now (out .entry)) (now (out .exit)) r ⌝ }
 {
     let from = at + 4;
     let n = listing::run_script(&s[from..middle], out);
@@ -118,7 +118,7 @@ fn replay_entry(s: &[u8], at: usize, middle: usize, end: usize, out: &mut [u8]) 
 
 fn counted(t: Tally, o: Outcome) -> Tally
     requires { ⌜ (t .total < 9223372036854775808) × (t .agree ≤ t .total) ⌝ }
-    ensures { λ r. ⌜ Counted t o r ⌝ }
+    ensures { λ r. ⌜ r ≡ countedOf t o ⌝ }
 {
     let first = t.first;
     match o {
@@ -149,7 +149,7 @@ fn counted(t: Tally, o: Outcome) -> Tally
 
 // Runs the entries from the input's begin on, until its end or an entry that is cut.
 pub fn replay(s: &[u8], out: &mut [u8]) -> Replayed
-    ensures { λ r. ⌜ AgreeTo (now (s .entry)) r ⌝ }
+    ensures { λ r. ⌜ AgreeTo (now (s .entry)) (now (out .entry)) (now (out .exit)) r ⌝ }
 {
     let mut t = Tally {
         total: 0,

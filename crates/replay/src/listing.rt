@@ -1,11 +1,9 @@
 // A script is run wholly into a buffer.
 use script::feed;
 ghost use Prim.Native.Nat.{_≤_};
-ghost use mathlib.Core.List.{_++_};
 ghost use lib.ListN.{length};
 ghost use Rattle.call.specs.Call.{rings};
-ghost use Rattle.script.specs.Machine.{machine, startState};
-ghost use Rattle.script.specs.Listing.{header, run, listing};
+ghost use Rattle.script.specs.Machine.{machine, start, startState};
 ghost use Rattle.replay.specs.Ran.{Ran};
 
 // The header, the lines of the whole script as one block, and its end. Gives how many bytes were written.
@@ -19,7 +17,7 @@ fn run_on(
     out: &mut [u8],
 ) -> usize
     requires { ⌜ length (now memory) ≤ 4096 ⌝ }
-    ensures { λ r. ⌜ Ran (header ++ run 0 (machine startState (now (memory .entry)) (rings (now («ring_one» .entry)) (now («table_one» .entry)) (now («ring_two» .entry)) (now («table_two» .entry)))) (now (script .entry))) (now (script .entry)) r (now (out .exit)) ⌝ }
+    ensures { λ r. ⌜ Ran (machine startState (now (memory .entry)) (rings (now («ring_one» .entry)) (now («table_one» .entry)) (now («ring_two» .entry)) (now («table_two» .entry)))) (now (script .entry)) r (now (out .entry)) (now (out .exit)) ⌝ }
 {
     let n = feed::header(out);
     let st = feed::start();
@@ -44,7 +42,7 @@ fn run_on(
 
 // Memory, rings and tables are made anew: all 0.
 pub fn run_script(script: &[u8], out: &mut [u8]) -> usize
-    ensures { λ r. ⌜ Ran (listing (now (script .entry))) (now (script .entry)) r (now (out .exit)) ⌝ }
+    ensures { λ r. ⌜ Ran start (now (script .entry)) r (now (out .entry)) (now (out .exit)) ⌝ }
 {
     let mut memory_array = [0u8; 4096];
     let mut ring_one_array = [0u8; 4096];

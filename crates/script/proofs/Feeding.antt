@@ -4,8 +4,8 @@ use native.Mathlib.Omega.{arith}
 use mathlib.Core.Path.{_≡_, refl, sym, ap, _∙_}
 use mathlib.Core.Bool.{Bool, true, false, cond}
 use mathlib.Core.List.{List, _++_, append-assoc, append-nil}
-use lib.ListN.{length, take, drop, length-drop}
-use lib.Seq.{drop-drop, drop-append-le}
+use lib.ListN.{length, take, drop, length-drop, take-append-drop}
+use lib.Seq.{drop-drop, length-take-le}
 use borrow.Author.Tests.{leb-true}
 use Rattle.status.specs.Choice.{_and_}
 use Rattle.text.specs.Answer.{stopOf}
@@ -15,12 +15,11 @@ use Rattle.script.specs.declared.State.{State}
 use Rattle.script.specs.declared.turn.Turned.{Turned}
 use Rattle.line.specs.Line.{LINE}
 use Rattle.call.specs.Call.{Rings}
-use Rattle.script.specs.Machine.{Machine, machine, stoppedState, Move, stay, halt, go, moveOf}
-use Rattle.script.specs.Listing.{run}
+use Rattle.script.specs.Machine.{Machine, machine, Move, stay, halt, go, moveOf}
 use Rattle.script.specs.Turn.{LIMIT, machineAfter, textOf, takenBy, goesOn, TurnDone}
-use Rattle.script.specs.Feed.{isReady, FeedDone}
-use Rattle.script.proofs.Moves.{goes, halts, move-ended}
-use Rattle.script.proofs.Runs.{run-go, run-halt, run-ended}
+use Rattle.script.specs.Feed.{isReady, Block, noBlock, behind, fedFrom, fedOf, BlockDone, FeedDone}
+use Rattle.script.proofs.Moves.{goes}
+use Rattle.script.proofs.Blocks.{block, fed-full, fed-stay, fed-halt, fed-go, fed-ready, fed-unready, stopped-number, stopped-stays}
 
 pub never : _≡_ {A = Bool} true false → ⊥
 never e = let z : _≡_ {A = ℕ} 1 0 = ap (λ (b : Bool). cond b 1 0) e in omega arith
@@ -46,34 +45,33 @@ ready st offset input memory e =
     let c = both _ _ (b .1) in
     record { number = leb-true _ _ (a .0); offset = leb-true _ _ (b .0); input = leb-true _ _ (c .0); memory = leb-true _ _ (c .1) }
 
-stopped-ended : (st : State) → stoppedState st .ended ≡ true
-unfolding stoppedState
-stopped-ended st = refl
-
-stopped-number : (st : State) → stoppedState st .number ≡ st .number
-unfolding stoppedState
-stopped-number st = refl
-
 -- ---- the loop's invariant
 
--- from the machine m₀ on, with the bytes before `from` taken and the text before `at` put out
+-- with the bytes before `from` taken and the text before `at` put out, what is left to do is what the machine m does
 pub record SoFar (m₀ : Machine) (offset : ℕ) (input out₀ : List ℕ) (m : Machine) (out : List ℕ) (from at : ℕ) (more : Bool) : Type 0 where
   pub within : from ≤ length input
   pub fits : at ≤ length out
   pub count : m .state .number ≤ m₀ .state .number + from
-  pub behind : drop at out ≡ drop at out₀
-  pub rest : (t : List ℕ) → run offset m₀ (input ++ t) ≡ take at out ++ run (offset + from) m (drop from input ++ t)
+  pub same : length out ≡ length out₀
+  pub kept : drop at out ≡ drop at out₀
+  pub whole :
+      fedFrom LINE offset (length out₀) m₀ input
+      ≡ behind from (take at out) (fedFrom LINE (offset + from) (length out₀ - at) m (drop from input))
   pub idle : more ≡ false → moveOf m (drop from input) ≡ stay
 
 pub begins : (m : Machine) (offset : ℕ) (input out : List ℕ) → SoFar m offset input out m out 0 0 true
 begins m offset input out =
     let e : offset + 0 ≡ offset = omega arith in
+    let r : length out - 0 ≡ length out = omega arith in
+    let b : Block = fedFrom LINE offset (length out) m input in
+    let k : 0 + b .taken ≡ b .taken = omega arith in
     record {
       within = omega arith;
       fits = omega arith;
       count = omega arith;
-      behind = refl;
-      rest = λ t. ap (λ (k : ℕ). run k m (input ++ t)) (sym e);
+      same = refl;
+      kept = refl;
+      whole = rw (e, r) (ap (λ (n : ℕ). block (b .after) n (b .text)) (sym k));
       idle = λ x. absurd (never x);
     }
 
@@ -82,56 +80,75 @@ module _ (m₀ m : Machine) (offset : ℕ) (input out₀ out : List ℕ) (from a
   text-behind : (l : List ℕ) → at + length l ≤ length out → drop (at + length l) (place at l out) ≡ drop (at + length l) out₀
   text-behind l h =
       place-behind at l out (f .fits)
-      ∙ sym (drop-drop (length l) at out) ∙ ap (λ (x : List ℕ). drop (length l) x) (f .behind) ∙ drop-drop (length l) at out₀
+      ∙ sym (drop-drop (length l) at out) ∙ ap (λ (x : List ℕ). drop (length l) x) (f .kept) ∙ drop-drop (length l) at out₀
 
-  text-front : (l s : List ℕ) → take at out ++ (l ++ s) ≡ take (at + length l) (place at l out) ++ s
-  text-front l s = sym (append-assoc (take at out) l s) ∙ ap (λ (x : List ℕ). x ++ s) (sym (place-front at l out (f .fits)))
+  text-front : (l : List ℕ) → take at out ++ l ≡ take (at + length l) (place at l out)
+  text-front l = sym (place-front at l out (f .fits))
 
-  next-by : (mv : Move) → moveOf m (drop from input) ≡ mv → at + length (textOf (offset + from) mv) ≤ length out
+  whole-halt : at + LINE ≤ length out → moveOf m (drop from input) ≡ halt
+      → fedFrom LINE offset (length out₀) m₀ input
+      ≡ behind from (take (at + length (stopOf (offset + from))) (place at (stopOf (offset + from)) out))
+      (fedFrom LINE (offset + from) (length out₀ - (at + length (stopOf (offset + from)))) (machineAfter m halt) (drop from input))
+  whole-halt h e =
+      let l : List ℕ = stopOf (offset + from) in
+      let n : Machine = machineAfter m halt in
+      f .whole
+      ∙ ap (λ (b : Block). behind from (take at out) b)
+      (fed-halt LINE (offset + from) (length out₀ - at) m (drop from input) (omega (arith, f .same)) e)
+      ∙ ap (λ (x : List ℕ). block n (from + 0) x) (text-front l ∙ sym (append-nil (take (at + length l) (place at l out))))
+      ∙ ap (λ (b : Block). behind from (take (at + length l) (place at l out)) b)
+      (sym (fed-stay LINE (offset + from) (length out₀ - (at + length l)) n (drop from input) (stopped-stays m (drop from input))))
+
+  whole-go : (m′ : Machine) (l : List ℕ) (n : ℕ) → at + LINE ≤ length out → moveOf m (drop from input) ≡ go m′ l n
+      → fedFrom LINE offset (length out₀) m₀ input
+      ≡ behind (from + n) (take (at + length l) (place at l out))
+      (fedFrom LINE (offset + (from + n)) (length out₀ - (at + length l)) m′ (drop (from + n) input))
+  whole-go m′ l n h e =
+      let k : offset + from + n ≡ offset + (from + n) = omega arith in
+      let r : length out₀ - at - length l ≡ length out₀ - (at + length l) = omega arith in
+      let b : Block = fedFrom LINE (offset + (from + n)) (length out₀ - (at + length l)) m′ (drop (from + n) input) in
+      let i : from + (n + b .taken) ≡ from + n + b .taken = omega arith in
+      f .whole
+      ∙ ap (λ (x : Block). behind from (take at out) x)
+      (fed-go LINE (offset + from) (length out₀ - at) m (drop from input) m′ l n (omega (arith, f .same)) e)
+      ∙ ap (λ (x : ℕ). behind from (take at out) (behind n l (fedFrom LINE x (length out₀ - at - length l) m′ (drop n (drop from input))))) k
+      ∙ ap (λ (x : ℕ). behind from (take at out) (behind n l (fedFrom LINE (offset + (from + n)) x m′ (drop n (drop from input))))) r
+      ∙ ap (λ (x : List ℕ). behind from (take at out) (behind n l (fedFrom LINE (offset + (from + n)) (length out₀ - (at + length l)) m′ x))) (drop-drop n from input)
+      ∙ ap (λ (x : ℕ). block (b .after) x (take at out ++ (l ++ b .text))) i
+      ∙ ap (λ (x : List ℕ). block (b .after) (from + n + b .taken) x)
+      (sym (append-assoc (take at out) l (b .text)) ∙ ap (λ (x : List ℕ). x ++ b .text) (text-front l))
+
+  next-by : (mv : Move) → moveOf m (drop from input) ≡ mv → at + LINE ≤ length out → at + length (textOf (offset + from) mv) ≤ length out
       → SoFar m₀ offset input out₀ (machineAfter m mv) (place at (textOf (offset + from) mv) out) (from + takenBy mv) (at + length (textOf (offset + from) mv)) (goesOn mv)
   unfolding machineAfter textOf takenBy goesOn
-  next-by stay e h =
+  next-by stay e g h =
       let a : at + 0 ≡ at = omega arith in
       let b : from + 0 ≡ from = omega arith in
-      rw (place-none at out, a, b) (record { within = f .within; fits = f .fits; count = f .count; behind = f .behind; rest = f .rest; idle = λ x. e })
-  next-by halt e h =
-      let s : List ℕ = drop from input in
+      rw (place-none at out, a, b)
+      (record { within = f .within; fits = f .fits; count = f .count; same = f .same; kept = f .kept; whole = f .whole; idle = λ x. e })
+  next-by halt e g h =
       let l : List ℕ = stopOf (offset + from) in
-      let n : Machine = machine (stoppedState (m .state)) (m .memory) (m .lent) in
       let b : from + 0 ≡ from = omega arith in
-      let z : n .state .ended ≡ true = stopped-ended (m .state) in
       rw b
       (record {
         within = f .within;
         fits = rw (place-length at l out h) h;
-        count = rw (stopped-number (m .state)) (f .count);
-        behind = text-behind l h;
-        rest = λ t.
-            f .rest t
-            ∙ ap (λ (x : List ℕ). take at out ++ x)
-            (run-halt (offset + from) m (s ++ t) (halts m s e t)
-            ∙ sym (append-nil l)
-            ∙ ap (λ (x : List ℕ). l ++ x) (sym (run-ended (offset + from) n (s ++ t) z)))
-            ∙ text-front l (run (offset + from) n (s ++ t));
-        idle = λ x. move-ended n s z;
+        count = rw (stopped-number m) (f .count);
+        same = place-length at l out h ∙ f .same;
+        kept = text-behind l h;
+        whole = whole-halt g e;
+        idle = λ x. stopped-stays m (drop from input);
       })
-  next-by (go m′ l n) e h =
-      let s : List ℕ = drop from input in
-      let g = goes m s m′ l n e in
-      let ls : length s ≡ length input - from = length-drop from input in
-      let k : offset + from + n ≡ offset + (from + n) = omega arith in
+  next-by (go m′ l n) e g h =
+      let w = goes m (drop from input) m′ l n e in
+      let ls : length (drop from input) ≡ length input - from = length-drop from input in
       record {
-        within = omega (arith, g .within, f .within);
+        within = omega (arith, w .within, f .within);
         fits = rw (place-length at l out h) h;
-        count = omega (arith, g .number, g .some, f .count);
-        behind = text-behind l h;
-        rest = λ t.
-            f .rest t
-            ∙ ap (λ (x : List ℕ). take at out ++ x) (run-go (offset + from) m (s ++ t) m′ l n (g .more t))
-            ∙ text-front l (run (offset + from + n) m′ (drop n (s ++ t)))
-            ∙ ap (λ (x : List ℕ). take (at + length l) (place at l out) ++ run (offset + from + n) m′ x)
-            (drop-append-le n s t (g .within) ∙ ap (λ (x : List ℕ). x ++ t) (drop-drop n from input))
-            ∙ ap (λ (i : ℕ). take (at + length l) (place at l out) ++ run i m′ (drop (from + n) input ++ t)) k;
+        count = omega (arith, w .number, w .some, f .count);
+        same = place-length at l out h ∙ f .same;
+        kept = text-behind l h;
+        whole = whole-go m′ l n g e;
         idle = λ x. absurd (never x);
       }
 
@@ -140,7 +157,7 @@ module _ (m₀ m : Machine) (offset : ℕ) (input out₀ out : List ℕ) (from a
   next memory′ z′ out′ r d h =
       let mv : Move = moveOf m (drop from input) in
       let p = d .text .put h in
-      rw (d .memory, d .lent, p .out, d .state, d .next, p .next, d .more) (next-by mv refl (omega (arith, p .next, p .fits)))
+      rw (d .memory, d .lent, p .out, d .state, d .next, p .next, d .more) (next-by mv refl h (omega (arith, p .next, p .fits)))
 
 -- the measure falls
 pub left : (input : List ℕ) (from : ℕ) (more : Bool) → ℕ
@@ -161,16 +178,64 @@ pub falls : (m : Machine) (offset : ℕ) (input : List ℕ) (from at : ℕ) (mem
     → left input (r .from) (r .more) < left input from true
 falls m offset input from at memory′ z′ out out′ r w d = rw (d .next, d .more) (falls-by m input from (moveOf m (drop from input)) w refl)
 
+-- ---- the end of a block
+
+-- nothing is left to do
+done-by : (m₀ : Machine) (offset : ℕ) (input out₀ : List ℕ) (st : State) (memory : List ℕ) (z : Rings) (out : List ℕ) (from at : ℕ) (more : Bool)
+    → SoFar m₀ offset input out₀ (machine st memory z) out from at more
+    → fedFrom LINE (offset + from) (length out₀ - at) (machine st memory z) (drop from input) ≡ noBlock (machine st memory z)
+    → isReady (m₀ .state) offset (length input) (length (m₀ .memory)) ≡ true
+    → FeedDone (m₀ .state) offset input (m₀ .memory) memory (m₀ .lent) z out₀ out (record { state = st; taken = from; written = at })
+unfolding place
+done-by m₀ offset input out₀ st memory z out from at more f e g =
+    let b : fedOf offset (length out₀) m₀ input ≡ block (machine st memory z) from (take at out) =
+    fed-ready offset (length out₀) m₀ input g
+    ∙ f .whole
+    ∙ ap (λ (x : Block). behind from (take at out) x) e
+    ∙ ap (λ (x : List ℕ). block (machine st memory z) (from + 0) x) (append-nil (take at out))
+    ∙ ap (λ (n : ℕ). block (machine st memory z) n (take at out)) (let k : from + 0 ≡ from = omega arith in k)
+    in
+    let l : length (take at out) ≡ at = length-take-le at out (f .fits) in
+    record {
+      block =
+          rw b
+          (record {
+            after = refl;
+            taken = refl;
+            written = sym l;
+            text =
+                sym (take-append-drop at out)
+                ∙ ap (λ (x : List ℕ). take at out ++ x) (f .kept)
+                ∙ ap (λ (n : ℕ). take at out ++ drop n out₀) (sym l ∙ let k : length (take at out) ≡ 0 + length (take at out) = omega arith in k);
+          });
+      within = f .within;
+      fits = f .fits;
+    }
+
+pub done-full : (m₀ : Machine) (offset : ℕ) (input out₀ : List ℕ) (st : State) (memory : List ℕ) (z : Rings) (out : List ℕ) (from at : ℕ) (more : Bool)
+    → SoFar m₀ offset input out₀ (machine st memory z) out from at more → length out - at < LINE
+    → isReady (m₀ .state) offset (length input) (length (m₀ .memory)) ≡ true
+    → FeedDone (m₀ .state) offset input (m₀ .memory) memory (m₀ .lent) z out₀ out (record { state = st; taken = from; written = at })
+done-full m₀ offset input out₀ st memory z out from at more f h g =
+    done-by m₀ offset input out₀ st memory z out from at more f
+    (fed-full LINE (offset + from) (length out₀ - at) (machine st memory z) (drop from input) (omega (arith, f .same))) g
+
+pub done-stay : (m₀ : Machine) (offset : ℕ) (input out₀ : List ℕ) (st : State) (memory : List ℕ) (z : Rings) (out : List ℕ) (from at : ℕ) (more : Bool)
+    → SoFar m₀ offset input out₀ (machine st memory z) out from at more → more ≡ false
+    → isReady (m₀ .state) offset (length input) (length (m₀ .memory)) ≡ true
+    → FeedDone (m₀ .state) offset input (m₀ .memory) memory (m₀ .lent) z out₀ out (record { state = st; taken = from; written = at })
+done-stay m₀ offset input out₀ st memory z out from at more f h g =
+    done-by m₀ offset input out₀ st memory z out from at more f
+    (fed-stay LINE (offset + from) (length out₀ - at) (machine st memory z) (drop from input) (f .idle h)) g
+
 -- a block that cannot be fed is left whole
 pub unready : (st : State) (offset : ℕ) (input memory : List ℕ) (z : Rings) (out : List ℕ) → isReady st offset (length input) (length memory) ≡ false
     → FeedDone st offset input memory memory z z out out (record { state = st; taken = 0; written = 0 })
 unready st offset input memory z out e =
-    let f = begins (machine st memory z) offset input out in
     record {
-      within = f .within;
-      fits = f .fits;
-      behind = refl;
-      rest = f .rest;
-      stuck = λ g. absurd (never (sym g ∙ e));
-      idle = λ g. (refl, refl, refl, refl);
+      block =
+          rw (fed-unready offset (length out) (machine st memory z) input e)
+          (record { after = refl; taken = refl; written = refl; text = sym (place-none 0 out) });
+      within = omega arith;
+      fits = omega arith;
     }

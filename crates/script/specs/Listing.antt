@@ -7,29 +7,30 @@ use Rattle.status.specs.Choice.{pick}
 use Rattle.text.specs.Answer.{stopOf}
 use Rattle.script.specs.Machine.{Machine, start, Move, stay, halt, go, moveOf}
 
--- what is put out at the end of the input: a record that is cut stops the script. offset is the number of bytes before those left
+-- 01 "Script program", `stop N`: what is put out at the end of the input. A record that is cut stops the script. offset is the number of bytes before those left
 unfoldable pub closing : (offset : ℕ) → (ended : Bool) → (left : List ℕ) → List ℕ
 closing offset ended [] = []
 closing offset ended (b ∷ s) = pick ended [] (stopOf offset)
 
--- what one move puts out, and then what f gives of the rest
+-- 01 "Script program": what one move puts out, and then what f gives of the rest
 unfoldable pub runMove : (f : ℕ → Machine → List ℕ → List ℕ) → (offset : ℕ) → Machine → List ℕ → Move → List ℕ
 runMove f offset m s stay = closing offset (m .state .ended) s
 runMove f offset m s halt = stopOf offset
 runMove f offset m s (go m′ l n) = l ++ f (offset + n) m′ (drop n s)
 
--- at most k moves
+-- what at most k moves put out
 unfoldable pub runBy : (k offset : ℕ) → Machine → List ℕ → List ℕ
 runBy zero offset m s = []
 runBy (suc k) offset m s = runMove (runBy k) offset m s (moveOf m s)
 
--- a move takes a byte at least, so that this many are enough
+-- what all moves put out: a move takes a byte at least, so that this many are enough
 unfoldable pub run : (offset : ℕ) → Machine → List ℕ → List ℕ
 run offset m s = runBy (suc (length s)) offset m s
 
--- the line `record word end1 end2`
+-- 01 "Script program": the line `record word end1 end2`
 unfoldable pub header : List ℕ
 header = 114 ∷ 101 ∷ 99 ∷ 111 ∷ 114 ∷ 100 ∷ 32 ∷ 119 ∷ 111 ∷ 114 ∷ 100 ∷ 32 ∷ 101 ∷ 110 ∷ 100 ∷ 49 ∷ 32 ∷ 101 ∷ 110 ∷ 100 ∷ 50 ∷ 10 ∷ []
 
+-- 01 "Script program": the header line, then what the records put out
 unfoldable pub listing : List ℕ → List ℕ
 listing s = header ++ run 0 start s

@@ -21,6 +21,7 @@ pub record Machine : Type 0 where
   pub memory : List ℕ
   pub lent : Rings
 
+-- the three together
 abbrev pub machine : State → (memory : List ℕ) → Rings → Machine
 machine st memory z = record { state = st; memory = memory; lent = z }
 
@@ -28,36 +29,42 @@ machine st memory z = record { state = st; memory = memory; lent = z }
 unfoldable pub startState : State
 startState = record { pair = noPair; number = 0; ended = false }
 
--- rings, tables and memory of 4096 entries, all 0
+-- 01 "Script program": rings and tables have 4096 entries, memory 4096 bytes, all 0
 abbrev pub zeros : List ℕ
 zeros = replicate 4096 0
 
+-- what a script finds before its first record
 unfoldable pub start : Machine
 start = machine startState zeros (rings zeros zeros zeros zeros)
 
--- create is first and only once
+-- 01 "Script program": create is first and only once
 unfoldable pub isMisplaced : (tag number : ℕ) → Bool
 isMisplaced tag number = pick (eqb number 0) (not (eqb tag CREATE)) (eqb tag CREATE)
 
--- a refused create ends the script
+-- 01 "Script program": a refused create ends the script
 unfoldable pub isLast : (tag : ℕ) → Answer → Bool
 isLast tag a = eqb tag CREATE and not (isDone a)
 
+-- after a call: its pair, one record more, and whether the script ends with it
 unfoldable pub steppedState : State → (tag : ℕ) → Called → State
 steppedState st tag d = record { pair = d .step .pair; number = st .number + 1; ended = isLast tag (d .step .answer) }
 
+-- 01 "Script program", tag and body: the machine after a record; the count of a read lands last
 unfoldable pub stepped : Machine → (tag : ℕ) → (body : List ℕ) → Machine
 stepped m tag b =
     let d = callOf (m .memory) (m .lent) (m .state .pair) tag b in
     machine (steppedState (m .state) tag d) (settled tag b (d .step .answer) (d .memory)) (d .lent)
 
+-- 01 "Script program", line: a record's number, its answer, both signal words, and the bytes delivered as before the count landed
 unfoldable pub calledLine : (number tag : ℕ) → (body : List ℕ) → Called → List ℕ
 calledLine number tag b d =
     lineOf number (d .step .answer) (shownBy (d .step .pair) 1) (shownBy (d .step .pair) 2) (delivered tag b (d .step .answer) (d .memory))
 
+-- the line of the call that a record makes
 unfoldable pub stepLine : Machine → (tag : ℕ) → (body : List ℕ) → List ℕ
 stepLine m tag b = calledLine (m .state .number) tag b (callOf (m .memory) (m .lent) (m .state .pair) tag b)
 
+-- 01 "Script program": a script that stops has ended, and all else is as it was
 unfoldable pub stoppedState : State → State
 stoppedState st = record { pair = st .pair; number = st .number; ended = true }
 
@@ -67,11 +74,13 @@ pub data Move : Type 0 where
   halt : Move
   go : Machine → List ℕ → ℕ → Move
 
+-- 01 "Script program": by what the bytes begin with. A misplaced record stops the script as a bad one does; tag and length are 3 bytes
 unfoldable pub moveBy : Machine → List ℕ → Decoded → Move
 moveBy m s Cut = stay
 moveBy m s Bad = halt
 moveBy m s (Whole tag n) =
     pick (isMisplaced tag (m .state .number)) halt (go (stepped m tag (take n (drop 3 s))) (stepLine m tag (take n (drop 3 s))) (3 + n))
 
+-- a script that has ended makes no move
 unfoldable pub moveOf : Machine → List ℕ → Move
 moveOf m s = pick (m .state .ended) stay (moveBy m s (recordOf s))

@@ -1,19 +1,19 @@
 // A script from standard input; its listing to standard output. Both go in large blocks.
-use script::State;
-ghost use Prim.Native.Nat.{_+_, _≤_, _<_};
+use script::feed;
+use script::feed::Progress;
+ghost use Prim.Native.Nat.{_+_, _≤_};
 ghost use mathlib.Core.Path.{_≡_};
-ghost use lib.ListN.{length};
+ghost use lib.ListN.{length, take};
+ghost use Rattle.text.specs.Put.{place};
+ghost use Rattle.call.specs.Call.{rings};
+ghost use Rattle.script.specs.Machine.{machine};
+ghost use Rattle.script.specs.Listing.{header, closing};
+ghost use Rattle.script.specs.Feed.{allOf};
+ghost use Rattle.socket_script.specs.Drain.{DrainMay, Drained};
 
 const STDIN: i32 = 0;
 
 const STDOUT: i32 = 1;
-
-// After a block: the state, how many bytes are done with, and how many stay in the buffer until more follow.
-struct Left {
-    state: State,
-    offset: u64,
-    used: usize,
-}
 
 // Reads behind the bytes that are in use; 0 at the end of the input.
 fn read_in(buffer: &mut [u8], used: usize) -> usize
@@ -26,28 +26,24 @@ fn read_in(buffer: &mut [u8], used: usize) -> usize
 
 // Feeds the bytes in use until no move is left, and writes what comes out.
 fn drain(
-    st: State,
-    before: u64,
+    p: Progress,
     buffer: &mut [u8],
-    had: usize,
     memory: &mut [u8],
     ring_one: &mut [u8],
     table_one: &mut [u32],
     ring_two: &mut [u8],
     table_two: &mut [u32],
     out: &mut [u8],
-) -> Left
-    requires { ⌜ (had ≤ length (now buffer)) × (before + had < 9223372036854775808) ⌝ }
-    ensures { λ r. ⌜ (r .used ≤ had) × (r .offset + r .used ≡ before + had) ⌝ }
+) -> Progress
+    requires { ⌜ DrainMay p (now buffer) (now memory) (now out) ⌝ }
+    ensures { λ r. ⌜ Drained (allOf (p .offset) (machine (p .state) (now (memory .entry)) (rings (now («ring_one» .entry)) (now («table_one» .entry)) (now («ring_two» .entry)) (now («table_two» .entry)))) (take (p .used) (now (buffer .entry)))) p (now (buffer .entry)) (now (buffer .exit)) (now (memory .exit)) (rings (now («ring_one» .exit)) (now («table_one» .exit)) (now («ring_two» .exit)) (now («table_two» .exit))) r ⌝ }
 {
-    let mut s = st;
-    let mut offset = before;
-    let mut used = had;
+    let mut q = p;
     loop {
-        let f = script::feed::feed(
-            s,
-            offset,
-            &buffer[0..used],
+        let used = q.used;
+        q = feed::advance(
+            q,
+            buffer,
             memory,
             ring_one,
             table_one,
@@ -55,40 +51,36 @@ fn drain(
             table_two,
             out,
         );
-        let taken = f.taken;
-        let written = f.written;
+        let written = q.written;
         io::write_all(STDOUT, &out[0..written]);
-        s = f.state;
-        script::feed::shift(buffer, taken, used);
-        used -= taken;
-        offset += taken as u64;
-        if taken == 0 {
+        if q.used == used {
             break;
         }
     }
-    Left {
-        state: s,
-        offset,
-        used,
-    }
+    q
 }
 
 // The first line.
 fn begin(out: &mut [u8])
     requires { ⌜ 22 ≤ length (now out) ⌝ }
+    ensures { λ _. ⌜ now (out .exit) ≡ place 0 header (now (out .entry)) ⌝ }
 {
-    let n = script::feed::header(out);
+    let n = feed::header(out);
     io::write_all(STDOUT, &out[0..n]);
 }
 
 // The end of the input.
-fn close(st: State, offset: u64, buffer: &[u8], used: usize, out: &mut [u8])
-    requires { ⌜ (used ≤ length (now buffer)) × (26 ≤ length (now out)) ⌝ }
+fn close(p: Progress, buffer: &[u8], out: &mut [u8])
+    requires { ⌜ (p .used ≤ length (now buffer)) × (26 ≤ length (now out)) ⌝ }
+    ensures { λ _. ⌜ now (out .exit) ≡ place 0 (closing (p .offset) (p .state .ended) (take (p .used) (now (buffer .entry)))) (now (out .entry)) ⌝ }
 {
-    let n = script::feed::finish(st, offset, &buffer[0..used], out);
+    let st = p.state;
+    let used = p.used;
+    let n = feed::finish(st, p.offset, &buffer[0..used], out);
     io::write_all(STDOUT, &out[0..n]);
 }
 
+// It reads no more once the bytes might be more than 2 ^ 62, since `feed` takes none then.
 fn main() {
     let mut memory_array = [0u8; 4096];
     let mut ring_one_array = [0u8; 4096];
@@ -104,20 +96,18 @@ fn main() {
     let table_two: &mut [u32] = &mut table_two_array;
     let buffer: &mut [u8] = &mut buffer_array;
     let out: &mut [u8] = &mut out_array;
-    let mut st = script::feed::start();
+    let mut p = feed::first();
     begin(out);
-    let mut offset: u64 = 0;
-    let mut used: usize = 0;
-    while offset < 4611686018427387904 {
+    while p.offset < 4611686018427256832 {
+        let used = p.used;
         let got = read_in(buffer, used);
         if got == 0 {
             break;
         }
-        let l = drain(
-            st,
-            offset,
+        p.used = used + got;
+        p = drain(
+            p,
             buffer,
-            used + got,
             memory,
             ring_one,
             table_one,
@@ -125,9 +115,6 @@ fn main() {
             table_two,
             out,
         );
-        st = l.state;
-        offset = l.offset;
-        used = l.used;
     }
-    close(st, offset, buffer, used, out);
+    close(p, buffer, out);
 }

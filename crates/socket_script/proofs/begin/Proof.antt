@@ -22,7 +22,7 @@ same-length : tie.Need-same-length
 same-length c = search needs
 
 returns : tie.Need-returns
-returns c = search needs
+returns c = c .before .before .before .before .before .header .ensures .fit .put (c .before .before .before .before .before .before .before .before .pre) .out
 
 pub begin-spec : {M : Type 1} → statement M
 begin-spec =

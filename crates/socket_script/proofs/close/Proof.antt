@@ -1,5 +1,12 @@
+use Prim.Native.Nat.{ℕ}
 use borrow.Author.Needs.{needs}
+use denote.Ref.{now}
+use lib.ListN.{take}
+use mathlib.Core.Path.{ap, _∙_}
+use native.Mathlib.Nat.{sub-zero}
 use native.Mathlib.Omega.{arith}
+use Rattle.text.specs.Put.{place}
+use Rattle.script.specs.Listing.{closing}
 use Rattle.socket_script.proofs.close.Statement.{statement}
 use Rattle.socket_script.proofs.close.Tie as tie
 
@@ -22,7 +29,7 @@ part-write-all-start : tie.Need-part-write-all-start
 part-write-all-start c = search needs
 
 part-write-all-end : tie.Need-part-write-all-end
-part-write-all-end c = let p = c .before .before .before .finish .ensures .fit .put (c .before .before .before .before .before .before .before .before .pre .1) in omega (arith, p .fits, c .before .before .before .finish .kept .1 .1 .1 .0)
+part-write-all-end c = let p = c .before .before .before .finish .ensures .fit .put (c .before .before .before .before .before .before .before .before .before .pre .1) in omega (arith, p .fits, c .before .before .before .finish .kept .1 .1 .1 .0)
 
 write-all-requires : tie.Need-write-all-requires
 write-all-requires c κs = search needs
@@ -31,7 +38,10 @@ same-length : tie.Need-same-length
 same-length c = search needs
 
 returns : tie.Need-returns
-returns c = search needs
+returns c =
+    let a = c .before .before .before .before .before .before .before .before .before .before .before .args in
+    c .before .before .before .before .before .finish .ensures .fit .put (c .before .before .before .before .before .before .before .before .before .before .before .pre .1) .out
+    ∙ ap (λ (n : ℕ). place 0 (closing (a .p .offset) (a .p .state .ended) (take n (now (a .buffer)))) (now (a .out))) (sub-zero (a .p .used))
 
 pub close-spec : {M : Type 1} → statement M
 close-spec =

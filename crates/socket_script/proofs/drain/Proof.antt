@@ -1,16 +1,19 @@
-use Prim.Native.Nat.{_+_, _-_, _≤_, _<_}
 use borrow.Author.Needs.{needs}
-use lib.ListN.{length, take, length-take}
-use mathlib.Core.Path.{_≡_, _∙_}
+use denote.Ref.{now}
+use lib.ListN.{length, take}
+use mathlib.Core.Path.{_≡_, refl, _∙_}
 use native.Mathlib.Omega.{arith}
-use Rattle.places.specs.Table.{used}
+use Rattle.call.specs.Call.{rings}
+use Rattle.script.specs.Machine.{machine}
+use Rattle.socket_script.specs.Drain.{DrainMay}
+use Rattle.socket_script.proofs.Drains.{Stands, stands, onwards, ends, drained}
 use Rattle.socket_script.proofs.drain.Statement.{statement}
 use Rattle.socket_script.proofs.drain.Tie as tie
 
 abbrev Inv-loop : tie.InvT-loop
-Inv-loop before buffer₀ had memory₀ ring-one₀ table-one₀ ring-two₀ table-two₀ out₀ s₀ offset₀ used₀ buffer memory ring-one table-one ring-two table-two out s offset used =
-    (used ≤ had)
-    × (had ≤ length buffer₀)
+Inv-loop buffer₀ memory₀ ring-one₀ table-one₀ ring-two₀ table-two₀ out₀ q₀ buffer memory ring-one table-one ring-two table-two out q =
+    Stands q₀ (machine (q₀ .state) memory₀ (rings ring-one₀ table-one₀ ring-two₀ table-two₀)) (take (q₀ .used) buffer₀) q (machine (q .state) memory (rings ring-one table-one ring-two table-two)) (take (q .used) buffer)
+    × DrainMay q₀ buffer₀ memory₀ out₀
     × (length buffer ≡ length buffer₀)
     × (length memory ≡ length memory₀)
     × (length ring-one ≡ length ring-one₀)
@@ -18,26 +21,18 @@ Inv-loop before buffer₀ had memory₀ ring-one₀ table-one₀ ring-two₀ tab
     × (length ring-two ≡ length ring-two₀)
     × (length table-two ≡ length table-two₀)
     × (length out ≡ length out₀)
-    × (offset + used ≡ offset₀ + had)
-    × (offset₀ + had < 9223372036854775808)
 
 abbrev μ-loop : tie.MeasureT-loop
-μ-loop before buffer₀ had memory₀ ring-one₀ table-one₀ ring-two₀ table-two₀ out₀ s₀ offset₀ used₀ buffer memory ring-one table-one ring-two table-two out s offset used = used
+μ-loop buffer₀ memory₀ ring-one₀ table-one₀ ring-two₀ table-two₀ out₀ q₀ buffer memory ring-one table-one ring-two table-two out q = q .used
 
 loop-holds : tie.Need-loop-holds Inv-loop μ-loop
-loop-holds c = search needs
+loop-holds c =
+    let a = c .before .before .before .before .before .before .before .args in
+    let q = c .before .before .before .before .before .before .before .pre in
+    (stands (a .p) (machine (a .p .state) (now (a .memory)) (rings (now (a .ring-one)) (now (a .table-one)) (now (a .ring-two)) (now (a .table-two)))) (take (a .p .used) (now (a .buffer))) (q .count), q, refl, refl, refl, refl, refl, refl, refl)
 
-sub-feed : tie.Need-sub-feed Inv-loop μ-loop
-sub-feed c = search needs
-
-part-feed-start : tie.Need-part-feed-start Inv-loop μ-loop
-part-feed-start c = search needs
-
-part-feed-end : tie.Need-part-feed-end Inv-loop μ-loop
-part-feed-end c = search needs
-
-feed-requires : tie.Need-feed-requires Inv-loop μ-loop
-feed-requires c κs = search needs
+advance-requires : tie.Need-advance-requires Inv-loop μ-loop
+advance-requires c κs = search needs
 
 sub-write-all : tie.Need-sub-write-all Inv-loop μ-loop
 sub-write-all c = search needs
@@ -46,68 +41,61 @@ part-write-all-start : tie.Need-part-write-all-start Inv-loop μ-loop
 part-write-all-start c = search needs
 
 part-write-all-end : tie.Need-part-write-all-end Inv-loop μ-loop
-part-write-all-end c = search needs
+part-write-all-end c = omega (arith, c .before .before .before .before .before .before .before .before .before .before .before .before .before .before .before .advance .ensures .fits)
 
 write-all-requires : tie.Need-write-all-requires Inv-loop μ-loop
 write-all-requires c κs = search needs
 
-shift-requires : tie.Need-shift-requires Inv-loop μ-loop
-shift-requires c κs = search needs
-
-sub-used : tie.Need-sub-used Inv-loop μ-loop
-sub-used c = search needs
-
-add-offset : tie.Need-add-offset Inv-loop μ-loop
-add-offset c = omega (arith, c .before .before .before .before .before .before .before .before .before .before .before .before .before .before .before .before .before .before .before .before .feed .ensures .within, length-take (c .before .before .before .before .before .before .before .before .before .before .before .before .before .before .before .before .before .before .before .before .before .before .before .before .before .before .before .before .before .loop .used - 0) (c .before .before .before .before .before .before .before .before .before .before .before .before .before .before .before .before .before .before .before .before .before .before .before .before .before .before .before .before .before .loop .buffer), c .before .before .before .before .before .before .before .before .before .before .before .before .before .before .before .before .before .before .before .before .before .before .before .before .before .before .before .before .before .loop .inv .0, c .before .before .before .before .before .before .before .before .before .before .before .before .before .before .before .before .before .before .before .before .before .before .before .before .before .before .before .before .before .loop .inv .9, c .before .before .before .before .before .before .before .before .before .before .before .before .before .before .before .before .before .before .before .before .before .before .before .before .before .before .before .before .before .loop .inv .10)
-
 loop-less : tie.Need-loop-less Inv-loop μ-loop
 loop-less c =
-    let w : c .before .before .before .before .before .before .before .before .before .before .before .before .before .before .before .before .before .before .before .before .before .feed .result .taken ≤ length (take (c .before .before .before .before .before .before .before .before .before .before .before .before .before .before .before .before .before .before .before .before .before .before .before .before .before .before .before .before .before .before .loop .used - 0) (c .before .before .before .before .before .before .before .before .before .before .before .before .before .before .before .before .before .before .before .before .before .before .before .before .before .before .before .before .before .before .loop .buffer)) = c .before .before .before .before .before .before .before .before .before .before .before .before .before .before .before .before .before .before .before .before .before .feed .ensures .within in
-    let n : c .before .before .before .before .before .before .before .before .before .before .before .before .before .before .before .before .before .before .before .before .before .feed .result .taken ≡ 0 → ⊥ = c .if1 .left in
-    let h : c .before .before .before .before .before .before .before .before .before .before .before .before .before .before .before .before .before .before .before .before .before .before .before .before .before .before .before .before .before .before .loop .used - c .before .before .before .before .before .before .before .before .before .before .before .before .before .before .before .before .before .before .before .before .before .feed .result .taken < c .before .before .before .before .before .before .before .before .before .before .before .before .before .before .before .before .before .before .before .before .before .before .before .before .before .before .before .before .before .before .loop .used = omega (arith, c .before .before .before .before .before .before .before .before .before .before .before .before .before .before .before .before .before .before .before .before .before .feed .ensures .within, length-take (c .before .before .before .before .before .before .before .before .before .before .before .before .before .before .before .before .before .before .before .before .before .before .before .before .before .before .before .before .before .before .loop .used - 0) (c .before .before .before .before .before .before .before .before .before .before .before .before .before .before .before .before .before .before .before .before .before .before .before .before .before .before .before .before .before .before .loop .buffer)) in
-    h
+    let l = c .before .before .before .before .before .before .before .before .before .before .before .before .before .before .before .before .before .before .before .before .before .before .before .before .before .before .before .loop in
+    let k = c .before .before .before .before .before .before .before .before .before .before .before .before .before .before .before .before .before .before .before .advance in
+    omega (arith, k .ensures .within, c .if1 .left)
 
 loop-again : tie.Need-loop-again Inv-loop μ-loop
 loop-again c =
-    let w : c .before .before .before .before .before .before .before .before .before .before .before .before .before .before .before .before .before .before .before .before .before .feed .result .taken ≤ length (take (c .before .before .before .before .before .before .before .before .before .before .before .before .before .before .before .before .before .before .before .before .before .before .before .before .before .before .before .before .before .before .loop .used - 0) (c .before .before .before .before .before .before .before .before .before .before .before .before .before .before .before .before .before .before .before .before .before .before .before .before .before .before .before .before .before .before .loop .buffer)) = c .before .before .before .before .before .before .before .before .before .before .before .before .before .before .before .before .before .before .before .before .before .feed .ensures .within in
-    let i = c .before .before .before .before .before .before .before .before .before .before .before .before .before .before .before .before .before .before .before .before .before .before .before .before .before .before .before .before .before .before .loop .inv in
-    let k = c .before .before .before .before .before .before .before .before .before .before .before .before .before .before .before .before .before .before .before .before .before .feed in (
-      omega (arith, c .before .before .before .before .before .before .before .before .before .before .before .before .before .before .before .before .before .before .before .before .before .feed .ensures .within, length-take (c .before .before .before .before .before .before .before .before .before .before .before .before .before .before .before .before .before .before .before .before .before .before .before .before .before .before .before .before .before .before .loop .used - 0) (c .before .before .before .before .before .before .before .before .before .before .before .before .before .before .before .before .before .before .before .before .before .before .before .before .before .before .before .before .before .before .loop .buffer), i .0),
-      i .1,
-      c .before .before .before .shift .kept .0 ∙ i .2,
-      k .kept .1 .1 .1 .0 ∙ i .3,
-      k .kept .1 .1 .1 .1 .0 ∙ i .4,
-      k .kept .1 .1 .1 .1 .1 .0 ∙ i .5,
-      k .kept .1 .1 .1 .1 .1 .1 .0 ∙ i .6,
-      k .kept .1 .1 .1 .1 .1 .1 .1 .0 ∙ i .7,
-      k .kept .1 .1 .1 .1 .1 .1 .1 .1 .0 ∙ i .8,
-      (let h : c .before .before .before .before .before .before .before .before .before .before .before .before .before .before .before .before .before .before .before .before .before .before .before .before .before .before .before .before .before .before .loop .offset + c .before .before .before .before .before .before .before .before .before .before .before .before .before .before .before .before .before .before .before .before .before .feed .result .taken + (c .before .before .before .before .before .before .before .before .before .before .before .before .before .before .before .before .before .before .before .before .before .before .before .before .before .before .before .before .before .before .loop .used - c .before .before .before .before .before .before .before .before .before .before .before .before .before .before .before .before .before .before .before .before .before .feed .result .taken) ≡ c .before .before .before .before .before .before .before .before .before .before .before .before .before .before .before .before .before .before .before .before .before .before .before .before .before .before .before .before .before .before .before .before .before .before .before .before .before .before .args .before + c .before .before .before .before .before .before .before .before .before .before .before .before .before .before .before .before .before .before .before .before .before .before .before .before .before .before .before .before .before .before .before .before .before .before .before .before .before .before .args .had = omega (arith, c .before .before .before .before .before .before .before .before .before .before .before .before .before .before .before .before .before .before .before .before .before .feed .ensures .within, length-take (c .before .before .before .before .before .before .before .before .before .before .before .before .before .before .before .before .before .before .before .before .before .before .before .before .before .before .before .before .before .before .loop .used - 0) (c .before .before .before .before .before .before .before .before .before .before .before .before .before .before .before .before .before .before .before .before .before .before .before .before .before .before .before .before .before .before .loop .buffer), i .0, i .9) in h),
-      i .10,
+    let l = c .before .before .before .before .before .before .before .before .before .before .before .before .before .before .before .before .before .before .before .before .before .before .before .before .before .before .before .loop in
+    let k = c .before .before .before .before .before .before .before .before .before .before .before .before .before .before .before .before .before .before .before .advance in
+    let a = c .before .before .before .before .before .before .before .before .before .before .before .before .before .before .before .before .before .before .before .before .before .before .before .before .before .before .before .before .before .before .before .before .before .before .before .args in (
+      onwards (a .p) (machine (a .p .state) (now (a .memory)) (rings (now (a .ring-one)) (now (a .table-one)) (now (a .ring-two)) (now (a .table-two)))) (take (a .p .used) (now (a .buffer))) (l .q) (l .buffer) _ (l .memory) _ (rings (l .ring-one) (l .table-one) (l .ring-two) (l .table-two)) _ (l .out) _ (k .result) (l .inv .0) (k .ensures) (omega (arith, l .inv .0 .within, l .inv .1 .used, l .inv .2)) (l .inv .1 .total) (omega (arith, l .inv .1 .size, l .inv .3)),
+      l .inv .1,
+      k .kept .1 .0 ∙ l .inv .2,
+      k .kept .1 .1 .0 ∙ l .inv .3,
+      k .kept .1 .1 .1 .0 ∙ l .inv .4,
+      k .kept .1 .1 .1 .1 .0 ∙ l .inv .5,
+      k .kept .1 .1 .1 .1 .1 .0 ∙ l .inv .6,
+      k .kept .1 .1 .1 .1 .1 .1 .0 ∙ l .inv .7,
+      k .kept .1 .1 .1 .1 .1 .1 .1 .0 ∙ l .inv .8,
     )
 
 same-length : tie.Need-same-length Inv-loop μ-loop
-same-length c = c .before .before .before .shift .kept .0 ∙ c .before .before .before .before .before .before .before .before .before .before .before .before .before .before .before .before .before .before .before .before .before .before .before .before .before .before .before .before .before .before .loop .inv .2
+same-length c = c .before .before .before .before .before .before .before .before .before .before .before .before .before .before .before .before .before .before .before .advance .kept .1 .0 ∙ c .before .before .before .before .before .before .before .before .before .before .before .before .before .before .before .before .before .before .before .before .before .before .before .before .before .before .before .loop .inv .2
 
 same-length-2 : tie.Need-same-length-2 Inv-loop μ-loop
-same-length-2 c = c .before .before .before .before .before .before .before .before .before .before .before .before .before .before .before .before .before .before .before .before .before .feed .kept .1 .1 .1 .0 ∙ c .before .before .before .before .before .before .before .before .before .before .before .before .before .before .before .before .before .before .before .before .before .before .before .before .before .before .before .before .before .before .loop .inv .3
+same-length-2 c = c .before .before .before .before .before .before .before .before .before .before .before .before .before .before .before .before .before .before .before .advance .kept .1 .1 .0 ∙ c .before .before .before .before .before .before .before .before .before .before .before .before .before .before .before .before .before .before .before .before .before .before .before .before .before .before .before .loop .inv .3
 
 same-length-3 : tie.Need-same-length-3 Inv-loop μ-loop
-same-length-3 c = c .before .before .before .before .before .before .before .before .before .before .before .before .before .before .before .before .before .before .before .before .before .feed .kept .1 .1 .1 .1 .0 ∙ c .before .before .before .before .before .before .before .before .before .before .before .before .before .before .before .before .before .before .before .before .before .before .before .before .before .before .before .before .before .before .loop .inv .4
+same-length-3 c = c .before .before .before .before .before .before .before .before .before .before .before .before .before .before .before .before .before .before .before .advance .kept .1 .1 .1 .0 ∙ c .before .before .before .before .before .before .before .before .before .before .before .before .before .before .before .before .before .before .before .before .before .before .before .before .before .before .before .loop .inv .4
 
 same-length-4 : tie.Need-same-length-4 Inv-loop μ-loop
-same-length-4 c = c .before .before .before .before .before .before .before .before .before .before .before .before .before .before .before .before .before .before .before .before .before .feed .kept .1 .1 .1 .1 .1 .0 ∙ c .before .before .before .before .before .before .before .before .before .before .before .before .before .before .before .before .before .before .before .before .before .before .before .before .before .before .before .before .before .before .loop .inv .5
+same-length-4 c = c .before .before .before .before .before .before .before .before .before .before .before .before .before .before .before .before .before .before .before .advance .kept .1 .1 .1 .1 .0 ∙ c .before .before .before .before .before .before .before .before .before .before .before .before .before .before .before .before .before .before .before .before .before .before .before .before .before .before .before .loop .inv .5
 
 same-length-5 : tie.Need-same-length-5 Inv-loop μ-loop
-same-length-5 c = c .before .before .before .before .before .before .before .before .before .before .before .before .before .before .before .before .before .before .before .before .before .feed .kept .1 .1 .1 .1 .1 .1 .0 ∙ c .before .before .before .before .before .before .before .before .before .before .before .before .before .before .before .before .before .before .before .before .before .before .before .before .before .before .before .before .before .before .loop .inv .6
+same-length-5 c = c .before .before .before .before .before .before .before .before .before .before .before .before .before .before .before .before .before .before .before .advance .kept .1 .1 .1 .1 .1 .0 ∙ c .before .before .before .before .before .before .before .before .before .before .before .before .before .before .before .before .before .before .before .before .before .before .before .before .before .before .before .loop .inv .6
 
 same-length-6 : tie.Need-same-length-6 Inv-loop μ-loop
-same-length-6 c = c .before .before .before .before .before .before .before .before .before .before .before .before .before .before .before .before .before .before .before .before .before .feed .kept .1 .1 .1 .1 .1 .1 .1 .0 ∙ c .before .before .before .before .before .before .before .before .before .before .before .before .before .before .before .before .before .before .before .before .before .before .before .before .before .before .before .before .before .before .loop .inv .7
+same-length-6 c = c .before .before .before .before .before .before .before .before .before .before .before .before .before .before .before .before .before .before .before .advance .kept .1 .1 .1 .1 .1 .1 .0 ∙ c .before .before .before .before .before .before .before .before .before .before .before .before .before .before .before .before .before .before .before .before .before .before .before .before .before .before .before .loop .inv .7
 
 same-length-7 : tie.Need-same-length-7 Inv-loop μ-loop
-same-length-7 c = c .before .before .before .before .before .before .before .before .before .before .before .before .before .before .before .before .before .before .before .before .before .feed .kept .1 .1 .1 .1 .1 .1 .1 .1 .0 ∙ c .before .before .before .before .before .before .before .before .before .before .before .before .before .before .before .before .before .before .before .before .before .before .before .before .before .before .before .before .before .before .loop .inv .8
+same-length-7 c = c .before .before .before .before .before .before .before .before .before .before .before .before .before .before .before .before .before .before .before .advance .kept .1 .1 .1 .1 .1 .1 .1 .0 ∙ c .before .before .before .before .before .before .before .before .before .before .before .before .before .before .before .before .before .before .before .before .before .before .before .before .before .before .before .loop .inv .8
 
 returns : tie.Need-returns Inv-loop μ-loop
-returns c = (omega (arith, c .before .before .before .before .before .before .before .before .before .before .before .before .before .before .before .before .before .before .before .before .before .feed .ensures .within, length-take (c .before .before .before .before .before .before .before .before .before .before .before .before .before .before .before .before .before .before .before .before .before .before .before .before .before .before .before .before .before .before .loop .used - 0) (c .before .before .before .before .before .before .before .before .before .before .before .before .before .before .before .before .before .before .before .before .before .before .before .before .before .before .before .before .before .before .loop .buffer), c .before .before .before .before .before .before .before .before .before .before .before .before .before .before .before .before .before .before .before .before .before .before .before .before .before .before .before .before .before .before .loop .inv .0), omega (arith, c .before .before .before .before .before .before .before .before .before .before .before .before .before .before .before .before .before .before .before .before .before .feed .ensures .within, length-take (c .before .before .before .before .before .before .before .before .before .before .before .before .before .before .before .before .before .before .before .before .before .before .before .before .before .before .before .before .before .before .loop .used - 0) (c .before .before .before .before .before .before .before .before .before .before .before .before .before .before .before .before .before .before .before .before .before .before .before .before .before .before .before .before .before .before .loop .buffer), c .before .before .before .before .before .before .before .before .before .before .before .before .before .before .before .before .before .before .before .before .before .before .before .before .before .before .before .before .before .before .loop .inv .0, c .before .before .before .before .before .before .before .before .before .before .before .before .before .before .before .before .before .before .before .before .before .before .before .before .before .before .before .before .before .before .loop .inv .9))
+returns c =
+    let l = c .before .before .before .before .before .before .before .before .before .before .before .before .before .before .before .before .before .before .before .before .before .before .before .before .before .before .before .loop in
+    let k = c .before .before .before .before .before .before .before .before .before .before .before .before .before .before .before .before .before .before .before .advance in
+    let a = c .before .before .before .before .before .before .before .before .before .before .before .before .before .before .before .before .before .before .before .before .before .before .before .before .before .before .before .before .before .before .before .before .before .before .before .args in
+    drained (a .p) (machine (a .p .state) (now (a .memory)) (rings (now (a .ring-one)) (now (a .table-one)) (now (a .ring-two)) (now (a .table-two)))) (now (a .buffer)) _ _ _ (k .result) (onwards (a .p) (machine (a .p .state) (now (a .memory)) (rings (now (a .ring-one)) (now (a .table-one)) (now (a .ring-two)) (now (a .table-two)))) (take (a .p .used) (now (a .buffer))) (l .q) (l .buffer) _ (l .memory) _ (rings (l .ring-one) (l .table-one) (l .ring-two) (l .table-two)) _ (l .out) _ (k .result) (l .inv .0) (k .ensures) (omega (arith, l .inv .0 .within, l .inv .1 .used, l .inv .2)) (l .inv .1 .total) (omega (arith, l .inv .1 .size, l .inv .3)))
+    (ends (a .p) (machine (a .p .state) (now (a .memory)) (rings (now (a .ring-one)) (now (a .table-one)) (now (a .ring-two)) (now (a .table-two)))) (take (a .p .used) (now (a .buffer))) (l .q) (l .buffer) _ (l .memory) _ (rings (l .ring-one) (l .table-one) (l .ring-two) (l .table-two)) _ (l .out) _ (k .result) (l .inv .0) (k .ensures) (omega (arith, l .inv .0 .within, l .inv .1 .used, l .inv .2)) (l .inv .1 .total) (omega (arith, l .inv .1 .size, l .inv .3)) (omega (arith, l .inv .1 .room, l .inv .8)) (c .if1 .taken))
 
 pub drain-spec : {M : Type 1} → statement M
 drain-spec =
@@ -116,17 +104,11 @@ drain-spec =
     Inv-loop
     μ-loop
     loop-holds
-    sub-feed
-    part-feed-start
-    part-feed-end
-    feed-requires
+    advance-requires
     sub-write-all
     part-write-all-start
     part-write-all-end
     write-all-requires
-    shift-requires
-    sub-used
-    add-offset
     loop-less
     loop-again
     same-length

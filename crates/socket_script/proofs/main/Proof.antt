@@ -2,17 +2,29 @@ use Prim.Native.Nat.{ℕ, _+_, _-_, _≤_, _<_}
 use borrow.Author.Needs.{needs}
 use lib.ListN.{length, length-replicate}
 use mathlib.Core.Logic.{⊎-elim}
-use mathlib.Core.Path.{_≡_, ap, _∙_}
+use mathlib.Core.Path.{_≡_, refl, ap, _∙_}
 use native.Mathlib.Omega.{arith}
-use Rattle.places.specs.Table.{used}
+use Rattle.script.specs.Machine.{startState}
+use Rattle.script.specs.Turn.{LIMIT}
+use Rattle.script.specs.declared.feed.Progress.{Progress}
 use Rattle.socket_script.proofs.main.Statement.{statement}
 use Rattle.socket_script.proofs.main.Tie as tie
 
+none : startState .number ≡ 0
+unfolding startState
+none = refl
+
 abbrev Inv-loop : tie.InvT-loop
-Inv-loop memory₀ ring-one₀ table-one₀ ring-two₀ table-two₀ buffer₀ out₀ st₀ offset₀ used₀ memory ring-one table-one ring-two table-two buffer out st offset used = (used ≤ 131072) × (length buffer ≡ 131072) × (length out ≡ 262144) × (offset + used ≤ 4611686018427518976)
+Inv-loop memory₀ ring-one₀ table-one₀ ring-two₀ table-two₀ buffer₀ out₀ p₀ memory ring-one table-one ring-two table-two buffer out p =
+    (p .used ≤ 131072)
+    × (length buffer ≡ 131072)
+    × (length out ≡ 262144)
+    × (length memory ≡ 4096)
+    × (p .offset + p .used ≤ LIMIT)
+    × (p .state .number ≤ p .offset)
 
 abbrev μ-loop : tie.MeasureT-loop
-μ-loop memory₀ ring-one₀ table-one₀ ring-two₀ table-two₀ buffer₀ out₀ st₀ offset₀ used₀ memory ring-one table-one ring-two table-two buffer out st offset used = 4611686018427518976 - (offset + used)
+μ-loop memory₀ ring-one₀ table-one₀ ring-two₀ table-two₀ buffer₀ out₀ p₀ memory ring-one table-one ring-two table-two buffer out p = LIMIT - (p .offset + p .used)
 
 slice-aggregate-memory : tie.Need-slice-aggregate-memory Inv-loop μ-loop
 slice-aggregate-memory c = search needs
@@ -35,51 +47,72 @@ slice-aggregate-buffer c = search needs
 slice-aggregate-out : tie.Need-slice-aggregate-out Inv-loop μ-loop
 slice-aggregate-out c = search needs
 
-start-requires : tie.Need-start-requires Inv-loop μ-loop
-start-requires c κs = search needs
+first-requires : tie.Need-first-requires Inv-loop μ-loop
+first-requires c κs = search needs
 
 begin-requires : tie.Need-begin-requires Inv-loop μ-loop
 begin-requires c κs = let z : ℕ = 0 in omega (arith, length-replicate {A = ℕ} 262144 z)
 
 loop-holds : tie.Need-loop-holds Inv-loop μ-loop
-loop-holds c = let z : ℕ = 0 in (omega arith, length-replicate {A = ℕ} 131072 z, c .before .before .begin .kept .0 ∙ length-replicate {A = ℕ} 262144 z, omega arith)
+loop-holds c =
+    let z : ℕ = 0 in
+    let f = c .before .before .before .before .first in
+    let u : f .result .used ≡ 0 = ap (λ (q : Progress). q .used) (f .ensures) in
+    let o : f .result .offset ≡ 0 = ap (λ (q : Progress). q .offset) (f .ensures) in
+    let n : f .result .state .number ≡ 0 = ap (λ (q : Progress). q .state .number) (f .ensures) ∙ none in
+    (omega (arith, u), length-replicate {A = ℕ} 131072 z, c .before .before .begin .kept .0 ∙ length-replicate {A = ℕ} 262144 z, length-replicate {A = ℕ} 4096 z, omega (arith, u, o), omega (arith, n))
 
 read-in-requires : tie.Need-read-in-requires Inv-loop μ-loop
-read-in-requires c κs = let h : c .before .before .loop .used ≤ length (c .before .before .loop .buffer) = omega (arith, c .before .before .loop .inv .0, c .before .before .loop .inv .1) in h
+read-in-requires c κs =
+    let l = c .before .before .before .loop in
+    let h : l .p .used ≤ length (l .buffer) = omega (arith, l .inv .0, l .inv .1) in
+    h
 
-add-drain : tie.Need-add-drain Inv-loop μ-loop
-add-drain c = omega (arith, c .before .before .before .before .read-in .ensures, c .before .before .before .before .read-in .kept .0, c .before .before .before .before .before .before .before .loop .inv .0, c .before .before .before .before .before .before .before .loop .inv .1, c .before .before .before .before .before .before .before .loop .inv .2, c .before .before .before .before .before .before .before .loop .inv .3)
+add-p : tie.Need-add-p Inv-loop μ-loop
+add-p c = omega (arith, c .before .before .before .read-in .ensures, c .before .before .before .before .before .before .before .loop .inv .1)
 
 drain-requires : tie.Need-drain-requires Inv-loop μ-loop
 drain-requires c κs =
-    let h : c .before .before .before .before .before .before .before .before .before .before .before .before .before .loop .used + c .before .before .before .before .before .before .before .before .before .before .read-in .result ≤ length (c .before .before .before .before .before .before .before .before .before .before .read-in .last .0) = omega (arith, c .before .before .before .before .before .before .before .before .before .before .read-in .ensures, c .before .before .before .before .before .before .before .before .before .before .read-in .kept .0) in
-    let g : c .before .before .before .before .before .before .before .before .before .before .before .before .before .loop .offset + (c .before .before .before .before .before .before .before .before .before .before .before .before .before .loop .used + c .before .before .before .before .before .before .before .before .before .before .read-in .result) < 9223372036854775808 = omega (arith, c .before .before .before .before .before .before .before .before .before .before .read-in .ensures, c .before .before .before .before .before .before .before .before .before .before .read-in .kept .0, c .before .before .before .before .before .before .before .before .before .before .before .before .before .loop .inv .0, c .before .before .before .before .before .before .before .before .before .before .before .before .before .loop .inv .1, c .before .before .before .before .before .before .before .before .before .before .before .before .before .loop .inv .2, c .before .before .before .before .before .before .before .before .before .before .before .before .before .loop .inv .3) in
-    (h, g)
+    let l = c .before .before .before .before .before .before .before .before .before .before .before .before .before .before .loop in
+    let r = c .before .before .before .before .before .before .before .before .before .before .read-in in
+    record {
+      used = omega (arith, r .ensures, r .kept .0);
+      count = l .inv .5;
+      total = omega (arith, r .ensures, l .inv .1, c .before .before .before .before .before .before .before .before .before .before .before .before .if1 .taken);
+      size = omega (arith, l .inv .3);
+      room = omega (arith, l .inv .2);
+    }
 
 loop-less : tie.Need-loop-less Inv-loop μ-loop
 loop-less c =
-    let d = c .before .before .before .before .before .before .before .before .before .before .before .before .before .before .before .drain in
-    let n : c .before .before .before .before .before .before .before .before .before .before .before .before .before .before .before .before .before .before .before .before .before .before .before .before .before .before .read-in .result ≡ 0 → ⊥ = c .before .before .before .before .before .before .before .before .before .before .before .before .before .before .before .before .before .before .before .before .before .before .before .if1 .left in
-    let e : d .result .offset + d .result .used ≡ c .before .before .before .before .before .before .before .before .before .before .before .before .before .before .before .before .before .before .before .before .before .before .before .before .before .before .before .before .before .loop .offset + (c .before .before .before .before .before .before .before .before .before .before .before .before .before .before .before .before .before .before .before .before .before .before .before .before .before .before .before .before .before .loop .used + c .before .before .before .before .before .before .before .before .before .before .before .before .before .before .before .before .before .before .before .before .before .before .before .before .before .before .read-in .result) = d .ensures .1 in
-    let t : c .before .before .before .before .before .before .before .before .before .before .before .before .before .before .before .before .before .before .before .before .before .before .before .before .before .before .before .before .before .loop .offset < 4611686018427387904 = c .before .before .before .before .before .before .before .before .before .before .before .before .before .before .before .before .before .before .before .before .before .before .before .before .before .before .before .before .loop-test .taken in
-    let h : 4611686018427518976 - (d .result .offset + d .result .used) < 4611686018427518976 - (c .before .before .before .before .before .before .before .before .before .before .before .before .before .before .before .before .before .before .before .before .before .before .before .before .before .before .before .before .before .loop .offset + c .before .before .before .before .before .before .before .before .before .before .before .before .before .before .before .before .before .before .before .before .before .before .before .before .before .before .before .before .before .loop .used) = omega (arith, c .before .before .before .before .before .before .before .before .before .before .before .before .before .before .before .before .before .before .before .before .before .before .before .before .before .before .read-in .ensures, c .before .before .before .before .before .before .before .before .before .before .before .before .before .before .before .before .before .before .before .before .before .before .before .before .before .before .read-in .kept .0, c .before .before .before .before .before .before .before .before .before .before .before .before .before .before .before .before .before .before .before .before .before .before .before .before .before .before .before .before .before .loop .inv .0, c .before .before .before .before .before .before .before .before .before .before .before .before .before .before .before .before .before .before .before .before .before .before .before .before .before .before .before .before .before .loop .inv .1, c .before .before .before .before .before .before .before .before .before .before .before .before .before .before .before .before .before .before .before .before .before .before .before .before .before .before .before .before .before .loop .inv .2, c .before .before .before .before .before .before .before .before .before .before .before .before .before .before .before .before .before .before .before .before .before .before .before .before .before .before .before .before .before .loop .inv .3) in
+    let l = c .before .before .before .before .before .before .before .before .before .before .before .before .before .before .before .before .before .before .before .before .before .before .before .before .before .before .before .before .before .loop in
+    let r = c .before .before .before .before .before .before .before .before .before .before .before .before .before .before .before .before .before .before .before .before .before .before .before .before .before .read-in in
+    let d = c .before .before .before .before .before .before .before .before .before .before .before .before .before .before .drain in
+    let e : d .result .offset + d .result .used ≡ l .p .offset + (l .p .used + r .result) = d .ensures .used in
+    let t : l .p .offset < 4611686018427256832 = c .before .before .before .before .before .before .before .before .before .before .before .before .before .before .before .before .before .before .before .before .before .before .before .before .before .before .before .if1 .taken in
+    let n : r .result ≡ 0 → ⊥ = c .before .before .before .before .before .before .before .before .before .before .before .before .before .before .before .before .before .before .before .before .before .before .if2 .left in
+    let h : LIMIT - (d .result .offset + d .result .used) < LIMIT - (l .p .offset + l .p .used) =
+    omega (arith, r .ensures, l .inv .0, l .inv .1, l .inv .4) in
     h
 
 loop-again : tie.Need-loop-again Inv-loop μ-loop
 loop-again c =
-    let d = c .before .before .before .before .before .before .before .before .before .before .before .before .before .before .before .drain in
-    let e : d .result .offset + d .result .used ≡ c .before .before .before .before .before .before .before .before .before .before .before .before .before .before .before .before .before .before .before .before .before .before .before .before .before .before .before .before .before .loop .offset + (c .before .before .before .before .before .before .before .before .before .before .before .before .before .before .before .before .before .before .before .before .before .before .before .before .before .before .before .before .before .loop .used + c .before .before .before .before .before .before .before .before .before .before .before .before .before .before .before .before .before .before .before .before .before .before .before .before .before .before .read-in .result) = d .ensures .1 in
-    let u : d .result .used ≤ c .before .before .before .before .before .before .before .before .before .before .before .before .before .before .before .before .before .before .before .before .before .before .before .before .before .before .before .before .before .loop .used + c .before .before .before .before .before .before .before .before .before .before .before .before .before .before .before .before .before .before .before .before .before .before .before .before .before .before .read-in .result = d .ensures .0 in
-    let t : c .before .before .before .before .before .before .before .before .before .before .before .before .before .before .before .before .before .before .before .before .before .before .before .before .before .before .before .before .before .loop .offset < 4611686018427387904 = c .before .before .before .before .before .before .before .before .before .before .before .before .before .before .before .before .before .before .before .before .before .before .before .before .before .before .before .before .loop-test .taken in
-    let h : d .result .used ≤ 131072 = omega (arith, c .before .before .before .before .before .before .before .before .before .before .before .before .before .before .before .before .before .before .before .before .before .before .before .before .before .before .read-in .ensures, c .before .before .before .before .before .before .before .before .before .before .before .before .before .before .before .before .before .before .before .before .before .before .before .before .before .before .read-in .kept .0, c .before .before .before .before .before .before .before .before .before .before .before .before .before .before .before .before .before .before .before .before .before .before .before .before .before .before .before .before .before .loop .inv .0, c .before .before .before .before .before .before .before .before .before .before .before .before .before .before .before .before .before .before .before .before .before .before .before .before .before .before .before .before .before .loop .inv .1, c .before .before .before .before .before .before .before .before .before .before .before .before .before .before .before .before .before .before .before .before .before .before .before .before .before .before .before .before .before .loop .inv .2, c .before .before .before .before .before .before .before .before .before .before .before .before .before .before .before .before .before .before .before .before .before .before .before .before .before .before .before .before .before .loop .inv .3) in
-    let g : d .result .offset + d .result .used ≤ 4611686018427518976 = omega (arith, c .before .before .before .before .before .before .before .before .before .before .before .before .before .before .before .before .before .before .before .before .before .before .before .before .before .before .read-in .ensures, c .before .before .before .before .before .before .before .before .before .before .before .before .before .before .before .before .before .before .before .before .before .before .before .before .before .before .read-in .kept .0, c .before .before .before .before .before .before .before .before .before .before .before .before .before .before .before .before .before .before .before .before .before .before .before .before .before .before .before .before .before .loop .inv .0, c .before .before .before .before .before .before .before .before .before .before .before .before .before .before .before .before .before .before .before .before .before .before .before .before .before .before .before .before .before .loop .inv .1, c .before .before .before .before .before .before .before .before .before .before .before .before .before .before .before .before .before .before .before .before .before .before .before .before .before .before .before .before .before .loop .inv .2, c .before .before .before .before .before .before .before .before .before .before .before .before .before .before .before .before .before .before .before .before .before .before .before .before .before .before .before .before .before .loop .inv .3) in
-    (h, d .kept .1 .1 .0 ∙ c .before .before .before .before .before .before .before .before .before .before .before .before .before .before .before .before .before .before .before .before .before .before .before .before .before .before .read-in .kept .0 ∙ c .before .before .before .before .before .before .before .before .before .before .before .before .before .before .before .before .before .before .before .before .before .before .before .before .before .before .before .before .before .loop .inv .1, d .kept .1 .1 .1 .1 .1 .1 .1 .1 .1 .0 ∙ c .before .before .before .before .before .before .before .before .before .before .before .before .before .before .before .before .before .before .before .before .before .before .before .before .before .before .before .before .before .loop .inv .2, g)
+    let l = c .before .before .before .before .before .before .before .before .before .before .before .before .before .before .before .before .before .before .before .before .before .before .before .before .before .before .before .before .before .loop in
+    let r = c .before .before .before .before .before .before .before .before .before .before .before .before .before .before .before .before .before .before .before .before .before .before .before .before .before .read-in in
+    let d = c .before .before .before .before .before .before .before .before .before .before .before .before .before .before .drain in
+    let e : d .result .offset + d .result .used ≡ l .p .offset + (l .p .used + r .result) = d .ensures .used in
+    let t : l .p .offset < 4611686018427256832 = c .before .before .before .before .before .before .before .before .before .before .before .before .before .before .before .before .before .before .before .before .before .before .before .before .before .before .before .if1 .taken in
+    let n : r .result ≡ 0 → ⊥ = c .before .before .before .before .before .before .before .before .before .before .before .before .before .before .before .before .before .before .before .before .before .before .if2 .left in
+    let u : d .result .used ≤ l .p .used + r .result = d .ensures .within in
+    let h : d .result .used ≤ 131072 = omega (arith, r .ensures, l .inv .1) in
+    let g : d .result .offset + d .result .used ≤ LIMIT = omega (arith, r .ensures, l .inv .1) in
+    (h, d .kept .1 .0 ∙ r .kept .0 ∙ l .inv .1, d .kept .1 .1 .1 .1 .1 .1 .1 .0 ∙ l .inv .2, d .kept .1 .1 .0 ∙ l .inv .3, g, d .ensures .count)
 
 close-requires : tie.Need-close-requires Inv-loop μ-loop
 close-requires c κs =
-    let i = c .before .before .loop .inv in
+    let i = c .before .before .before .loop .inv in
     ⊎-elim (λ w. (omega (arith, ap length (w .6), i .0, i .1), omega (arith, i .2))) (λ w. (omega (arith, ap length (w .11), w .2 .kept .0, i .0, i .1), omega (arith, i .2)))
-    (c .before .loop-test .came)
+    (c .before .if1 .came)
 
 returns : tie.Need-returns Inv-loop μ-loop
 returns c = search needs
@@ -97,11 +130,11 @@ main-spec =
     slice-aggregate-table-two
     slice-aggregate-buffer
     slice-aggregate-out
-    start-requires
+    first-requires
     begin-requires
     loop-holds
     read-in-requires
-    add-drain
+    add-p
     drain-requires
     loop-less
     loop-again

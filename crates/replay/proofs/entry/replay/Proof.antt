@@ -1,22 +1,30 @@
 -- `replay` meets its contract. The invariant: if as many entries agree as were run, all entries before `at` agree. An entry takes eight bytes at
 -- least, so that there are no more entries than bytes.
-use Prim.Native.Nat.{_-_, _≤_}
-use mathlib.Core.Path.{_≡_, refl}
+use Prim.Native.Nat.{ℕ, _+_, _-_, _≤_}
+use mathlib.Core.List.{List}
+use mathlib.Core.Path.{_≡_, refl, ap, _∙_}
 use native.Mathlib.Omega.{arith}
 use borrow.Author.Needs.{needs}
 use lib.ListN.{length}
-use Rattle.replay.specs.Entry.{AllAgree, none, more}
+use Rattle.replay.specs.declared.entry.Outcome.the-variants.{Agrees}
+use Rattle.replay.specs.declared.entry.Tally.{Tally}
+use Rattle.replay.specs.Entry.{AllAgree, none, more, noTally, Tallied, begun, next}
+use Rattle.replay.proofs.Entries.{counted-total, counted-most, counted-all}
 use Rattle.replay.proofs.entry.replay.Statement.{statement}
 use Rattle.replay.proofs.entry.replay.Tie as tie
 
+begins : {s out : List ℕ} → Tallied s out 0 (record { total = 0; agree = 0; number = 0; first = Agrees }) out
+unfolding noTally
+begins = begun
+
 abbrev Inv-loop : tie.InvT-loop
-Inv-loop s out₀ t₀ at₀ out t at = (at ≤ length s) × (t .total ≤ at) × (t .agree ≤ t .total) × (t .agree ≡ t .total → AllAgree s at) × (length out ≡ length out₀)
+Inv-loop s out₀ t₀ at₀ out t at = (at ≤ length s) × (t .total ≤ at) × (t .agree ≤ t .total) × (t .agree ≡ t .total → AllAgree s at) × (length out ≡ length out₀) × Tallied s out₀ at t out
 
 abbrev μ-loop : tie.MeasureT-loop
 μ-loop s out₀ t₀ at₀ out t at = length s - at
 
 loop-holds : tie.Need-loop-holds Inv-loop μ-loop
-loop-holds c = (omega arith, omega arith, omega arith, (λ e. none), refl)
+loop-holds c = (omega arith, omega arith, omega arith, (λ e. none), refl, begins)
 
 entry-at-requires : tie.Need-entry-at-requires Inv-loop μ-loop
 entry-at-requires c κs = search needs
@@ -30,7 +38,7 @@ same-length c = search needs
 returns : tie.Need-returns Inv-loop μ-loop
 returns c =
     let h = c .before .before .before .before .loop .inv in
-    record { within = h .0; all = h .3; cut = λ e. rw (c .enum-told .given .1) at (c .before .before .entry-at .ensures) }
+    record { within = h .0; tally = h .5; all = h .3; cut = λ e. rw (c .enum-told .given .1) at (c .before .before .entry-at .ensures) }
 
 enum-known-middle : tie.Need-enum-known-middle Inv-loop μ-loop
 enum-known-middle c = search needs
@@ -50,12 +58,16 @@ loop-again : tie.Need-loop-again Inv-loop μ-loop
 loop-again c =
     let entry = rw (c .before .before .before .before .before .before .middle .given .1) at (c .before .before .before .before .before .before .before .before .entry-at .ensures) in
     let h = c .before .before .before .before .before .before .before .before .before .before .loop .inv in
-    let o = c .counted .ensures in (
+    let t = c .before .before .before .before .before .before .before .before .before .before .loop .t in
+    let k = c .before .before .before .replay-entry in
+    let e = c .counted .ensures in
+    let total : c .counted .result .total ≡ t .total + 1 = ap (λ (x : Tally). x .total) e ∙ counted-total t (k .result) in (
       entry .within,
-      omega (arith, entry .script, entry .stored),
-      o .agree,
-      (λ e. more (h .3 (o .all e .0)) entry (rw (o .all e .1) at (c .before .before .before .replay-entry .ensures))),
-      omega (arith, c .before .before .before .replay-entry .kept .1 .1 .1 .1 .0),
+      omega (arith, entry .script, entry .stored, total),
+      rw e (counted-most t (k .result) (h .2)),
+      (λ g. let w = counted-all t (k .result) (h .2) (rw e at g) in more (h .3 (w .0)) entry (rw (w .1) at (k .ensures .outcome))),
+      omega (arith, k .kept .1 .1 .1 .1 .0),
+      rw e (next t (k .result) (h .5) entry (k .ensures)),
     )
 
 same-length-2 : tie.Need-same-length-2 Inv-loop μ-loop

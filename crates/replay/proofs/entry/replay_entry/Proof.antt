@@ -1,12 +1,13 @@
 -- `replay_entry` meets its contract. A script is shorter than 2 ^ 32 bytes, as its length has four bytes.
 use Prim.Native.Nat.{ℕ, _+_, _-_, _≤_}
 use native.Mathlib.Omega.{arith}
+use denote.Ref.{now}
 use native.Mathlib.Nat.{sub-zero}
 use mathlib.Core.Path.{ap, _∙_}
 use lib.ListN.{length, take, drop, length-take}
 use Rattle.script.specs.Turn.{LIMIT}
 use Rattle.replay.specs.Entry.{bytesOf}
-use Rattle.replay.proofs.Entries.{agreement}
+use Rattle.replay.proofs.Entries.{listing-is, agreement}
 use borrow.Author.Needs.{needs}
 use Rattle.replay.proofs.entry.replay_entry.Statement.{statement}
 use Rattle.replay.proofs.entry.replay_entry.Tie as tie
@@ -33,7 +34,9 @@ same-length : tie.Need-same-length
 same-length c = search needs
 
 returns : tie.Need-returns
-returns c = search needs
+returns c =
+    let r = c .before .before .before .run-script in
+    record { outcome = omega (arith, c .if1 .taken, r .ensures .next, r .ensures .fits, r .kept .1 .0); text = r .ensures .text }
 
 add-listing : tie.Need-add-listing
 add-listing c = search needs
@@ -71,9 +74,11 @@ returns-2 c =
     let r = c .before .before .before .before .before .before .before .run-script in
     let short : length (bytesOf s at (a .middle)) ≤ LIMIT =
     omega (arith, c .before .before .before .before .before .before .before .before .before .before .before .before .pre .script, length-take (a .middle - (at + 4)) (drop (at + 4) s), b at, b (at + 1), b (at + 2), b (at + 3)) in
-    agreement s at (a .middle) (a .end) (take (r .result - 0) (r .last .1 .0)) (c .compare .result)
-    (ap (λ (k : ℕ). take k (r .last .1 .0)) (sub-zero (r .result)) ∙ r .ensures .whole short (omega (arith, c .before .before .before .before .if1 .left, r .ensures .fits)))
+    let w = agreement (length (now (a .out))) s at (a .middle) (a .end) (take (r .result - 0) (r .last .1 .0)) (c .compare .result)
+    (ap (λ (k : ℕ). take k (r .last .1 .0)) (sub-zero (r .result)) ∙ r .ensures .whole short (omega (arith, c .before .before .before .before .if1 .left, r .ensures .fits)) ∙ listing-is (bytesOf s at (a .middle)))
     (c .compare .ensures)
+    in
+    record { outcome = w; text = r .ensures .text }
 
 pub replay-entry-spec : {M : Type 1} → statement M
 replay-entry-spec =

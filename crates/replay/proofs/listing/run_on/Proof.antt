@@ -1,5 +1,6 @@
 -- `run_on` meets its contract: each part of the output that is lent begins within it, and `ran` puts the three texts together.
 use native.Mathlib.Omega.{arith}
+use mathlib.Core.Path.{refl}
 use Rattle.replay.proofs.Runs.{written-fits, ran}
 use borrow.Author.Needs.{needs}
 use Rattle.replay.proofs.listing.run_on.Statement.{statement}
@@ -118,6 +119,8 @@ returns c =
     last
     (omega (arith, begins, kept, within, lines, rests, last))
     (omega (arith, begins, kept, within, lines, rests, last))
+    refl
+    refl
 
 pub run-on-spec : {M : Type 1} → statement M
 run-on-spec =

@@ -1,6 +1,5 @@
 -- `run_script` meets its contract: the arrays are those that a script starts with.
 use Rattle.script.specs.Machine.{start}
-use Rattle.script.specs.Listing.{listing}
 use borrow.Author.Needs.{needs}
 use Rattle.replay.proofs.listing.run_script.Statement.{statement}
 use Rattle.replay.proofs.listing.run_script.Tie as tie
@@ -27,7 +26,7 @@ same-length : tie.Need-same-length
 same-length c = search needs
 
 returns : tie.Need-returns
-unfolding listing start
+unfolding start
 returns c = c .before .before .before .before .before .before .before .run-on .ensures
 
 pub run-script-spec : {M : Type 1} → statement M

@@ -5,7 +5,7 @@ use lib.ListN.{length}
 use mathlib.Core.Bool.{Bool}
 use mathlib.Core.Path.{_≡_, refl, sym, _∙_, subst}
 use native.Mathlib.Omega.{arith}
-use Rattle.script.proofs.Feeding.{never, Ready, ready, SoFar, begins, next, left, falls}
+use Rattle.script.proofs.Feeding.{Ready, ready, SoFar, begins, next, left, falls, done-full, done-stay}
 use Rattle.call.specs.Call.{rings}
 use Rattle.line.specs.Line.{LINE}
 use Rattle.script.specs.Machine.{machine}
@@ -92,9 +92,10 @@ same-length-6 c = c .before .before .loop .inv .7
 returns : tie.Need-returns Inv-loop μ-loop
 returns c =
     let l = c .before .before .loop in
-    let i = l .inv .0 in
-    let y = l .inv .1 in
-    record { within = i .within; fits = i .fits; behind = i .behind; rest = i .rest; stuck = λ e h. absurd (let z : ⊥ = omega (arith, leb-false 8254 (length (l .out) - l .at) (c .if1 .left)) in z); idle = λ e. absurd (never (sym (c .before .before .before .before .before .before .before .before .before .before .pre) ∙ e)) }
+    let a = c .before .before .before .before .before .before .before .before .before .before .args in
+    done-full (machine (a .st) (now (a .memory)) (rings (now (a .ring-one)) (now (a .table-one)) (now (a .ring-two)) (now (a .table-two)))) (a .offset) (now (a .input)) (now (a .out)) (l .s) (l .memory) (rings (l .ring-one) (l .table-one) (l .ring-two) (l .table-two)) (l .out) (l .from) (l .at) (l .more) (l .inv .0)
+    (omega (arith, leb-false 8254 (length (l .out) - l .at) (c .if1 .left)))
+    (c .before .before .before .before .before .before .before .before .before .before .pre)
 
 same-length-7 : tie.Need-same-length-7 Inv-loop μ-loop
 same-length-7 c = c .before .loop .inv .2
@@ -117,9 +118,9 @@ same-length-12 c = c .before .loop .inv .7
 returns-2 : tie.Need-returns-2 Inv-loop μ-loop
 returns-2 c =
     let l = c .before .loop in
-    let i = l .inv .0 in
-    let y = l .inv .1 in
-    record { within = i .within; fits = i .fits; behind = i .behind; rest = i .rest; stuck = λ e h. i .idle (c .loop-test .left); idle = λ e. absurd (never (sym (c .before .before .before .before .before .before .before .before .before .pre) ∙ e)) }
+    let a = c .before .before .before .before .before .before .before .before .before .args in
+    done-stay (machine (a .st) (now (a .memory)) (rings (now (a .ring-one)) (now (a .table-one)) (now (a .ring-two)) (now (a .table-two)))) (a .offset) (now (a .input)) (now (a .out)) (l .s) (l .memory) (rings (l .ring-one) (l .table-one) (l .ring-two) (l .table-two)) (l .out) (l .from) (l .at) (l .more) (l .inv .0) (c .loop-test .left)
+    (c .before .before .before .before .before .before .before .before .before .pre)
 
 pub feed-ready-spec : {M : Type 1} → statement M
 feed-ready-spec =

@@ -1,0 +1,2 @@
+-- Drains: what the loop keeps that feeds the bytes in the buffer
+pub mod Drains
