@@ -1,8 +1,9 @@
 //! Names for what happened in a call, so that a run can say what it covered.
 //! They are judged from the pair before and after the call.
 
-use crate::machine::{Answer, Done, Machine, BASE, MEMORY, PLACES};
+use crate::machine::{Answer, Done, Machine, BASE, MEMORY};
 use crate::record::{Record, Transfer};
+use crate::waits::PLACES;
 
 const READABLE: u32 = 0x1;
 const WRITABLE: u32 = 0x2;
@@ -42,8 +43,8 @@ impl View {
         View {
             words: [machine.word(0), machine.word(1)],
             infos: [machine.info(0), machine.info(1)],
-            waiting: machine.waiting(),
-            packets: machine.queued(),
+            waiting: machine.waits().waiting(),
+            packets: machine.waits().fired().len(),
             starts: [0, 0],
         }
     }
