@@ -1,6 +1,7 @@
 //! Arguments of calls, drawn at random around the boundaries.
 
 use crate::random::Random;
+use crate::waits::PLACES;
 
 pub const ALL: u32 = u32::MAX;
 
@@ -75,5 +76,13 @@ impl Draw {
         };
         let edge = if self.is_odd() { self.random.pick(&[2, 3, 255]) } else { self.random.pick(&[0, 1]) };
         (key, mask, edge)
+    }
+
+    /// Handles, keys and masks of about as many waits as there are places. For
+    /// an edge, most of them do not fire.
+    pub fn many_waits(&mut self) -> Vec<(u32, u64, u32)> {
+        let number = self.random.pick(&[PLACES - 1, PLACES, PLACES + 1]);
+        let mask = self.random.pick(&[0, 1, 4, 0x400]);
+        (0..number).map(|_| (self.random.pick(&[1, 2]), self.random.next(), mask)).collect()
     }
 }

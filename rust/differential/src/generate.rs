@@ -6,7 +6,6 @@ use crate::draw::{Draw, ALL};
 use crate::machine::{BASE, MEMORY, RING};
 use crate::random::Random;
 use crate::record::{script_of, Record, Transfer, CREATE, HEAD, MOST_FILL};
-use crate::waits::PLACES;
 
 const END: u64 = BASE + MEMORY as u64;
 
@@ -138,19 +137,16 @@ impl Generator {
             }
             Take => Record::Take,
             Fill => self.fill(),
-            ManyWaits => return self.put_many_waits(records),
+            ManyWaits => {
+                let waits = self.draw.many_waits().into_iter();
+                return records.extend(waits.map(|(handle, key, mask)| Record::Wait {
+                    handle,
+                    key,
+                    mask,
+                    edge: 1,
+                }));
+            }
         });
-    }
-
-    /// About as many waits as there are places, most of which do not fire.
-    fn put_many_waits(&mut self, records: &mut Vec<Record>) {
-        let number = self.draw.random.pick(&[PLACES as u64 - 1, PLACES as u64, PLACES as u64 + 1]);
-        let mask = self.draw.random.pick(&[0, 1, 4, 0x400]);
-        for _ in 0..number {
-            let handle = self.draw.random.pick(&[1, 2]);
-            let key = self.draw.random.next();
-            records.push(Record::Wait { handle, key, mask, edge: 1 });
-        }
     }
 
     /// Shows what is left: sizes, packets, and the bytes of the hot memory.

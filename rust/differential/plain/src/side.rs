@@ -1,0 +1,52 @@
+//! What either side of the comparison does and shows.
+
+use crate::call::Call;
+use differential::waits::Fired;
+
+/// A side's answer to a call.
+#[derive(Clone, Debug, PartialEq)]
+pub struct Answer {
+    /// The count, 0 or the status.
+    pub word: i64,
+    /// The thresholds, the info record or the packet of a call that is done.
+    pub numbers: Vec<u64>,
+    /// A read's or peek's whole buffer after the call, done or refused.
+    pub buffer: Vec<u8>,
+}
+
+impl Answer {
+    pub fn word(word: i64) -> Answer {
+        Answer { word, numbers: Vec::new(), buffer: Vec::new() }
+    }
+
+    /// The numbers count only where the call is done.
+    pub fn numbers(word: i64, numbers: &[u64]) -> Answer {
+        Answer { numbers: if word < 0 { Vec::new() } else { numbers.to_vec() }, ..Answer::word(word) }
+    }
+}
+
+/// A buffer before a read.
+pub fn buffer(count: u64) -> Vec<u8> {
+    vec![0x5a; count as usize]
+}
+
+/// All that can be asked of a pair between two calls. A closed end shows nothing.
+#[derive(Clone, Debug, PartialEq)]
+pub struct Look {
+    pub signals: [Option<u32>; 2],
+    pub infos: [Option<[u64; 6]>; 2],
+    pub thresholds: [Option<[u64; 2]>; 2],
+    /// The packets without their keys, oldest first, and their ends, 0 or 1.
+    pub packets: Vec<Fired>,
+    /// How many waits have not fired.
+    pub waits: usize,
+}
+
+/// A pair.
+pub trait Side {
+    fn call(&mut self, call: &Call) -> Answer;
+    fn look(&mut self) -> Look;
+}
+
+/// Makes a pair of a kind and a capacity.
+pub type Make = dyn Fn(u32, u32) -> Box<dyn Side> + Sync;
