@@ -13,10 +13,15 @@ use zcore::ZxError;
 /// Places for waits and packets of a pair.
 pub const PLACES: usize = 128;
 
-/// A packet without its key, and the end, 0 or 1, of its wait.
+/// A packet without its key, and where it comes from.
 #[derive(Clone, Copy, Debug, PartialEq)]
 pub struct Fired {
+    /// The end, 0 or 1, of the wait.
     pub end: usize,
+    /// The number of the wait, in the order of registration.
+    pub wait: u64,
+    /// The number of the call that fired it.
+    pub call: u64,
     pub trigger: u32,
     pub observed: u32,
 }
@@ -24,12 +29,14 @@ pub struct Fired {
 /// The waits and packets of a pair.
 pub struct Waits {
     port: Arc<Port>,
-    /// Gets the same waits as `port`, with the end as the key, and is emptied
-    /// after every call: so the harness knows which waits have fired without
-    /// looking into the port.
+    /// Gets the same waits as `port`, with a wait's number and end as the key,
+    /// and is emptied after every call: so the harness knows which waits have
+    /// fired without looking into the port.
     second: Arc<Port>,
     waiting: [usize; 2],
     fired: VecDeque<Fired>,
+    registered: u64,
+    calls: u64,
 }
 
 impl Default for Waits {
@@ -41,7 +48,14 @@ impl Default for Waits {
 impl Waits {
     pub fn new() -> Waits {
         let port = || Port::new(0).expect("a port without options");
-        Waits { port: port(), second: port(), waiting: [0, 0], fired: VecDeque::new() }
+        Waits {
+            port: port(),
+            second: port(),
+            waiting: [0, 0],
+            fired: VecDeque::new(),
+            registered: 0,
+            calls: 0,
+        }
     }
 
     /// Registers a wait at an end, 0 or 1, with the handle that names it.
@@ -63,7 +77,9 @@ impl Waits {
         }
         let source = (object.id(), handle);
         self.port.wait_async(object, source, key, signal_of(mask), options, None);
-        self.second.wait_async(object, source, end as u64, signal_of(mask), options, None);
+        let second_key = 2 * self.registered + end as u64;
+        self.second.wait_async(object, source, second_key, signal_of(mask), options, None);
+        self.registered += 1;
         self.waiting[end] += 1;
         Ok(())
     }
@@ -73,9 +89,9 @@ impl Waits {
         let (key, signal) = take_from(&self.port).ok_or(status(ZxError::SHOULD_WAIT))?;
         assert_eq!((signal.count, signal.timestamp), (1, 0), "packets count 1 at time 0");
         let oldest = self.fired.pop_front().expect("a packet of a wait that fired");
-        let taken = fired(oldest.end, &signal);
-        assert_eq!(taken, oldest, "both ports have the same packets");
-        Ok((key, taken))
+        let words = (word_of(signal.trigger), word_of(signal.observed));
+        assert_eq!(words, (oldest.trigger, oldest.observed), "both ports have the same packets");
+        Ok((key, oldest))
     }
 
     /// Drops the waits of an end, 0 or 1, that was closed.
@@ -85,10 +101,18 @@ impl Waits {
 
     /// Moves the waits that fired during a call from waiting to fired.
     pub fn count_fired(&mut self) {
+        self.calls += 1;
         while self.waiting != [0, 0] {
-            let Some((end, signal)) = take_from(&self.second) else { break };
-            self.waiting[end as usize] -= 1;
-            self.fired.push_back(fired(end as usize, &signal));
+            let Some((key, signal)) = take_from(&self.second) else { break };
+            let end = key as usize % 2;
+            self.waiting[end] -= 1;
+            self.fired.push_back(Fired {
+                end,
+                wait: key / 2,
+                call: self.calls,
+                trigger: word_of(signal.trigger),
+                observed: word_of(signal.observed),
+            });
         }
     }
 
@@ -106,10 +130,6 @@ impl Waits {
     fn used(&self) -> usize {
         self.waiting[0] + self.waiting[1] + self.fired.len()
     }
-}
-
-fn fired(end: usize, signal: &PacketSignal) -> Fired {
-    Fired { end, trigger: word_of(signal.trigger), observed: word_of(signal.observed) }
 }
 
 /// The oldest packet of a port, if it has one.

@@ -2,8 +2,7 @@
 //! is lent no tables.
 
 use crate::call::{bytes, Call};
-use crate::side::{buffer, Answer, Look, Side};
-use differential::waits::Fired;
+use crate::side::{buffer, Answer, Look, Packet, Side};
 use murgwethan::raw;
 
 struct Exported {
@@ -91,7 +90,7 @@ impl Side for Exported {
 
     fn look(&mut self) -> Look {
         let places = &self.pair.places;
-        let packet = |place: &raw::Place| Fired {
+        let packet = |place: &raw::Place| Packet {
             end: place.end as usize - 1,
             trigger: place.mask,
             observed: place.observed,

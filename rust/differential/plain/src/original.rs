@@ -2,7 +2,7 @@
 //! places that document 01 adds.
 
 use crate::call::{bytes, Call};
-use crate::side::{buffer, Answer, Look, Side};
+use crate::side::{buffer, Answer, Look, Packet, Side};
 use differential::sockets::Sockets;
 use differential::values::{status, word_of};
 use differential::waits::{Fired, Waits};
@@ -120,11 +120,12 @@ impl<S: Sockets> Side for Original<S> {
 
     fn look(&mut self) -> Look {
         let ends = [self.ends[0].as_ref(), self.ends[1].as_ref()];
+        let packet = |Fired { end, trigger, observed, .. }| Packet { end, trigger, observed };
         Look {
             signals: ends.map(|end| end.map(|end| word_of(end.signal()))),
             infos: ends.map(|end| end.map(|end| end.info())),
             thresholds: ends.map(|end| end.map(|end| end.thresholds())),
-            packets: self.waits.fired().collect(),
+            packets: self.waits.fired().map(packet).collect(),
             waits: self.waits.waiting().iter().sum(),
         }
     }

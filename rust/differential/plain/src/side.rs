@@ -1,7 +1,6 @@
 //! What either side of the comparison does and shows.
 
 use crate::call::Call;
-use differential::waits::Fired;
 
 /// A side's answer to a call.
 #[derive(Clone, Debug, PartialEq)]
@@ -30,14 +29,22 @@ pub fn buffer(count: u64) -> Vec<u8> {
     vec![0x5a; count as usize]
 }
 
+/// A packet without its key, and the end, 0 or 1, of its wait.
+#[derive(Clone, Debug, PartialEq)]
+pub struct Packet {
+    pub end: usize,
+    pub trigger: u32,
+    pub observed: u32,
+}
+
 /// All that can be asked of a pair between two calls. A closed end shows nothing.
 #[derive(Clone, Debug, PartialEq)]
 pub struct Look {
     pub signals: [Option<u32>; 2],
     pub infos: [Option<[u64; 6]>; 2],
     pub thresholds: [Option<[u64; 2]>; 2],
-    /// The packets without their keys, oldest first, and their ends, 0 or 1.
-    pub packets: Vec<Fired>,
+    /// Oldest first.
+    pub packets: Vec<Packet>,
     /// How many waits have not fired.
     pub waits: usize,
 }
