@@ -46,10 +46,14 @@ impl Machine {
     /// Document 01's create over rings and tables of 4096 entries, with the
     /// script program's memory.
     pub fn create(kind: u32, capacity: u32, rights: [u8; 2]) -> Result<Machine, i64> {
+        if capacity as usize > RING {
+            return Err(status(ZxError::INVALID_ARGS));
+        }
         Machine::with_memory(kind, capacity, rights, (BASE, MEMORY))
     }
 
-    /// The same with memory of some length at some base.
+    /// The same over longer rings and tables, with memory of some length at
+    /// some base.
     pub fn with_memory(
         kind: u32,
         capacity: u32,
@@ -57,7 +61,7 @@ impl Machine {
         (base, length): (u64, usize),
     ) -> Result<Machine, i64> {
         let capacity = capacity as usize;
-        let good = kind <= 1 && (1..=ORIGINAL).contains(&capacity) && capacity <= RING;
+        let good = kind <= 1 && (1..=ORIGINAL).contains(&capacity);
         if !good || rights.iter().any(|word| *word > 7) {
             return Err(status(ZxError::INVALID_ARGS));
         }
@@ -105,8 +109,13 @@ impl Machine {
             }),
             Record::Fill { address, bytes } => self.fill(*address, bytes),
         };
-        self.waits.count_fired();
+        self.count_fired();
         answer
+    }
+
+    /// To be called after a call that was made on a socket directly.
+    pub fn count_fired(&mut self) {
+        self.waits.count_fired();
     }
 
     /// The signal word of an end, 0 or 1, unless it is closed.
@@ -120,6 +129,11 @@ impl Machine {
     pub fn info(&self, end: usize) -> Option<[u64; 6]> {
         let socket = self.thread.proc().get_object::<Socket>(self.handles[end]);
         socket.ok().map(|socket| socket.info())
+    }
+
+    /// All of user memory.
+    pub fn memory(&self) -> Vec<u8> {
+        self.memory.contents()
     }
 
     /// The waits and packets.
@@ -140,9 +154,13 @@ impl Machine {
         }
     }
 
+    /// The socket that a script's handle names.
+    pub fn socket(&self, handle: u32) -> Result<Arc<Socket>, i64> {
+        self.thread.proc().get_object::<Socket>(self.handle(handle)).map_err(status)
+    }
+
     fn on_socket(&self, handle: u32, call: impl FnOnce(&Socket) -> Answer) -> Answer {
-        let socket = self.thread.proc().get_object::<Socket>(self.handle(handle)).map_err(status)?;
-        call(&socket)
+        call(&*self.socket(handle)?)
     }
 
     fn write(&self, arguments: &Transfer) -> Answer {

@@ -1,27 +1,32 @@
 //! The exported calls over rings and tables of exactly C entries. A stream pair
 //! is lent no tables.
 
-use crate::call::{bytes, Call};
+use crate::call::{bytes, Call, Shape};
 use crate::side::{buffer, Answer, Look, Packet, Side};
+use differential::record::Transfer;
 use murgwethan::raw;
 
 struct Exported {
     pair: raw::Pair,
     rings: [Vec<u8>; 2],
     tables: [Vec<u32>; 2],
+    base: u64,
+    memory: Vec<u8>,
 }
 
 /// A new exported pair.
-pub fn exported(kind: u32, capacity: u32) -> Box<dyn Side> {
+pub fn exported(shape: &Shape) -> Box<dyn Side> {
+    let Shape { kind, capacity, rights, memory } = *shape;
     let entries = capacity as usize;
     let rings = [vec![0xcc; entries], vec![0xcc; entries]];
     let lengths = if kind == 1 { entries } else { 0 };
     let tables = [vec![0xcccc_cccc; lengths], vec![0xcccc_cccc; lengths]];
-    let mut side = Box::new(Exported { pair: raw::Pair::UNMADE, rings, tables });
-    let Exported { pair, rings, tables } = &mut *side;
+    let mut pair = raw::Pair::UNMADE;
     let lent = ([&rings[0][..], &rings[1]], [&tables[0][..], &tables[1]]);
-    assert_eq!(raw::create(pair, kind, capacity, [0, 0], lent.0, lent.1), 0, "a good create");
-    side
+    let word = raw::create(&mut pair, kind, capacity, rights.map(u32::from), lent.0, lent.1);
+    assert_eq!(word, 0, "a good create");
+    let (base, memory) = memory.map_or((0, Vec::new()), |memory| (memory.base, memory.contents()));
+    Box::new(Exported { pair, rings, tables, base, memory })
 }
 
 /// The end, 0 or 1, whose slices a call by a handle is lent as its own.
@@ -46,6 +51,11 @@ impl Exported {
         let mut out = [0; 2];
         (raw::thresholds(&mut self.pair, handle, &mut out), out)
     }
+}
+
+fn asked(t: &Transfer) -> raw::Transfer {
+    let Transfer { options, address, count, count_at, .. } = *t;
+    raw::Transfer { options, address, count, count_at }
 }
 
 /// What a call put out, if it is done.
@@ -85,6 +95,20 @@ impl Side for Exported {
                 return Answer::numbers(word, &out);
             }
             Call::Close { handle } => raw::close(pair, handle),
+            Call::UserWrite(ref t) => {
+                let (memory, peer) = (&mut self.memory, 1 - own(t.handle));
+                let (ring, table) = (&mut self.rings[peer], &mut self.tables[peer]);
+                raw::user_write(pair, t.handle, self.base, memory, asked(t), ring, table)
+            }
+            Call::UserRead(ref t) => {
+                let memory = &mut self.memory;
+                let (ring, table) = (&self.rings[own(t.handle)], &self.tables[own(t.handle)]);
+                raw::user_read(pair, t.handle, self.base, memory, asked(t), ring, table)
+            }
+            Call::UserSetDisposition { handle, own, peer } => {
+                raw::user_set_disposition(pair, handle, own, peer)
+            }
+            Call::UserShutdown { handle, options } => raw::user_shutdown(pair, handle, options),
         })
     }
 
@@ -98,6 +122,7 @@ impl Side for Exported {
         Look {
             packets: places.table[..places.packets].iter().map(packet).collect(),
             waits: places.waits,
+            memory: self.memory.clone(),
             signals: [1, 2].map(|handle| u32::try_from(raw::signal(&mut self.pair, handle)).ok()),
             infos: [1, 2].map(|handle| done(self.info(handle))),
             thresholds: [1, 2].map(|handle| done(self.thresholds(handle))),

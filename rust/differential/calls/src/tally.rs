@@ -1,6 +1,6 @@
 //! Counts of what a run of lists covered.
 
-use crate::call::{Call, List, ANSWERS};
+use crate::call::{Call, Shape, ANSWERS, PLAIN};
 use std::collections::BTreeMap;
 use std::fmt;
 
@@ -9,6 +9,8 @@ pub struct Tally {
     pub lists: u64,
     pub calls: u64,
     kinds: [u64; 2],
+    /// Whether there was a list with user memory.
+    memory: bool,
     /// The least and the largest capacity.
     capacities: Option<(u32, u32)>,
     /// By a call's name and its answer, where 1 stands for a count above 0.
@@ -16,10 +18,11 @@ pub struct Tally {
 }
 
 impl Tally {
-    pub fn count_list(&mut self, list: &List) {
+    pub fn count_list(&mut self, shape: &Shape) {
         self.lists += 1;
-        self.kinds[list.kind as usize] += 1;
-        self.see_capacities((list.capacity, list.capacity));
+        self.kinds[shape.kind as usize] += 1;
+        self.memory |= shape.memory.is_some();
+        self.see_capacities((shape.capacity, shape.capacity));
     }
 
     pub fn count(&mut self, call: &Call, word: i64) {
@@ -37,22 +40,30 @@ impl Tally {
         self.lists += other.lists;
         self.calls += other.calls;
         self.kinds = [0, 1].map(|kind| self.kinds[kind] + other.kinds[kind]);
+        self.memory |= other.memory;
         other.capacities.into_iter().for_each(|capacities| self.see_capacities(capacities));
         for (answer, number) in other.answers {
             *self.answers.entry(answer).or_default() += number;
         }
     }
 
+    /// The calls of these lists and their answers.
+    fn expected(&self) -> &'static [(&'static str, &'static [i64])] {
+        const ALL: &[(&str, &[i64])] = &ANSWERS;
+        &ALL[..if self.memory { ALL.len() } else { PLAIN }]
+    }
+
     /// The answers that should occur and did not.
     pub fn missing(&self) -> Vec<(&'static str, i64)> {
-        let all = ANSWERS.into_iter().flat_map(|(name, answers)| answers.iter().map(move |one| (name, *one)));
+        let all =
+            self.expected().iter().flat_map(|(name, answers)| answers.iter().map(move |one| (*name, *one)));
         all.filter(|answer| !self.answers.contains_key(answer)).collect()
     }
 
     /// The answers that occurred and should not.
     pub fn unexpected(&self) -> Vec<(&'static str, i64)> {
         let known = |(name, answer): &(&str, i64)| {
-            ANSWERS.iter().any(|(call, answers)| call == name && answers.contains(answer))
+            self.expected().iter().any(|(call, answers)| call == name && answers.contains(answer))
         };
         self.answers.keys().filter(|answer| !known(answer)).copied().collect()
     }
@@ -67,9 +78,9 @@ impl fmt::Display for Tally {
             "{lists} lists ({streams} stream, {datagrams} datagram, C from {least} to {most}), {calls} calls"
         )?;
         writeln!(f, "call: done with a count above 0, done with 0, refused by status")?;
-        for (name, answers) in ANSWERS {
-            let number = |answer| self.answers.get(&(name, answer)).copied().unwrap_or_default();
-            write!(f, "  {name:20}{:>9}{:>9}", number(1), number(0))?;
+        for (name, answers) in self.expected() {
+            let number = |answer| self.answers.get(&(*name, answer)).copied().unwrap_or_default();
+            write!(f, "  {name:22}{:>9}{:>9}", number(1), number(0))?;
             for status in answers.iter().filter(|answer| **answer < 0) {
                 write!(f, "  {status}: {}", number(*status))?;
             }

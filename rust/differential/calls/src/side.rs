@@ -1,6 +1,6 @@
 //! What either side of the comparison does and shows.
 
-use crate::call::Call;
+use crate::call::{Call, Shape};
 
 /// A side's answer to a call.
 #[derive(Clone, Debug, PartialEq)]
@@ -21,6 +21,18 @@ impl Answer {
     /// The numbers count only where the call is done.
     pub fn numbers(word: i64, numbers: &[u64]) -> Answer {
         Answer { numbers: if word < 0 { Vec::new() } else { numbers.to_vec() }, ..Answer::word(word) }
+    }
+}
+
+impl Answer {
+    /// A call that is refused before it finds its end.
+    pub fn refused(call: &Call, status: i64) -> Answer {
+        match call {
+            Call::Read { count, .. } | Call::Peek { count, .. } => {
+                Answer { buffer: buffer(*count), ..Answer::word(status) }
+            }
+            _ => Answer::word(status),
+        }
     }
 }
 
@@ -47,6 +59,8 @@ pub struct Look {
     pub packets: Vec<Packet>,
     /// How many waits have not fired.
     pub waits: usize,
+    /// All of user memory.
+    pub memory: Vec<u8>,
 }
 
 /// A pair.
@@ -55,5 +69,5 @@ pub trait Side {
     fn look(&mut self) -> Look;
 }
 
-/// Makes a pair of a kind and a capacity.
-pub type Make = dyn Fn(u32, u32) -> Box<dyn Side> + Sync;
+/// Makes a pair.
+pub type Make = dyn Fn(&Shape) -> Box<dyn Side> + Sync;

@@ -1,6 +1,7 @@
-//! The plain calls and lists of them.
+//! The calls and lists of them.
 
 use differential::random::Random;
+use differential::record::Transfer;
 use differential::shrink::smaller;
 use std::fmt;
 
@@ -55,10 +56,25 @@ pub enum Call {
     Close {
         handle: u32,
     },
+    UserWrite(Transfer),
+    UserRead(Transfer),
+    UserSetDisposition {
+        handle: u32,
+        own: u32,
+        peer: u32,
+    },
+    UserShutdown {
+        handle: u32,
+        options: u32,
+    },
 }
 
-/// Every answer that a plain call can have in a run; 1 stands for a count above 0.
-pub const ANSWERS: [(&str, &[i64]); 12] = [
+/// The calls without user memory.
+pub const PLAIN: usize = 12;
+
+/// Every answer that a call can have in a run, those of the plain calls first;
+/// 1 stands for a count above 0.
+pub const ANSWERS: [(&str, &[i64]); PLAIN + 4] = [
     ("write", &[1, 0, -10, -11, -14, -20, -22, -24]),
     ("read", &[1, 0, -11, -20, -22, -24]),
     ("peek", &[1, 0, -11, -20, -22, -24]),
@@ -71,6 +87,10 @@ pub const ANSWERS: [(&str, &[i64]); 12] = [
     ("wait", &[0, -3, -10, -11]),
     ("take", &[0, -22]),
     ("close", &[0, -11]),
+    ("user_write", &[1, 0, -10, -11, -14, -20, -22, -24, -30]),
+    ("user_read", &[1, 0, -10, -11, -20, -22, -24, -30]),
+    ("user_set_disposition", &[0, -10, -11, -20, -30]),
+    ("user_shutdown", &[0, -11, -30]),
 ];
 
 type Values = Vec<(&'static str, u64)>;
@@ -80,18 +100,36 @@ impl Call {
         self.parts().0
     }
 
+    /// The handle, of a call that has one.
+    pub fn handle(&self) -> u32 {
+        let (_, values) = self.parts();
+        values.first().map_or(0, |(_, handle)| *handle as u32)
+    }
+
     /// The call's name and its arguments by name.
     fn parts(&self) -> (&'static str, Values) {
         let on = |handle: u32| ("handle", u64::from(handle));
+        let disposition =
+            |handle, own: u32, peer: u32| vec![on(handle), ("own", own.into()), ("peer", peer.into())];
+        let transfer = |t: &Transfer| {
+            let rest = [("address", t.address), ("count", t.count), ("count_at", t.count_at)];
+            [vec![on(t.handle), ("options", t.options.into())], rest.to_vec()].concat()
+        };
         match *self {
+            Call::UserWrite(ref t) => ("user_write", transfer(t)),
+            Call::UserRead(ref t) => ("user_read", transfer(t)),
+            Call::UserSetDisposition { handle, own, peer } => {
+                ("user_set_disposition", disposition(handle, own, peer))
+            }
+            Call::UserShutdown { handle, options } => {
+                ("user_shutdown", vec![on(handle), ("options", options.into())])
+            }
             Call::Write { handle, count, seed } => {
                 ("write", vec![on(handle), ("count", count), ("seed", seed)])
             }
             Call::Read { handle, count } => ("read", vec![on(handle), ("count", count)]),
             Call::Peek { handle, count } => ("peek", vec![on(handle), ("count", count)]),
-            Call::SetDisposition { handle, own, peer } => {
-                ("set_disposition", vec![on(handle), ("own", own.into()), ("peer", peer.into())])
-            }
+            Call::SetDisposition { handle, own, peer } => ("set_disposition", disposition(handle, own, peer)),
             Call::Shutdown { handle, read, write } => {
                 ("shutdown", vec![on(handle), ("read", read.into()), ("write", write.into())])
             }
@@ -114,7 +152,20 @@ impl Call {
     /// The same call with other values of its arguments.
     fn with(&self, values: &[u64]) -> Call {
         let handle = values.first().map_or(0, |value| *value as u32);
+        let transfer = || Transfer {
+            handle,
+            options: values[1] as u32,
+            address: values[2],
+            count: values[3],
+            count_at: values[4],
+        };
         match self {
+            Call::UserWrite(_) => Call::UserWrite(transfer()),
+            Call::UserRead(_) => Call::UserRead(transfer()),
+            Call::UserSetDisposition { .. } => {
+                Call::UserSetDisposition { handle, own: values[1] as u32, peer: values[2] as u32 }
+            }
+            Call::UserShutdown { .. } => Call::UserShutdown { handle, options: values[1] as u32 },
             Call::Write { .. } => Call::Write { handle, count: values[1], seed: values[2] },
             Call::Read { .. } => Call::Read { handle, count: values[1] },
             Call::Peek { .. } => Call::Peek { handle, count: values[1] },
@@ -169,17 +220,45 @@ impl fmt::Display for Call {
     }
 }
 
+/// User memory: where it begins and how long it is.
+#[derive(Clone, Copy, Debug, PartialEq)]
+pub struct Memory {
+    pub base: u64,
+    pub length: usize,
+}
+
+impl Memory {
+    /// What it holds at first.
+    pub fn contents(&self) -> Vec<u8> {
+        bytes(self.length as u64, 1)
+    }
+}
+
+/// What a pair is made with.
+#[derive(Clone, Copy, Debug, PartialEq)]
+pub struct Shape {
+    pub kind: u32,
+    pub capacity: u32,
+    pub rights: [u8; 2],
+    /// None for a list of plain calls.
+    pub memory: Option<Memory>,
+}
+
 /// A new pair and the calls on it.
 #[derive(Clone, Debug, PartialEq)]
 pub struct List {
-    pub kind: u32,
-    pub capacity: u32,
+    pub shape: Shape,
     pub calls: Vec<Call>,
 }
 
 impl fmt::Display for List {
     fn fmt(&self, f: &mut fmt::Formatter<'_>) -> fmt::Result {
-        writeln!(f, "create kind={} capacity={}", self.kind, self.capacity)?;
+        let Shape { kind, capacity, rights: [one, two], memory } = self.shape;
+        write!(f, "create kind={kind} capacity={capacity} rights1={one} rights2={two}")?;
+        if let Some(Memory { base, length }) = memory {
+            write!(f, ", memory of {length} bytes at {base}")?;
+        }
+        writeln!(f)?;
         self.calls.iter().try_for_each(|call| writeln!(f, "{call}"))
     }
 }

@@ -1,7 +1,7 @@
 //! Makes lists of calls on two sides, and finds a small list for the first
 //! difference.
 
-use crate::call::{Call, List};
+use crate::call::{Call, List, Shape};
 use crate::generate::Source;
 use crate::original::original;
 use crate::side::{Answer, Look, Make, Side};
@@ -39,9 +39,10 @@ pub fn compare(source: Source, count: u64, make: &Make, workers: usize) -> (Tall
 /// Makes the calls of a list on both sides, then takes all packets and reads all
 /// bytes. At a difference it gives the list up to the call that shows it.
 fn run(list: &List, make: &Make, tally: &mut Tally) -> Result<(), (List, Part)> {
-    tally.count_list(list);
-    let mut sides = [original(list.kind, list.capacity), make(list.kind, list.capacity)];
-    let mut made = List { calls: Vec::new(), ..*list };
+    let shape = &list.shape;
+    tally.count_list(shape);
+    let mut sides = [original(shape), make(shape)];
+    let mut made = List { shape: *shape, calls: Vec::new() };
     let mut call = |call: &Call| {
         made.calls.push(call.clone());
         step(&mut sides, call, tally).map_err(|part| (made.clone(), part))
@@ -49,7 +50,7 @@ fn run(list: &List, make: &Make, tally: &mut Tally) -> Result<(), (List, Part)> 
     list.calls.iter().try_for_each(|one| call(one).map(drop))?;
     while call(&Call::Take)? >= 0 {}
     for handle in [1, 2] {
-        while call(&Call::Read { handle, count: list.capacity.into() })? > 0 {}
+        while call(&Call::Read { handle, count: shape.capacity.into() })? > 0 {}
     }
     Ok(())
 }
@@ -74,13 +75,16 @@ fn same<T: PartialEq + Debug>(what: &'static str, original: &T, other: &T) -> Re
 fn same_answers(original: &Answer, other: &Answer) -> Result<(), Part> {
     same("word", &original.word, &other.word)?;
     same("numbers", &original.numbers, &other.numbers)?;
-    // A buffer can be long: its first difference is enough.
-    let differs = |(_, (one, two)): &(usize, (&u8, &u8))| one != two;
-    let place = original.buffer.iter().zip(&other.buffer).enumerate().find(differs);
-    match place {
-        Some((at, (one, two))) => same("buffer, from a byte on", &(at, one), &(at, two)),
-        None => same("length of the buffer", &original.buffer.len(), &other.buffer.len()),
+    same_bytes("buffer, at its first difference", &original.buffer, &other.buffer)
+}
+
+/// They can be many: the first that differs is enough.
+fn same_bytes(what: &'static str, original: &[u8], other: &[u8]) -> Result<(), Part> {
+    if original == other {
+        return Ok(());
     }
+    let at = original.iter().zip(other).take_while(|(one, two)| one == two).count();
+    same(what, &(at, original.get(at)), &(at, other.get(at)))
 }
 
 fn same_looks(original: &Look, other: &Look) -> Result<(), Part> {
@@ -88,7 +92,8 @@ fn same_looks(original: &Look, other: &Look) -> Result<(), Part> {
     same("infos", &original.infos, &other.infos)?;
     same("thresholds", &original.thresholds, &other.thresholds)?;
     same("packets", &original.packets, &other.packets)?;
-    same("number of waits", &original.waits, &other.waits)
+    same("number of waits", &original.waits, &other.waits)?;
+    same_bytes("user memory, at its first difference", &original.memory, &other.memory)
 }
 
 fn cut(number: u64, list: List, make: &Make) -> Difference {
@@ -96,11 +101,12 @@ fn cut(number: u64, list: List, make: &Make) -> Difference {
     let (mut list, mut part) = difference(&list).expect("the list differs");
     loop {
         let before = list.clone();
-        let shows = |calls: &[Call]| difference(&List { calls: calls.to_vec(), ..list }).is_some();
-        let calls = shrink_list(list.calls.clone(), Call::simpler, shows);
-        let smaller = smaller(list.capacity.into(), 1).map(|capacity| capacity as u32);
-        let mut tried =
-            smaller.chain([list.capacity]).map(|capacity| List { calls: calls.clone(), capacity, ..list });
+        let shape = list.shape;
+        let shows = |calls: &[Call]| difference(&List { shape, calls: calls.to_vec() }).is_some();
+        let calls = shrink_list(list.calls, Call::simpler, shows);
+        let smaller = smaller(shape.capacity.into(), 1).map(|capacity| capacity as u32);
+        let shapes = smaller.chain([shape.capacity]).map(|capacity| Shape { capacity, ..shape });
+        let mut tried = shapes.map(|shape| List { shape, calls: calls.clone() });
         (list, part) = tried.find_map(|list| difference(&list)).unwrap_or((before.clone(), part));
         if list == before {
             return Difference { number, list, part };
