@@ -1,4 +1,21 @@
 //! Times the exported calls and the original Rust in one run and prints a table.
+//!
+//! The original is built from its sources by the crate `zcore` of `rust/differential`. Byte for byte:
+//! `ipc/socket.rs` with its constant 262144, `object/mod.rs`, `object/signal.rs`, `signal/port.rs`,
+//! `signal/port_packet.rs` and `error.rs`. Of the stand-ins for the rest of the kernel one is timed with it:
+//! the lock, which is the standard library's mutex, taken with `try_lock` since one thread runs; the kernel's
+//! is not among the sources. Those for the clock, counters, rights, processes and user memory are not called.
+//!
+//! `bitflags`, `downcast-rs` and `futures-channel` are Debian's; `VecDeque`, `BTreeMap` and `Arc` are the
+//! standard library's. Both sides are built for release with one code generation unit and full link-time
+//! optimization, and without checks of overflow.
+//!
+//! Every row has the capacity 262144, but for the wrapped ones of 64 and 4096 bytes: there the exported pair
+//! has two places more than a write, so that its ring wraps in nearly every pass (see `sides::Original`).
+//!
+//! A create of the original makes a port as well, which stands for the places that an exported pair has.
+//! Rings and tables are the host's and are made before; the original allocates its queues at their first
+//! write, so that only the first passes of a row, which are not timed, pay for it.
 
 mod sides;
 mod stack;

@@ -6,10 +6,9 @@ use std::hint::black_box;
 use std::pin::pin;
 use std::sync::Arc;
 use std::task::{Context, Poll, Waker};
-use zcore::capacity::set_socket_size;
-use zcore::ipc::Socket;
 use zcore::object::{KernelObject, Signal};
 use zcore::signal::{PayloadRepr, Port, PortPacketRepr, WaitAsyncOptions};
+use zcore::untouched::Socket;
 
 /// Pairs of one batch of creates: few enough that the records of either side stay in the nearest cache.
 pub const BATCH: usize = 8;
@@ -23,6 +22,7 @@ pub enum Mask {
 
 /// One pair. End 1 writes; end 2 reads, waits and is asked.
 pub trait Side {
+    /// A new pair. The original has one capacity, the largest; see [`Original`].
     fn new(kind: u32, capacity: u32) -> Self;
     fn write(&mut self, bytes: &[u8]) -> usize;
     fn read(&mut self, buffer: &mut [u8]) -> usize;
@@ -112,7 +112,14 @@ impl Side for Exported {
     }
 }
 
-/// The original's objects. A port is one of its own there; it stands for the places of an exported pair.
+/// The original's objects, with its own capacity of 262144. A port is one of its own there; it stands for
+/// the places of an exported pair.
+///
+/// A row that asks for a smaller capacity does so for the exported pair's ring, which is to wrap. The
+/// original's queue has a buffer that grows to what is queued, so that the same bytes wrap in it too;
+/// neither side gets full in such a row, so that the capacity shows in nothing else. In the wrapped rows of
+/// the largest size each read empties the queue, whose buffer then begins anew: there the original's bytes
+/// lie in one piece.
 pub struct Original {
     kind: u32,
     ends: (Arc<Socket>, Arc<Socket>),
@@ -122,8 +129,7 @@ pub struct Original {
 }
 
 impl Side for Original {
-    fn new(kind: u32, capacity: u32) -> Self {
-        set_socket_size(capacity as usize);
+    fn new(kind: u32, _capacity: u32) -> Self {
         let ends = Socket::create(kind).expect("a good kind");
         let reader = ends.1.clone();
         let port = Port::new(0).expect("a port");

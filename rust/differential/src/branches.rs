@@ -1,22 +1,155 @@
 //! Names for what happened in a call, so that a run can say what it covered.
 //! They are judged from the pair before and after the call.
 
-use crate::machine::{Answer, Done, Machine, BASE, MEMORY, PLACES};
+use crate::machine::{Answer, Done, Machine, BASE, MEMORY};
 use crate::record::{Record, Transfer};
+use crate::waits::{Fired, PLACES};
 
 const READABLE: u32 = 0x1;
 const WRITABLE: u32 = 0x2;
 const READ_THRESHOLD: u32 = 0x400;
 const WRITE_THRESHOLD: u32 = 0x800;
 
+/// All names, in order.
+pub const BRANCHES: [&str; 99] = [
+    "a call fires one wait",
+    "a call fires several waits",
+    "a handle refused as closed",
+    "a handle refused as none",
+    "close drops queued bytes",
+    "close drops waits",
+    "close leaves bytes at the peer",
+    "close leaves packets",
+    "close of the second end",
+    "disposition 0 0",
+    "disposition 0 1",
+    "disposition 0 2",
+    "disposition 1 0",
+    "disposition 1 1",
+    "disposition 1 2",
+    "disposition 2 0",
+    "disposition 2 1",
+    "disposition 2 2",
+    "disposition refused, own enable",
+    "disposition refused, peer enable",
+    "disposition with a closed peer",
+    "fill begins at memory's beginning",
+    "fill ends at memory's end",
+    "fill inside memory",
+    "fill refused across memory's end",
+    "fill refused before memory",
+    "fill refused behind memory",
+    "info of a stream's bytes",
+    "info of an empty queue",
+    "info of the first of several datagrams",
+    "info of the only datagram",
+    "info refused",
+    "info with a closed peer",
+    "peek is done",
+    "peek shows part of a datagram",
+    "read clears READ_THRESHOLD",
+    "read drops a datagram's tail",
+    "read empties the queue",
+    "read into 0 bytes is done",
+    "read of what a closed peer left",
+    "read raises the peer's WRITABLE",
+    "read raises the peer's WRITE_THRESHOLD",
+    "read refused for address 0",
+    "read refused for its count's range",
+    "read refused for its options",
+    "read refused for its range",
+    "read runs past the ring's end",
+    "read threshold 0 clears its bit",
+    "read threshold above the queued bytes clears its bit",
+    "read threshold leaves the word",
+    "read threshold raises its bit",
+    "read threshold refused above C",
+    "read threshold refused for its handle",
+    "read while the peer may not write",
+    "read's count lands over its bytes",
+    "read's range ends at memory's end",
+    "shutdown 0",
+    "shutdown 1",
+    "shutdown 2",
+    "shutdown 3",
+    "shutdown with a closed peer",
+    "shutdown with ignored bits",
+    "take finds nothing",
+    "take finds waits only",
+    "take gives a packet",
+    "take gives the newest of a call's waits first",
+    "take of a closed end's packet",
+    "wait at a closed end",
+    "wait fires at once",
+    "wait for an edge stays",
+    "wait stays",
+    "wait takes the last place",
+    "wait with a bad edge byte and no place",
+    "write clears WRITE_THRESHOLD",
+    "write fills the queue",
+    "write into an empty queue",
+    "write of 0 bytes is done",
+    "write raises READ_THRESHOLD",
+    "write refused for a count above 32 bits",
+    "write refused for a datagram above the space",
+    "write refused for a full queue",
+    "write refused for address 0",
+    "write refused for an empty datagram",
+    "write refused for its count's range, or earlier",
+    "write refused for its options",
+    "write refused for its range",
+    "write runs past the ring's end",
+    "write takes fewer bytes than asked",
+    "write threshold 0 clears its bit",
+    "write threshold above the space clears its bit",
+    "write threshold leaves the word",
+    "write threshold raises its bit",
+    "write threshold refused above C",
+    "write threshold refused for a closed peer",
+    "write threshold refused for its handle",
+    "write with address 0",
+    "write's bytes end at memory's end",
+    "write's count ends at memory's end",
+    "write's count lands over its bytes",
+];
+
+/// Names of what a call for a threshold does.
+struct Thresholds {
+    raises: &'static str,
+    clears: &'static str,
+    clears_by_zero: &'static str,
+    leaves: &'static str,
+    too_large: &'static str,
+    bad_handle: &'static str,
+}
+
+const READ_THRESHOLDS: Thresholds = Thresholds {
+    raises: "read threshold raises its bit",
+    clears: "read threshold above the queued bytes clears its bit",
+    clears_by_zero: "read threshold 0 clears its bit",
+    leaves: "read threshold leaves the word",
+    too_large: "read threshold refused above C",
+    bad_handle: "read threshold refused for its handle",
+};
+
+const WRITE_THRESHOLDS: Thresholds = Thresholds {
+    raises: "write threshold raises its bit",
+    clears: "write threshold above the space clears its bit",
+    clears_by_zero: "write threshold 0 clears its bit",
+    leaves: "write threshold leaves the word",
+    too_large: "write threshold refused above C",
+    bad_handle: "write threshold refused for its handle",
+};
+
 /// What can be seen of a pair between two calls.
-#[derive(Clone, Copy, Default)]
+#[derive(Clone, Default)]
 pub struct View {
     words: [Option<u32>; 2],
     /// Kind, C, queued, available, peer's C, peer's queued.
     infos: [Option<[u64; 6]>; 2],
     waiting: [usize; 2],
-    packets: usize,
+    /// Oldest first.
+    packets: Vec<Fired>,
     /// Where each queue starts in its ring.
     starts: [u64; 2],
 }
@@ -42,8 +175,8 @@ impl View {
         View {
             words: [machine.word(0), machine.word(1)],
             infos: [machine.info(0), machine.info(1)],
-            waiting: machine.waiting(),
-            packets: machine.queued(),
+            waiting: machine.waits().waiting(),
+            packets: machine.waits().fired().collect(),
             starts: [0, 0],
         }
     }
@@ -53,7 +186,7 @@ impl View {
     }
 
     fn used(&self) -> usize {
-        self.waiting[0] + self.waiting[1] + self.packets
+        self.waiting[0] + self.waiting[1] + self.packets.len()
     }
 }
 
@@ -83,10 +216,28 @@ impl Step<'_> {
             Record::Close { handle } if self.answer.is_ok() => self.close(*handle, &mut names),
             Record::Disposition { handle, own, peer } => self.disposition(*handle, *own, *peer, &mut names),
             Record::Shutdown { handle, options } => self.shutdown(*handle, *options, &mut names),
-            _ => {}
+            Record::ReadThreshold { handle, threshold } => {
+                names.extend(self.threshold(*handle, *threshold, READ_THRESHOLD, &READ_THRESHOLDS));
+            }
+            Record::WriteThreshold { handle, threshold } => {
+                names.extend(self.threshold(*handle, *threshold, WRITE_THRESHOLD, &WRITE_THRESHOLDS));
+            }
+            Record::Info { handle } => self.info(*handle, &mut names),
+            Record::Take => self.take(&mut names),
+            Record::Fill { address, bytes } => names.push(self.fill(*address, bytes.len() as u64)),
+            Record::Close { .. } | Record::Create { .. } => {}
+        }
+        if *self.answer == Err(-11) {
+            // Every record has its handle first.
+            let (_, values, _) = self.record.values();
+            names.push(if (1..=2).contains(&values[0]) {
+                "a handle refused as closed"
+            } else {
+                "a handle refused as none"
+            });
         }
         if !matches!(self.record, Record::Take | Record::Wait { .. }) {
-            match self.after.packets.saturating_sub(self.before.packets) {
+            match self.after.packets.len().saturating_sub(self.before.packets.len()) {
                 0 => {}
                 1 => names.push("a call fires one wait"),
                 _ => names.push("a call fires several waits"),
@@ -156,8 +307,16 @@ impl Step<'_> {
         names.extend(facts.into_iter().filter(|(holds, _)| *holds).map(|(_, name)| name));
     }
 
-    /// Which of the tests that share −10 refused a write.
+    /// Which of the tests that share −22 or −10 refused a write.
     fn write_refused(&self, t: &Transfer) -> Option<&'static str> {
+        if *self.answer == Err(-22) {
+            let [_, _, _, _, capacity, queued] = self.before.infos[end_of(t.handle)?]?;
+            return Some(if queued == capacity {
+                "write refused for a full queue"
+            } else {
+                "write refused for a datagram above the space"
+            });
+        }
         if *self.answer != Err(-10) {
             return None;
         }
@@ -193,7 +352,7 @@ impl Step<'_> {
     }
 
     fn wait(&self, handle: u32, edge: u8, names: &mut Vec<&'static str>) {
-        let fired = self.after.packets > self.before.packets;
+        let fired = self.after.packets.len() > self.before.packets.len();
         let closed = end_of(handle).is_some_and(|end| self.before.words[end].is_none());
         names.push(match (self.answer, edge) {
             (Ok(_), _) if fired => "wait fires at once",
@@ -214,7 +373,7 @@ impl Step<'_> {
             (self.before.queued(end) > 0, "close drops queued bytes"),
             (self.before.queued(1 - end) > 0, "close leaves bytes at the peer"),
             (self.before.waiting[end] > 0, "close drops waits"),
-            (self.before.packets > 0, "close leaves packets"),
+            (!self.before.packets.is_empty(), "close leaves packets"),
             (self.before.words[1 - end].is_none(), "close of the second end"),
         ];
         names.extend(facts.into_iter().filter(|(holds, _)| *holds).map(|(_, name)| name));
@@ -250,6 +409,67 @@ impl Step<'_> {
         }
         if self.before.words[1 - end].is_none() {
             names.push("shutdown with a closed peer");
+        }
+    }
+
+    fn threshold(&self, handle: u32, threshold: u64, bit: u32, names: &Thresholds) -> Option<&'static str> {
+        match self.answer {
+            Err(-10) => return Some(names.too_large),
+            Err(-24) => return Some("write threshold refused for a closed peer"),
+            Err(_) => return Some(names.bad_handle),
+            Ok(_) => {}
+        }
+        let end = end_of(handle)?;
+        Some(match (self.raised(end, bit), self.cleared(end, bit)) {
+            (true, _) => names.raises,
+            (_, true) if threshold == 0 => names.clears_by_zero,
+            (_, true) => names.clears,
+            _ => names.leaves,
+        })
+    }
+
+    fn info(&self, handle: u32, names: &mut Vec<&'static str>) {
+        let (Some(end), Ok(Done::Info([kind, _, queued, available, ..]))) = (end_of(handle), self.answer)
+        else {
+            return names.push("info refused");
+        };
+        names.push(match (kind, available) {
+            (_, 0) => "info of an empty queue",
+            (0, _) => "info of a stream's bytes",
+            _ if available < queued => "info of the first of several datagrams",
+            _ => "info of the only datagram",
+        });
+        if self.before.words[1 - end].is_none() {
+            names.push("info with a closed peer");
+        }
+    }
+
+    fn take(&self, names: &mut Vec<&'static str>) {
+        let Some(taken) = self.before.packets.first() else {
+            let waits = self.before.waiting != [0, 0];
+            return names.push(if waits { "take finds waits only" } else { "take finds nothing" });
+        };
+        names.push("take gives a packet");
+        let same = |next: &&Fired| next.call == taken.call && next.end == taken.end;
+        match self.before.packets.get(1).filter(same) {
+            Some(next) if next.wait < taken.wait => {
+                names.push("take gives the newest of a call's waits first")
+            }
+            _ => {}
+        }
+        if self.before.words[taken.end].is_none() {
+            names.push("take of a closed end's packet");
+        }
+    }
+
+    fn fill(&self, address: u64, length: u64) -> &'static str {
+        match self.answer {
+            Ok(_) if ends_at_edge(address, length) => "fill ends at memory's end",
+            Ok(_) if address == BASE => "fill begins at memory's beginning",
+            Ok(_) => "fill inside memory",
+            Err(_) if address < BASE => "fill refused before memory",
+            Err(_) if address < BASE + MEMORY as u64 => "fill refused across memory's end",
+            Err(_) => "fill refused behind memory",
         }
     }
 }

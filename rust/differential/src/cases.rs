@@ -25,7 +25,9 @@ fn case(section: &str) -> Case {
         match line.strip_prefix("> ") {
             Some(rest) => lines.push((records - 1, rest.to_string())),
             None => {
-                records += 1;
+                // A line may stand for several records.
+                let times = line.split_once(" * ").map_or(Ok(1), |(times, _)| times.parse());
+                records += times.unwrap_or_else(|_| panic!("case {name}: {line}"));
                 script.push_str(line);
                 script.push('\n');
             }

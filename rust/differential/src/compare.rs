@@ -8,7 +8,6 @@ use crate::tally::Tally;
 use std::io::{self, Read, Write};
 use std::process::{Command, Stdio};
 use std::sync::atomic::{AtomicU64, Ordering};
-use std::sync::Mutex;
 use std::thread;
 
 /// A pipe holds at least this much, so that a script up to this size can be
@@ -90,31 +89,44 @@ pub struct Difference {
 /// Compares all scripts of a source on some threads. The tally counts the
 /// scripts that were compared.
 pub fn compare(source: &Source, subject: &dyn Subject, workers: usize) -> (Tally, Option<Difference>) {
+    let differs = |number, tally: &mut Tally| {
+        let script = source.script(number);
+        let expected = tally.listing(&script);
+        subject.listing(&script) != expected.as_bytes()
+    };
+    let (tallies, first) = search(source.number(), workers, differs);
+    let mut total = Tally::default();
+    tallies.into_iter().for_each(|tally| total.add(tally));
+    (total, first.map(|number| cut(number, &source.script(number), subject)))
+}
+
+/// Tries the numbers below a limit on some threads, each with counts of its
+/// own, up to the first that differs. Gives the counts and that number.
+pub fn search<T: Default + Send>(
+    limit: u64,
+    workers: usize,
+    differs: impl Fn(u64, &mut T) -> bool + Sync,
+) -> (Vec<T>, Option<u64>) {
     let next = AtomicU64::new(0);
     let first = AtomicU64::new(u64::MAX);
-    let total = Mutex::new(Tally::default());
-    thread::scope(|scope| {
-        for _ in 0..workers {
-            scope.spawn(|| {
-                let mut tally = Tally::default();
-                loop {
-                    let number = next.fetch_add(1, Ordering::Relaxed);
-                    if number >= source.number() || number > first.load(Ordering::Relaxed) {
-                        break;
-                    }
-                    let script = source.script(number);
-                    let expected = tally.listing(&script);
-                    if subject.listing(&script) != expected.as_bytes() {
-                        first.fetch_min(number, Ordering::Relaxed);
-                    }
-                }
-                total.lock().expect("no worker panics").add(tally);
-            });
+    let work = || {
+        let mut counts = T::default();
+        loop {
+            let number = next.fetch_add(1, Ordering::Relaxed);
+            if number >= limit || number > first.load(Ordering::Relaxed) {
+                return counts;
+            }
+            if differs(number, &mut counts) {
+                first.fetch_min(number, Ordering::Relaxed);
+            }
         }
+    };
+    let counts = thread::scope(|scope| {
+        let workers: Vec<_> = (0..workers).map(|_| scope.spawn(work)).collect();
+        workers.into_iter().map(|worker| worker.join().expect("no worker panics")).collect()
     });
-    let number = first.into_inner();
-    let difference = (number < u64::MAX).then(|| cut(number, &source.script(number), subject));
-    (total.into_inner().expect("no worker panics"), difference)
+    let first = first.into_inner();
+    (counts, (first < u64::MAX).then_some(first))
 }
 
 fn cut(number: u64, script: &[u8], subject: &dyn Subject) -> Difference {

@@ -2,12 +2,12 @@
 //! edges of memory, thresholds around the capacity, all 128 places, closed
 //! ends, and damaged scripts.
 
-use crate::machine::{BASE, MEMORY, PLACES, RING};
+use crate::draw::{Draw, ALL};
+use crate::machine::{BASE, MEMORY, RING};
 use crate::random::Random;
 use crate::record::{script_of, Record, Transfer, CREATE, HEAD, MOST_FILL};
 
 const END: u64 = BASE + MEMORY as u64;
-const ALL: u32 = u32::MAX;
 
 /// Kinds of calls, to choose among by weight.
 #[derive(Clone, Copy)]
@@ -50,12 +50,9 @@ const ENDINGS: &[(Call, u64)] = &[
 const MEMORY_USE: &[(Call, u64)] = &[(Write, 38), (Read, 36), (Fill, 16), (Info, 4), (Close, 1)];
 
 struct Generator {
-    random: Random,
-    capacity: u64,
+    draw: Draw,
     /// Where most addresses of this script lie.
     hot: u64,
-    /// How many in a hundred arguments are unusual ones.
-    odd: u64,
 }
 
 /// The script with a number in the run of a seed.
@@ -66,14 +63,14 @@ pub fn script(seed: u64, number: u64) -> Vec<u8> {
     }
     let capacity = capacity(&mut random);
     let hot = BASE + random.pick(&[0, 0, 0, 100, 4096 - 64, 4096 - 24]);
-    let odd = random.pick(&[0, 2, 2, 5, 20]);
-    let mut generator = Generator { random, capacity, hot, odd };
+    let mut generator = Generator { draw: Draw::new(random, capacity), hot };
     let records = generator.records();
     let bytes = script_of(&records);
     generator.perhaps_damaged(bytes)
 }
 
-fn capacity(random: &mut Random) -> u64 {
+/// A capacity of the script program, mostly a small one.
+pub fn capacity(random: &mut Random) -> u64 {
     match random.below(100) {
         0..70 => 1 + random.below(12),
         70..85 => 13 + random.below(300),
@@ -85,90 +82,78 @@ fn capacity(random: &mut Random) -> u64 {
 impl Generator {
     fn records(&mut self) -> Vec<Record> {
         let mut records = vec![self.create()];
-        match self.random.below(20) {
+        match self.draw.random.below(20) {
             0 => {}
-            1..5 => records.push(Record::Fill { address: BASE, bytes: self.random.bytes(MOST_FILL) }),
+            1..5 => records.push(Record::Fill { address: BASE, bytes: self.draw.random.bytes(MOST_FILL) }),
             _ => {
                 let number = (END - self.hot).min(64) as usize;
-                records.push(Record::Fill { address: self.hot, bytes: self.random.bytes(number) });
+                records.push(Record::Fill { address: self.hot, bytes: self.draw.random.bytes(number) });
             }
         }
-        let weights = self.random.pick(&[TRAFFIC, TRAFFIC, WAITS, ENDINGS, MEMORY_USE]);
-        let most = self.random.pick(&[6, 20, 40, 40, 160]);
-        for _ in 0..self.random.below(most) {
-            let call = self.choose(weights);
+        let weights = self.draw.random.pick(&[TRAFFIC, TRAFFIC, WAITS, ENDINGS, MEMORY_USE]);
+        let most = self.draw.random.pick(&[6, 20, 40, 40, 160]);
+        for _ in 0..self.draw.random.below(most) {
+            let call = self.draw.random.choose(weights);
             self.put(call, &mut records);
         }
-        if self.random.percent(50) {
+        if self.draw.random.percent(50) {
             self.put_last_look(&mut records);
         }
         records
     }
 
-    fn choose(&mut self, weights: &[(Call, u64)]) -> Call {
-        let total = weights.iter().map(|(_, weight)| weight).sum();
-        let mut number = self.random.below(total);
-        for (call, weight) in weights {
-            if number < *weight {
-                return *call;
-            }
-            number -= weight;
-        }
-        unreachable!("the number is below the sum of the weights")
-    }
-
     fn create(&mut self) -> Record {
-        let mut kind = self.random.below(2) as u32;
-        let mut capacity = self.capacity as u32;
+        let mut kind = self.draw.random.below(2) as u32;
+        let mut capacity = self.draw.capacity as u32;
         let mut rights = [7, 7];
-        if self.random.percent(15) {
-            rights = [self.random.below(8) as u8, self.random.below(8) as u8];
+        if self.draw.random.percent(15) {
+            rights = [self.draw.random.below(8) as u8, self.draw.random.below(8) as u8];
         }
-        if self.random.percent(2) {
-            match self.random.below(4) {
-                0 => kind = self.random.pick(&[2, 3, 256, ALL]),
-                1 => capacity = self.random.pick(&[0, 4097, 262144, 262145, ALL]),
-                2 => rights[0] = self.random.pick(&[8, 15, 255]),
-                _ => rights[1] = self.random.pick(&[8, 15, 255]),
+        if self.draw.random.percent(2) {
+            match self.draw.random.below(4) {
+                0 => kind = self.draw.random.pick(&[2, 3, 256, ALL]),
+                1 => capacity = self.draw.random.pick(&[0, 4097, 262144, 262145, ALL]),
+                2 => rights[0] = self.draw.random.pick(&[8, 15, 255]),
+                _ => rights[1] = self.draw.random.pick(&[8, 15, 255]),
             }
         }
         Record::Create { kind, capacity, rights }
     }
 
     fn put(&mut self, call: Call, records: &mut Vec<Record>) {
-        let handle = self.handle();
+        let handle = self.draw.handle();
         records.push(match call {
             Write => Record::Write(self.transfer(handle, false)),
             Read => Record::Read(self.transfer(handle, true)),
-            Disposition => Record::Disposition { handle, own: self.target(), peer: self.target() },
-            Shutdown => Record::Shutdown { handle, options: self.shutdown_options() },
-            ReadThreshold => Record::ReadThreshold { handle, threshold: self.threshold() },
-            WriteThreshold => Record::WriteThreshold { handle, threshold: self.threshold() },
+            Disposition => Record::Disposition { handle, own: self.draw.target(), peer: self.draw.target() },
+            Shutdown => Record::Shutdown { handle, options: self.draw.shutdown_options() },
+            ReadThreshold => Record::ReadThreshold { handle, threshold: self.draw.threshold() },
+            WriteThreshold => Record::WriteThreshold { handle, threshold: self.draw.threshold() },
             Info => Record::Info { handle },
             Close => Record::Close { handle },
-            Wait => self.wait(handle),
+            Wait => {
+                let (key, mask, edge) = self.draw.wait();
+                Record::Wait { handle, key, mask, edge }
+            }
             Take => Record::Take,
             Fill => self.fill(),
-            ManyWaits => return self.put_many_waits(records),
+            ManyWaits => {
+                let waits = self.draw.many_waits().into_iter();
+                return records.extend(waits.map(|(handle, key, mask)| Record::Wait {
+                    handle,
+                    key,
+                    mask,
+                    edge: 1,
+                }));
+            }
         });
-    }
-
-    /// About as many waits as there are places, most of which do not fire.
-    fn put_many_waits(&mut self, records: &mut Vec<Record>) {
-        let number = self.random.pick(&[PLACES as u64 - 1, PLACES as u64, PLACES as u64 + 1]);
-        let mask = self.random.pick(&[0, 1, 4, 0x400]);
-        for _ in 0..number {
-            let handle = self.random.pick(&[1, 2]);
-            let key = self.random.next();
-            records.push(Record::Wait { handle, key, mask, edge: 1 });
-        }
     }
 
     /// Shows what is left: sizes, packets, and the bytes of the hot memory.
     fn put_last_look(&mut self, records: &mut Vec<Record>) {
         records.extend([Record::Info { handle: 1 }, Record::Info { handle: 2 }]);
-        records.extend(vec![Record::Take; self.random.below(5) as usize]);
-        let chunk = self.capacity.min(64);
+        records.extend(vec![Record::Take; self.draw.random.below(5) as usize]);
+        let chunk = self.draw.capacity.min(64);
         let far = if self.hot > BASE + 2048 { BASE } else { BASE + 3000 };
         for at in (0..64.min(chunk * 6)).step_by(chunk as usize) {
             let (handle, options, count_at) = (1, 0, 0);
@@ -185,22 +170,10 @@ impl Generator {
         }
     }
 
-    fn is_odd(&mut self) -> bool {
-        self.random.percent(self.odd)
-    }
-
-    fn handle(&mut self) -> u32 {
-        if self.is_odd() {
-            self.random.pick(&[0, 3, 4, 7, 257, 0x10001, ALL])
-        } else {
-            self.random.pick(&[1, 2])
-        }
-    }
-
     fn transfer(&mut self, handle: u32, read: bool) -> Transfer {
-        let options = if self.is_odd() {
-            self.random.pick(&[1, 2, 4, 8, 9, 16, 0x1_0000, 0x8000_0000, ALL])
-        } else if read && self.random.percent(20) {
+        let options = if self.draw.is_odd() {
+            self.draw.random.pick(&[1, 2, 4, 8, 9, 16, 0x1_0000, 0x8000_0000, ALL])
+        } else if read && self.draw.random.percent(20) {
             8
         } else {
             0
@@ -212,122 +185,79 @@ impl Generator {
     }
 
     fn count(&mut self) -> u64 {
-        let capacity = self.capacity;
-        if self.is_odd() {
+        let capacity = self.draw.capacity;
+        if self.draw.is_odd() {
             let huge = [1 << 31, ALL as u64, 1 << 32, (1 << 32) + 1, 1 << 63, u64::MAX];
-            return self.random.pick(&huge);
+            return self.draw.random.pick(&huge);
         }
-        match self.random.below(20) {
+        match self.draw.random.below(20) {
             0 => 0,
-            1..4 => self.random.pick(&[capacity - 1, capacity, capacity + 1]),
-            4 => self.random.below(2 * capacity + 2),
-            5 => self.random.pick(&[4095, 4096, 4097]),
-            _ => 1 + self.random.below(capacity.min(9)),
+            1..4 => self.draw.random.pick(&[capacity - 1, capacity, capacity + 1]),
+            4 => self.draw.random.below(2 * capacity + 2),
+            5 => self.draw.random.pick(&[4095, 4096, 4097]),
+            _ => 1 + self.draw.random.below(capacity.min(9)),
         }
     }
 
     fn address(&mut self, count: u64) -> u64 {
-        if count == 0 && self.random.percent(30) {
+        if count == 0 && self.draw.random.percent(30) {
             return 0;
         }
-        if !self.is_odd() {
-            return self.hot + self.random.below(24);
+        if !self.draw.is_odd() {
+            return self.hot + self.draw.random.below(24);
         }
-        match self.random.below(8) {
+        match self.draw.random.below(8) {
             0 => 0,
             1 => END.wrapping_sub(count),
             2 => END.wrapping_sub(count).wrapping_add(1),
-            3 => BASE - self.random.below(2),
-            4 => END - self.random.below(3),
+            3 => BASE - self.draw.random.below(2),
+            4 => END - self.draw.random.below(3),
             5 => 0u64.wrapping_sub(count),
-            6 => u64::MAX - self.random.below(16),
-            _ => self.random.pick(&[1, 1 << 32, (1 << 32) + BASE, 1 << 63]),
+            6 => u64::MAX - self.draw.random.below(16),
+            _ => self.draw.random.pick(&[1, 1 << 32, (1 << 32) + BASE, 1 << 63]),
         }
     }
 
     /// Where a count lands: nowhere, over the bytes, or at an edge of memory.
     fn count_at(&mut self, address: u64) -> u64 {
-        if self.is_odd() {
+        if self.draw.is_odd() {
             let edges = [END - 8, END - 7, END - 1, END, BASE, BASE - 1, BASE - 8, 1, 1 << 32];
-            return match self.random.below(3) {
-                0 => u64::MAX - self.random.below(16),
-                _ => self.random.pick(&edges),
+            return match self.draw.random.below(3) {
+                0 => u64::MAX - self.draw.random.below(16),
+                _ => self.draw.random.pick(&edges),
             };
         }
-        match self.random.below(10) {
+        match self.draw.random.below(10) {
             0..6 => 0,
-            6..9 => address.wrapping_add(self.random.below(16)).wrapping_sub(8),
-            _ => self.hot + self.random.below(16),
+            6..9 => address.wrapping_add(self.draw.random.below(16)).wrapping_sub(8),
+            _ => self.hot + self.draw.random.below(16),
         }
-    }
-
-    fn target(&mut self) -> u32 {
-        if self.is_odd() {
-            self.random.pick(&[3, 4, 257, ALL])
-        } else {
-            self.random.pick(&[0, 1, 2])
-        }
-    }
-
-    fn shutdown_options(&mut self) -> u32 {
-        if self.is_odd() {
-            self.random.pick(&[4, 5, 6, 7, 8, 11, 0x100, ALL - 1, ALL])
-        } else {
-            self.random.below(4) as u32
-        }
-    }
-
-    fn threshold(&mut self) -> u64 {
-        let capacity = self.capacity;
-        if self.is_odd() {
-            return self.random.pick(&[capacity + 1, 1 << 32, (1 << 32) + 1, 1 << 63, u64::MAX]);
-        }
-        match self.random.below(4) {
-            0 => self.random.pick(&[0, 1, capacity - 1, capacity]),
-            _ => self.random.below(capacity.min(12) + 1),
-        }
-    }
-
-    fn wait(&mut self, handle: u32) -> Record {
-        let names = [0x1, 0x2, 0x4, 0x10, 0x20, 0x400, 0x800];
-        let mask = match self.random.below(10) {
-            0..5 => self.random.pick(&names),
-            5..8 => self.random.pick(&names) | self.random.pick(&names),
-            8 => self.random.pick(&[0, 0x8, 0xc37, 0xff00_0000, 0x8000_0000, ALL]),
-            _ => self.random.next() as u32,
-        };
-        let key = match self.random.below(4) {
-            0 => self.random.pick(&[0, 1, 1 << 32, u64::MAX]),
-            1 => self.random.next(),
-            _ => self.random.below(100),
-        };
-        let edge = if self.is_odd() { self.random.pick(&[2, 3, 255]) } else { self.random.pick(&[0, 1]) };
-        Record::Wait { handle, key, mask, edge }
     }
 
     fn fill(&mut self) -> Record {
-        let number = match self.random.below(20) {
+        let number = match self.draw.random.below(20) {
             0 => MOST_FILL,
             1 => MOST_FILL - 1,
-            _ => 1 + self.random.below(24) as usize,
+            _ => 1 + self.draw.random.below(24) as usize,
         };
-        let address = if number > 24 { BASE + self.random.below(3) } else { self.address(number as u64) };
-        Record::Fill { address, bytes: self.random.bytes(number) }
+        let address =
+            if number > 24 { BASE + self.draw.random.below(3) } else { self.address(number as u64) };
+        Record::Fill { address, bytes: self.draw.random.bytes(number) }
     }
 
     /// Four scripts in a hundred are damaged somewhere.
     fn perhaps_damaged(&mut self, mut script: Vec<u8>) -> Vec<u8> {
-        if !self.random.percent(4) {
+        if !self.draw.random.percent(4) {
             return script;
         }
         let offsets = offsets(&script);
-        let at = self.random.pick(&offsets);
+        let at = self.draw.random.pick(&offsets);
         let mut again = Vec::new();
-        match self.random.below(6) {
-            0 => script[at] = self.random.pick(&[12, 13, 14, 128, 255]),
-            1 => script[at + 1] = script[at + 1].wrapping_add(self.random.pick(&[1, 255])),
-            2 => script[at + 2] = self.random.pick(&[1, 16, 255]),
-            3 => script.truncate(at + self.random.below(HEAD as u64 + 2) as usize),
+        match self.draw.random.below(6) {
+            0 => script[at] = self.draw.random.pick(&[12, 13, 14, 128, 255]),
+            1 => script[at + 1] = script[at + 1].wrapping_add(self.draw.random.pick(&[1, 255])),
+            2 => script[at + 2] = self.draw.random.pick(&[1, 16, 255]),
+            3 => script.truncate(at + self.draw.random.below(HEAD as u64 + 2) as usize),
             4 => drop(script.drain(..offsets[offsets.len() / 2].min(HEAD + 10))),
             _ => {
                 self.create().encode(&mut again);

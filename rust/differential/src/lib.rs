@@ -4,6 +4,7 @@
 pub mod branches;
 pub mod cases;
 pub mod compare;
+pub mod draw;
 pub mod enumerate;
 pub mod generate;
 pub mod machine;
@@ -12,7 +13,10 @@ pub mod random;
 pub mod record;
 pub mod sample;
 pub mod shrink;
+pub mod sockets;
 pub mod source;
 pub mod stream;
 pub mod tally;
 pub mod text;
+pub mod values;
+pub mod waits;

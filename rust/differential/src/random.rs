@@ -38,4 +38,17 @@ impl Random {
     pub fn bytes(&mut self, number: usize) -> Vec<u8> {
         (0..number).map(|_| self.next() as u8).collect()
     }
+
+    /// One of some choices, each as often as its weight says.
+    pub fn choose<T: Copy>(&mut self, weights: &[(T, u64)]) -> T {
+        let total = weights.iter().map(|(_, weight)| weight).sum();
+        let mut number = self.below(total);
+        for (choice, weight) in weights {
+            if number < *weight {
+                return *choice;
+            }
+            number -= weight;
+        }
+        unreachable!("the number is below the sum of the weights")
+    }
 }

@@ -4,9 +4,9 @@
 use crate::cases::cases;
 use crate::enumerate::{Sequences, Start};
 use crate::generate;
-use crate::machine::PLACES;
 use crate::oracle::listing;
 use crate::record::{script_of, Record, FILL, HEAD, MOST_FILL, SHAPES};
+use crate::waits::PLACES;
 
 /// A random script is stored if it and its listing are at most this long.
 const SHORT: usize = 3000;

@@ -1,29 +1,45 @@
-//! Cuts a script down while it still shows what it is kept for.
+//! Cuts a script, or another list of calls, down while it still shows what it
+//! is kept for.
 
 use crate::record::{join, pieces, Piece, Record, SHAPES};
 
 /// A small script for which `shows` still holds, from one for which it does.
 pub fn shrink(script: &[u8], mut shows: impl FnMut(&[u8]) -> bool) -> Vec<u8> {
-    let mut parts = pieces(script);
+    join(&shrink_list(pieces(script), simpler, |parts| shows(&join(parts))))
+}
+
+/// A small list for which `shows` still holds, from one for which it does.
+/// `simpler` gives what to try in place of a part, the simplest first.
+pub fn shrink_list<T: Clone + PartialEq>(
+    mut parts: Vec<T>,
+    simpler: impl Fn(&T) -> Vec<T>,
+    mut shows: impl FnMut(&[T]) -> bool,
+) -> Vec<T> {
     loop {
-        let size = join(&parts);
+        let before = parts.clone();
         delete(&mut parts, &mut shows);
-        simplify(&mut parts, &mut shows);
-        if join(&parts) == size {
-            return size;
+        simplify(&mut parts, &simpler, &mut shows);
+        if parts == before {
+            return parts;
         }
     }
 }
 
-/// Deletes runs of records, long ones first.
-fn delete(parts: &mut Vec<Piece>, shows: &mut impl FnMut(&[u8]) -> bool) {
+/// Numbers to try in place of one, from the least that is allowed.
+pub fn smaller(value: u64, least: u64) -> impl Iterator<Item = u64> {
+    let steps = [0, 1, 2, 8, value / 2, value.saturating_sub(1)];
+    steps.into_iter().filter(move |step| (least..value).contains(step))
+}
+
+/// Deletes runs of parts, long ones first.
+fn delete<T: Clone>(parts: &mut Vec<T>, shows: &mut impl FnMut(&[T]) -> bool) {
     let mut run = parts.len().div_ceil(2);
     while run > 0 {
         let mut at = parts.len().saturating_sub(run);
         loop {
             let end = (at + run).min(parts.len());
             let fewer = [&parts[..at], &parts[end..]].concat();
-            if at < end && shows(&join(&fewer)) {
+            if at < end && shows(&fewer) {
                 *parts = fewer;
             }
             if at == 0 {
@@ -35,16 +51,21 @@ fn delete(parts: &mut Vec<Piece>, shows: &mut impl FnMut(&[u8]) -> bool) {
     }
 }
 
-/// Makes numbers small and fills short, as far as it goes.
-fn simplify(parts: &mut [Piece], shows: &mut impl FnMut(&[u8]) -> bool) {
+/// Puts simpler parts in the place of others, as far as it goes.
+fn simplify<T: Clone>(
+    parts: &mut [T],
+    simpler: &impl Fn(&T) -> Vec<T>,
+    shows: &mut impl FnMut(&[T]) -> bool,
+) {
     for at in 0..parts.len() {
-        while let Piece::Record(record) = parts[at].clone() {
-            let smaller = simpler(&record).into_iter().find(|simpler| {
-                parts[at] = Piece::Record(simpler.clone());
-                shows(&join(parts))
+        loop {
+            let part = parts[at].clone();
+            let shown = simpler(&part).into_iter().any(|simpler| {
+                parts[at] = simpler;
+                shows(parts)
             });
-            if smaller.is_none() {
-                parts[at] = Piece::Record(record);
+            if !shown {
+                parts[at] = part;
                 break;
             }
         }
@@ -52,21 +73,21 @@ fn simplify(parts: &mut [Piece], shows: &mut impl FnMut(&[u8]) -> bool) {
 }
 
 /// Records with one number, or the bytes, made smaller, smallest first.
-fn simpler(record: &Record) -> Vec<Record> {
+fn simpler(piece: &Piece) -> Vec<Piece> {
+    let Piece::Record(record) = piece else { return Vec::new() };
     let (tag, values, bytes) = record.values();
     let mut records = Vec::new();
     for (place, (name, _)) in SHAPES[tag as usize].fields.iter().enumerate() {
         let least = if *name == "handle" { 1 } else { 0 };
-        let steps = [0, 1, 2, 8, values[place] / 2, values[place].saturating_sub(1)];
-        for value in steps.into_iter().filter(|value| (least..values[place]).contains(value)) {
+        for value in smaller(values[place], least) {
             let mut fewer = values.clone();
             fewer[place] = value;
-            records.push(Record::from_values(tag, &fewer, bytes));
+            records.push(Piece::Record(Record::from_values(tag, &fewer, bytes)));
         }
     }
     for length in [1, bytes.len() / 2, bytes.len() - bytes.len().min(1)] {
         if (1..bytes.len()).contains(&length) {
-            records.push(Record::from_values(tag, &values, &bytes[..length]));
+            records.push(Piece::Record(Record::from_values(tag, &values, &bytes[..length])));
         }
     }
     records

@@ -1,16 +1,21 @@
 //! Lays the original sources and the stand-ins of `beside/` into one module
-//! tree under target/. Originals go in byte for byte, except ipc/socket.rs,
-//! whose constant capacity becomes a function of the pair's capacity.
+//! tree under target/. Originals go in byte for byte. ipc/socket.rs goes in
+//! twice: as it is, and with its constant capacity as a function of the pair's
+//! capacity.
 
 use std::path::{Path, PathBuf};
 use std::{env, fs};
 
+/// The original's sockets.
+const SOCKET: &str = "zircon-object/src/ipc/socket.rs";
+
 /// (place under the source folder, place in the module tree)
-const ORIGINALS: [(&str, &str); 9] = [
+const ORIGINALS: [(&str, &str); 10] = [
     ("zircon-object/src/error.rs", "error.rs"),
     ("zircon-object/src/object/mod.rs", "object/mod.rs"),
     ("zircon-object/src/object/signal.rs", "object/signal.rs"),
     ("zircon-object/src/object/handle.rs", "object/handle.rs"),
+    (SOCKET, "untouched/socket.rs"),
     ("zircon-object/src/signal/port.rs", "signal/port.rs"),
     ("zircon-object/src/signal/port_packet.rs", "signal/port_packet.rs"),
     ("zircon-object/src/task/process.rs", "task/process.rs"),
@@ -42,7 +47,7 @@ fn main() {
     for name in BESIDE {
         lay(tree, name, &read(&Path::new("beside").join(name)));
     }
-    let socket = read(&source.join("zircon-object/src/ipc/socket.rs"));
+    let socket = read(&source.join(SOCKET));
     lay(tree, "ipc/socket.rs", &with_capacity_as_function(&socket));
 }
 

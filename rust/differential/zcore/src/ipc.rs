@@ -1,4 +1,5 @@
-//! The original's sockets.
+//! The original's sockets, with the capacity of `crate::capacity` in place of
+//! their constant.
 
 #[path = "../../target/zcore/ipc/socket.rs"]
 mod socket;

@@ -67,5 +67,6 @@ pub mod ipc;
 pub mod signal;
 pub mod syscall;
 pub mod task;
+pub mod untouched;
 #[path = "../../target/zcore/user_memory.rs"]
 pub(crate) mod user_memory;

@@ -62,6 +62,11 @@ impl UserMemory {
         Ok(self.bytes.borrow()[place].to_vec())
     }
 
+    /// A copy of all of it.
+    pub fn contents(&self) -> Vec<u8> {
+        self.bytes.borrow().clone()
+    }
+
     /// The bytes that the call before delivered, as they were handed out, and
     /// the count it answered, if any. Forgets both.
     pub fn take_notes(&self) -> (Vec<u8>, Option<usize>) {

@@ -1,0 +1,149 @@
+//! The original's port, with the 128 places that document 01 adds, the edge
+//! byte, and taking without blocking.
+
+use crate::values::{signal_of, status, word_of};
+use std::collections::VecDeque;
+use std::future::Future;
+use std::sync::Arc;
+use std::task::{Context, Poll, Waker};
+use zcore::object::{HandleValue, KernelObject};
+use zcore::signal::{PacketSignal, PayloadRepr, Port, PortPacketRepr, WaitAsyncOptions};
+use zcore::ZxError;
+
+/// Places for waits and packets of a pair.
+pub const PLACES: usize = 128;
+
+/// A packet without its key, and where it comes from.
+#[derive(Clone, Copy, Debug, PartialEq)]
+pub struct Fired {
+    /// The end, 0 or 1, of the wait.
+    pub end: usize,
+    /// The number of the wait, in the order of registration.
+    pub wait: u64,
+    /// The number of the call that fired it.
+    pub call: u64,
+    pub trigger: u32,
+    pub observed: u32,
+}
+
+/// The waits and packets of a pair.
+pub struct Waits {
+    port: Arc<Port>,
+    /// Gets the same waits as `port`, with a wait's number and end as the key,
+    /// and is emptied after every call: so the harness knows which waits have
+    /// fired without looking into the port.
+    second: Arc<Port>,
+    waiting: [usize; 2],
+    fired: VecDeque<Fired>,
+    registered: u64,
+    calls: u64,
+}
+
+impl Default for Waits {
+    fn default() -> Self {
+        Waits::new()
+    }
+}
+
+impl Waits {
+    pub fn new() -> Waits {
+        let port = || Port::new(0).expect("a port without options");
+        Waits {
+            port: port(),
+            second: port(),
+            waiting: [0, 0],
+            fired: VecDeque::new(),
+            registered: 0,
+            calls: 0,
+        }
+    }
+
+    /// Registers a wait at an end, 0 or 1, with the handle that names it.
+    pub fn register(
+        &mut self,
+        (end, handle): (usize, HandleValue),
+        object: &Arc<dyn KernelObject>,
+        key: u64,
+        mask: u32,
+        edge: u8,
+    ) -> Result<(), i64> {
+        let options = match edge {
+            0 => WaitAsyncOptions::empty(),
+            1 => WaitAsyncOptions::EDGE,
+            _ => return Err(status(ZxError::INVALID_ARGS)),
+        };
+        if self.used() >= PLACES {
+            return Err(status(ZxError::NO_RESOURCES));
+        }
+        let source = (object.id(), handle);
+        self.port.wait_async(object, source, key, signal_of(mask), options, None);
+        let second_key = 2 * self.registered + end as u64;
+        self.second.wait_async(object, source, second_key, signal_of(mask), options, None);
+        self.registered += 1;
+        self.waiting[end] += 1;
+        Ok(())
+    }
+
+    /// The oldest packet and its key.
+    pub fn take(&mut self) -> Result<(u64, Fired), i64> {
+        let (key, signal) = take_from(&self.port).ok_or(status(ZxError::SHOULD_WAIT))?;
+        assert_eq!((signal.count, signal.timestamp), (1, 0), "packets count 1 at time 0");
+        let oldest = self.fired.pop_front().expect("a packet of a wait that fired");
+        let words = (word_of(signal.trigger), word_of(signal.observed));
+        assert_eq!(words, (oldest.trigger, oldest.observed), "both ports have the same packets");
+        Ok((key, oldest))
+    }
+
+    /// Drops the waits of an end, 0 or 1, that was closed.
+    pub fn end_closed(&mut self, end: usize) {
+        self.waiting[end] = 0;
+    }
+
+    /// Moves the waits that fired during a call from waiting to fired.
+    pub fn count_fired(&mut self) {
+        self.calls += 1;
+        while self.waiting != [0, 0] {
+            let Some((key, signal)) = take_from(&self.second) else { break };
+            let end = key as usize % 2;
+            self.waiting[end] -= 1;
+            self.fired.push_back(Fired {
+                end,
+                wait: key / 2,
+                call: self.calls,
+                trigger: word_of(signal.trigger),
+                observed: word_of(signal.observed),
+            });
+        }
+    }
+
+    /// Waits that have not fired, by end.
+    pub fn waiting(&self) -> [usize; 2] {
+        self.waiting
+    }
+
+    /// Packets that have not been taken, oldest first.
+    pub fn fired(&self) -> impl ExactSizeIterator<Item = Fired> + '_ {
+        self.fired.iter().copied()
+    }
+
+    /// The places in use.
+    fn used(&self) -> usize {
+        self.waiting[0] + self.waiting[1] + self.fired.len()
+    }
+}
+
+/// The oldest packet of a port, if it has one.
+fn take_from(port: &Arc<Port>) -> Option<(u64, PacketSignal)> {
+    let mut future = Box::pin(port.wait());
+    let mut context = Context::from_waker(Waker::noop());
+    match future.as_mut().poll(&mut context) {
+        Poll::Pending => None,
+        Poll::Ready(packet) => {
+            let packet = PortPacketRepr::from(&packet);
+            match packet.data {
+                PayloadRepr::Signal(signal) => Some((packet.key, signal)),
+                other => panic!("a packet that no wait makes: {other:?}"),
+            }
+        }
+    }
+}
