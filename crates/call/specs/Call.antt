@@ -1,4 +1,4 @@
--- The call that a record makes, on the pair and on what the program lends: memory of 4096 bytes at 65536, and the ring and the table of each end.
+-- The call that a record makes, on the pair and on what the program lends: memory at 65536, and the ring and the table of each end.
 -- 01 "Script program", tag and body. A body's fields stand in 01's order.
 use Prim.Native.Nat.{ℕ, _-_}
 use mathlib.Core.Path.{_≡_}
@@ -74,37 +74,47 @@ withPeer false ring table z = rings ring table (z .ring2) (z .table2)
 unfoldable pub stepOf : (p : Pair) → Answer → (q : Pair) → Step
 stepOf p a q = record { pair = pick (isDone a) q p; answer = a }
 
+-- 01 "Script program", tag 0
 unfoldable pub createStep : Rings → (body : List ℕ) → Step
 createStep z b =
     stepOf noPair
     (createAnswer (four b 0) (four b 4) (getD b 8 0) (getD b 9 0) (length (z .ring1)) (length (z .table1)) (length (z .ring2)) (length (z .table2)))
     (newPair (eqb (four b 0) 1) (four b 4) (getD b 8 0) (getD b 9 0))
 
+-- 01 "Script program", tag 3
 unfoldable pub dispositionStep : Pair → (body : List ℕ) → Step
 dispositionStep p b =
     stepOf p (userDisposeAnswer p (four b 0) (four b 4) (four b 8)) (disposed (isOne (four b 0)) (dispositionOf (four b 4)) (dispositionOf (four b 8)) p)
 
+-- 01 "Script program", tag 4
 unfoldable pub shutdownStep : Pair → (body : List ℕ) → Step
 shutdownStep p b = stepOf p (userShutdownAnswer p (four b 0)) (shut (isOne (four b 0)) (shutsRead (four b 4)) (shutsWrite (four b 4)) p)
 
+-- 01 "Script program", tag 5
 unfoldable pub readThresholdStep : Pair → (body : List ℕ) → Step
 readThresholdStep p b = stepOf p (readThresholdAnswer p (four b 0) (eight b 4)) (readThresholdSet (isOne (four b 0)) (eight b 4) p)
 
+-- 01 "Script program", tag 6
 unfoldable pub writeThresholdStep : Pair → (body : List ℕ) → Step
 writeThresholdStep p b = stepOf p (writeThresholdAnswer p (four b 0) (eight b 4)) (writeThresholdSet (isOne (four b 0)) (eight b 4) p)
 
+-- info is lent the own table
 unfoldable pub infoBy : Rings → Pair → (h : ℕ) → Step
 infoBy z p h = stepOf p (infoAnswer p (lentOf (p .datagram) (own (isOne h) p .queue) [] (ownTable (isOne h) z)) h) p
 
+-- 01 "Script program", tag 7
 unfoldable pub infoStep : Rings → Pair → (body : List ℕ) → Step
 infoStep z p b = infoBy z p (four b 0)
 
+-- 01 "Script program", tag 8
 unfoldable pub closeStep : Pair → (body : List ℕ) → Step
 closeStep p b = stepOf p (closeAnswer p (four b 0)) (closed (isOne (four b 0)) p)
 
+-- 01 "Script program", tag 9
 unfoldable pub waitStep : Pair → (body : List ℕ) → Step
 waitStep p b = stepOf p (waitAnswer p (four b 0) (getD b 16 0)) (waited (isOne (four b 0)) (eight b 4) (four b 12) (getD b 16 0) p)
 
+-- 01 "Script program", tag 10
 unfoldable pub takeStep : Pair → Step
 takeStep p = stepOf p (takeAnswer p) (took p)
 

@@ -104,7 +104,7 @@ peerSlices false s = s .one
 abbrev pub withPair : Pair → State → State
 withPair p s = record { pair = p; one = s .one; two = s .two }
 
--- the same, with the slices of the other end put anew
+-- the same, with the slices of the other end replaced
 abbrev pub withPeer : Bool → Pair → Slices → State → State
 withPeer true p l s = record { pair = p; one = s .one; two = l }
 withPeer false p l s = record { pair = p; one = l; two = s .two }

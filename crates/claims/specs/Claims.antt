@@ -13,7 +13,7 @@ use Rattle.claims.specs.Lends.{LentSlices}
 pub record Claims : Type 0 where
   -- 01 "Two runs": any list of calls, run twice
   pub twoRuns : TwoRuns
-  -- and that this is said of something: every list of calls has a run, an example
+  -- every list of calls has a run, so that the claims about runs are not empty; and an example
   pub runsExist : RunsExist
   pub example : Differ
   -- 01 "Status and answer word": a refused call changes nothing, and no run leaves a record on which a call is INTERNAL

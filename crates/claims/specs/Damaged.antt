@@ -27,10 +27,11 @@ abbrev pub pair : (datagram : Bool) → (C packets waits : ℕ) → (one two : E
 pair dg C packets waits one two =
     record { datagram = dg; capacity = C; one = one; two = two; places = record { packets = packets; waits = waits; table = replicate 128 free } }
 
--- a ring, and a table whose entry 7 is the first length where it starts at 7
+-- a ring of so many bytes, and a table
 abbrev pub slices : (ring : ℕ) → (table : List ℕ) → Slices
 slices ring table = record { ring = replicate ring 0; table = table }
 
+-- a table whose entry 7 is the first length where it starts at 7
 abbrev pub first : ℕ → List ℕ
 first n = 5 ∷ 5 ∷ 5 ∷ 5 ∷ 5 ∷ 5 ∷ 5 ∷ n ∷ []
 

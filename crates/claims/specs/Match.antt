@@ -21,7 +21,7 @@ pub record RunMatches (c : Create) (one two : Slices) (is : List Input) (x : See
 abbrev pub RunsMatch : Type 0
 RunsMatch = (c : Create) (one two : Slices) (is : List Input) (x : Seen) (os : List Outcome) → Run c one two is x os → RunMatches c one two is x os
 
--- so that what is said of runs is said of something
+-- every list of calls has a run, so that the claims about runs are not empty
 abbrev pub RunsExist : Type 0
 RunsExist =
     (c : Create) (one two : Slices) (is : List Input)

@@ -68,7 +68,8 @@ shrunk dg k l = pick dg (drop 1 l) (drop k (flat l) ∷ [])
 unfoldable pub removed : (datagram t peek : Bool) → (k : ℕ) → Lines → Lines
 removed dg t peek k ln = pick peek ln (pick (eqb k 0) ln (withOwn t (shrunk dg k (ownLine t ln)) ln))
 
--- the lines after call w and its answer. Writes, reads and close change them, and no refused call does: its count is 0.
+-- the lines after call w and its answer. Writes, reads and close change them, and no refused call does: its count
+-- is 0, and a close counts only if it is done.
 unfoldable pub linesAfter : (datagram : Bool) → (w : ℕ) → Call → Answer → Lines → Lines
 linesAfter dg w (write h o a n at) r ln = added (isOne h) w (countOf r) ln
 linesAfter dg w (read h o a n at) r ln = removed dg (isOne h) (isPeek o) (countOf r) ln

@@ -23,7 +23,8 @@ use Rattle.syscall.specs.Read.{BytesRead, UserRead}
 use Rattle.syscall.specs.Control.{dispositionOf, userDisposeAnswer, shutsRead, shutsWrite, userShutdownAnswer}
 use Rattle.claims.specs.Calls.{Create, setDisposition, shutdown, plainDisposition, plainShutdown, setReadThreshold, setWriteThreshold, getThresholds, getInfo, wait, takePacket, write, read, plainWrite, plainRead, close, control, Input, input, Slices, State, state, ownSlices, peerSlices, withPair, withPeer, Seen, seenOf, Outcome, gives}
 
--- One call on a state gives a state and an outcome. Each case has what one function ensures. A write is lent the peer's slices, a read its
+-- One call on a state gives a state and an outcome. Each case has what one function ensures; a read over user memory has two,
+-- `read_bytes` for its bytes and `read` for the whole. A write is lent the peer's slices, a read its
 -- own. A read over user memory lands its bytes and then its count: `landed` is its memory between the two, and the bytes that it delivers are
 -- read there, from its address on; those of a plain read in its buffer.
 pub data Does (s : State) : Input → State → Outcome → Type 0 where

@@ -21,7 +21,7 @@ use Rattle.control.specs.Signal.{changedEnd, firstOnly}
 unfoldable pub closeVisit : Bool → (word : ℕ) → Pending
 closeVisit t w = record { one = t; word = w; clear = WRITABLE; set = «PEER_CLOSED» }
 
--- the end's queue vanishes; an open peer is told
+-- the end's queue vanishes; an open peer loses WRITABLE and gains PEER_CLOSED
 unfoldable pub closeMoved : Bool → (own peer : Endpoint) → Moved
 closeMoved t a b =
     let first = closeVisit (not t) (b .signals) in

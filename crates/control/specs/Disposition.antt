@@ -46,11 +46,13 @@ peerDisposed t a b off =
       visits = record { first = first; second = second };
     })
 
+-- own target: none, disable or enable
 unfoldable pub ownMoved : Bool → (own peer : Endpoint) → Disposition → Moved
 ownMoved t a b Unchanged = keptEnds a b
 ownMoved t a b Disable = ownDisposed t a b true
 ownMoved t a b Enable = ownDisposed t a b false
 
+-- peer target: none, disable or enable
 unfoldable pub peerMoved : Bool → (own peer : Endpoint) → Disposition → Moved
 peerMoved t a b Unchanged = keptEnds a b
 peerMoved t a b Disable = peerDisposed t a b true

@@ -40,5 +40,6 @@ shutMoved t a b read write =
       visits = record { first = first; second = shutVisit (not t) (b .signals) (not read) (not write) };
     })
 
+-- the outcome by the answer: a refused call changes nothing
 unfoldable pub shutEnds : Ends → (h : ℕ) → (read write : Bool) → Outcome
 shutEnds e h read write = movedIf e h (openingTest e h) (shutMoved (isOne h) (own (isOne h) e) (peer (isOne h) e) read write)

@@ -24,9 +24,11 @@ writeThresholdMoved C t a b n =
     let first = bitVisit t (a .signals) (reached n (C - b .queue .bytes .count)) «WRITE_THRESHOLD» in
     firstOnly (changedEnd first (withThresholds (record { read = a .thresholds .read; write = n }) a)) b first
 
+-- the outcome of setting the read threshold, by the answer
 unfoldable pub readThresholdEnds : Ends → (h n : ℕ) → Outcome
 readThresholdEnds e h n = movedIf e h (readThresholdAnswer e h n) (readThresholdMoved (isOne h) (own (isOne h) e) (peer (isOne h) e) n)
 
+-- the outcome of setting the write threshold, by the answer
 unfoldable pub writeThresholdEnds : Ends → (h n : ℕ) → Outcome
 writeThresholdEnds e h n =
     movedIf e h (writeThresholdAnswer e h n) (writeThresholdMoved (e .capacity) (isOne h) (own (isOne h) e) (peer (isOne h) e) n)

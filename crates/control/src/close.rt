@@ -11,7 +11,7 @@ use status::Answer;
 ghost use mathlib.Core.Path.{_≡_};
 ghost use Rattle.control.specs.Close.{closeVisit, closeMoved, closeOutcome, closeEnds};
 
-// What an open peer is told.
+// The change of an open peer: it loses WRITABLE and gains PEER_CLOSED.
 fn close_visit(one: bool, word: u32) -> Pending
     ensures { λ r. ⌜ r ≡ closeVisit one word ⌝ }
 {
@@ -43,7 +43,7 @@ fn close_outcome(waits: usize, one: bool, answer: Answer, moved: Moved) -> Outco
     r
 }
 
-// Closes an end: its queue is gone, and an open peer is told.
+// Closes an end: its queue is gone, and an open peer gains PEER_CLOSED.
 pub fn close_ends(e: Ends, handle: u32) -> Outcome
     ensures { λ r. ⌜ r ≡ closeEnds e handle ⌝ }
 {

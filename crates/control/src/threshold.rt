@@ -14,7 +14,7 @@ ghost use Rattle.endpoint.specs.Endpoint.{withThresholds};
 ghost use Rattle.control.specs.Signal.{bitVisit, changedEnd, firstOnly};
 ghost use Rattle.control.specs.Threshold.{readThresholdMoved, writeThresholdMoved, readThresholdEnds, writeThresholdEnds};
 
-// This end with its thresholds put anew, and the bit of the one that changed.
+// This end with its thresholds replaced, and the bit of the one that changed.
 fn thresholds_moved(
     one: bool,
     own: Endpoint,

@@ -16,10 +16,12 @@ isOne h = eqb h 1
 unfoldable pub isHandle : ℕ → Bool
 isHandle h = eqb h 1 or eqb h 2
 
+-- the caller's end, and its peer; an end is named by a Bool, true for end 1
 abbrev pub own : Bool → Ends → Endpoint
 own true e = e .one
 own false e = e .two
 
+-- the other end
 abbrev pub peer : Bool → Ends → Endpoint
 peer true e = e .two
 peer false e = e .one

@@ -67,9 +67,11 @@ addedText (Refused s) bs = []
 unfoldable pub frontText : (number : ℕ) → Answer → List ℕ
 frontText number a = decimalOf number ++ (32 ∷ wordOf a ++ (32 ∷ []))
 
+-- both signal words
 unfoldable pub signalsText : (one two : SignalWord) → List ℕ
 signalsText one two = signalText one ++ (32 ∷ signalText two)
 
+-- 01 "Script program", line: the number, the word, both signal words, what the call adds, a newline
 unfoldable pub lineOf : (number : ℕ) → Answer → (one two : SignalWord) → (delivered : List ℕ) → List ℕ
 lineOf number a one two bs = frontText number a ++ (signalsText one two ++ (addedText a bs ++ (10 ∷ [])))
 

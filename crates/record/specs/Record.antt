@@ -9,15 +9,12 @@ use Rattle.record.specs.declared.Decoded.{Decoded}
 use Rattle.record.specs.declared.Decoded.the-variants.{Whole, Bad, Cut}
 use Rattle.record.specs.Fields.{two}
 
--- the tags
+-- the tags that a definition names
 abbrev pub CREATE : ℕ
 CREATE = 0
 
 abbrev pub READ : ℕ
 READ = 2
-
-abbrev pub FILL : ℕ
-FILL = 11
 
 -- whether a body of n bytes is right for a tag: 0 create; 1 write, 2 read; 3 disposition; 4 shutdown; 5 read and 6 write threshold; 7 info,
 -- 8 close; 9 wait; 10 take; 11 fill, with 1 to 4096 bytes behind its address. No body is right for a tag of 12 or more.

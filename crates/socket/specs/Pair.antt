@@ -31,18 +31,20 @@ endsOf p =
       two = p .two;
     }
 
+-- the end named by t, true for end 1
 abbrev pub own : Bool → Pair → Endpoint
 own t p = E.own t (endsOf p)
 
+-- the other end
 abbrev pub peer : Bool → Pair → Endpoint
 peer t p = E.peer t (endsOf p)
 
--- the pair with one end put anew
+-- the pair with one end replaced
 unfoldable pub withEnd : Bool → Endpoint → Pair → Pair
 withEnd true e p = record { datagram = p .datagram; capacity = p .capacity; one = e; two = p .two; places = p .places }
 withEnd false e p = record { datagram = p .datagram; capacity = p .capacity; one = p .one; two = e; places = p .places }
 
--- the pair with its places put anew
+-- the pair with its places replaced
 unfoldable pub withPlaces : Places → Pair → Pair
 withPlaces ts p = record { datagram = p .datagram; capacity = p .capacity; one = p .one; two = p .two; places = ts }
 

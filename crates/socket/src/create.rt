@@ -33,7 +33,7 @@ fn datagram_if(made: bool, datagram: bool) -> bool
     false
 }
 
-// A new pair, or the record of a refused create. Both are put together on one way, so that the compiler fills the table where it is to stand.
+// A new pair, or the record of a refused create. Both are put together by the same statements, so that the compiler fills the table where it is to stand.
 fn pair_if(made: bool, datagram: bool, capacity: u32, rights_one: u32, rights_two: u32) -> Pair
     ensures { λ r. ⌜ r ≡ pick made (newPair datagram capacity «rights_one» «rights_two») noPair ⌝ }
 {

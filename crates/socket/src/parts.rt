@@ -35,7 +35,7 @@ pub fn own(p: Pair, one: bool) -> Endpoint
     e
 }
 
-// The pair with its places put anew, assembled from its parts, so that the compiler leaves those in place that stay.
+// The pair with its places replaced, assembled from its parts, so that the compiler leaves those in place that stay.
 pub fn with_places(p: Pair, places: Places) -> Pair
     ensures { λ r. ⌜ r ≡ withPlaces places p ⌝ }
 {

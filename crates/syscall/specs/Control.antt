@@ -16,7 +16,7 @@ use Rattle.socket.specs.Tests.{soundTest}
 use Rattle.syscall.specs.Lookup.{RIGHT-WRITE, RIGHT-MANAGE, lookup}
 
 -- 01 "Delivered bytes", disposition: 0 leaves an end's writing unchanged, 1 disables it, 2 enables it. `userDisposeAnswer` refuses numbers above
--- 2; the host's plain call, which 01 gives an enum, takes them as 0.
+-- 2. The host's plain call has no −10 (docs/DECISIONS.md): it takes them as 0.
 unfoldable pub dispositionOf : ℕ → Disposition
 dispositionOf n = pick (eqb n 1) Disable (pick (eqb n 2) Enable Unchanged)
 

@@ -214,14 +214,19 @@ fn strange_records_go_on_by_the_ordinary_rules() {
 #[test]
 fn create_refuses_wrong_numbers_and_short_slices() {
     let (ring, table) = (&[0u8; 9][..], &[0u32; 9][..]);
+    let mut live = Pair::UNMADE;
+    assert_eq!(raw::create(&mut live, 1, 5, [3, 7], [ring; 2], [table; 2]), 0);
+    assert_eq!(raw::wait(&mut live, 2, 7, 1, 0), 0);
     let create = |kind, capacity, rights, rings: [usize; 2], tables: [usize; 2]| {
-        let mut pair = Pair::UNMADE;
-        let rings = rings.map(|len| &ring[..len]);
-        let word = raw::create(&mut pair, kind, capacity, rights, rings, tables.map(|len| &table[..len]));
-        if word != 0 {
-            assert_eq!(pair, Pair::UNMADE, "a refused create leaves a record of no pair");
-        }
-        word
+        let (rings, tables) = (rings.map(|len| &ring[..len]), tables.map(|len| &table[..len]));
+        let words = [Pair::UNMADE, live].map(|before| {
+            let mut pair = before;
+            let word = raw::create(&mut pair, kind, capacity, rights, rings, tables);
+            assert_eq!(pair == before, word != 0, "a refused create leaves the record as it was");
+            word
+        });
+        assert_eq!(words[0], words[1], "what the record held does not matter");
+        words[0]
     };
     assert_eq!(create(1, 8, [7, 7], [8, 9], [9, 8]), 0);
     assert_eq!(create(0, 8, [0, 0], [8, 8], [0, 0]), 0, "a stream has no tables");

@@ -307,9 +307,9 @@ impl Model {
         Ok(0)
     }
 
-    /// The signal word, -1 for a closed end and for a handle that is none.
+    /// The signal word, -11 for a closed end and for a handle that is none.
     pub fn signal(&self, handle: u32) -> i64 {
-        self.open_end(handle).map_or(-1, |end| self.ends[end].word.into())
+        self.open_end(handle).map_or(-11, |end| self.ends[end].word.into())
     }
 }
 

@@ -143,7 +143,7 @@ impl Sides {
         self.theirs.tables[end][at]
     }
 
-    /// The signal word of each end by the host, -1 for a closed one.
+    /// The signal word of each end by the host, -11 for a closed one.
     pub fn signals(&mut self) -> [i64; 2] {
         [1, 2].map(|handle| raw::signal(&mut self.kept[1], handle))
     }
