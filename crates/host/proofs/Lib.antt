@@ -1,3 +1,2 @@
 pub mod Recorded
-pub mod Stored
 pub mod Callees

@@ -17,7 +17,6 @@ ghost use Rattle.host.specs.Host.{Answered, signalNumber};
 
 mod memory;
 mod records;
-mod store;
 mod values;
 
 // A new pair over the rings and tables of its two ends, of which it looks at the lengths. Where the call is refused, the record stays as it is.
@@ -45,7 +44,7 @@ pub extern "C" fn murgwethan_create(
         ring_two,
         table_two,
     );
-    store::create(p, a, kind, capacity, rights_one, rights_two)
+    kept_pair::create(p, a, kind, capacity, rights_one, rights_two)
 }
 
 // Writes to the peer's queue. The ring and the table are the peer's.
@@ -60,7 +59,7 @@ pub extern "C" fn murgwethan_write(
     ensures { λ w. ⌜ Answered (Wrote (now (p .entry)) handle (now (bytes .entry)) (now (ring .entry)) (now (ring .exit)) (now (table .entry)) (now (table .exit))) (now (p .exit)) w ⌝ }
 {
     let r = transfer::write_ends(socket::ends_of(*p), handle, ring, table, bytes);
-    store::outcome(p, r)
+    kept_pair::outcome(p, r)
 }
 
 // Reads the front of the own queue into the buffer. The ring and the table are the reader's. A peek leaves the bytes in the queue.
@@ -76,7 +75,7 @@ pub extern "C" fn murgwethan_read(
     ensures { λ w. ⌜ Answered (Read (now (p .entry)) handle peek (now (ring .entry)) (now (table .entry)) (now (buffer .entry)) (now (buffer .exit))) (now (p .exit)) w ⌝ }
 {
     let r = transfer::read_ends(socket::ends_of(*p), handle, peek, ring, table, buffer);
-    store::outcome(p, r)
+    kept_pair::outcome(p, r)
 }
 
 // Disables or enables the writing of an end and of its peer: 1 disables, 2 enables, any other number changes nothing. No right is asked.
@@ -90,7 +89,7 @@ pub extern "C" fn murgwethan_set_disposition(
     ensures { λ w. ⌜ Answered (Steps (now (p .entry)) (disposeAnswer (now (p .entry)) handle (dispositionOf disposition) (dispositionOf «peer_disposition»)) (disposed (isOne handle) (dispositionOf disposition) (dispositionOf «peer_disposition») (now (p .entry)))) (now (p .exit)) w ⌝ }
 {
     let r = values::dispose_ends(socket::ends_of(*p), handle, disposition, peer_disposition);
-    store::outcome(p, r)
+    kept_pair::outcome(p, r)
 }
 
 #[no_mangle]
@@ -98,7 +97,7 @@ pub extern "C" fn murgwethan_shutdown(p: &mut Pair, handle: u32, read: bool, wri
     ensures { λ w. ⌜ Answered (Steps (now (p .entry)) (shutdownAnswer (now (p .entry)) handle) (shut (isOne handle) read write (now (p .entry)))) (now (p .exit)) w ⌝ }
 {
     let r = control::shutdown_ends(socket::ends_of(*p), handle, read, write);
-    store::outcome(p, r)
+    kept_pair::outcome(p, r)
 }
 
 #[no_mangle]
@@ -106,7 +105,7 @@ pub extern "C" fn murgwethan_set_read_threshold(p: &mut Pair, handle: u32, thres
     ensures { λ w. ⌜ Answered (Steps (now (p .entry)) (readThresholdAnswer (now (p .entry)) handle threshold) (readThresholdSet (isOne handle) threshold (now (p .entry)))) (now (p .exit)) w ⌝ }
 {
     let r = control::read_threshold_ends(socket::ends_of(*p), handle, threshold);
-    store::outcome(p, r)
+    kept_pair::outcome(p, r)
 }
 
 #[no_mangle]
@@ -114,7 +113,7 @@ pub extern "C" fn murgwethan_set_write_threshold(p: &mut Pair, handle: u32, thre
     ensures { λ w. ⌜ Answered (Steps (now (p .entry)) (writeThresholdAnswer (now (p .entry)) handle threshold) (writeThresholdSet (isOne handle) threshold (now (p .entry)))) (now (p .exit)) w ⌝ }
 {
     let r = control::write_threshold_ends(socket::ends_of(*p), handle, threshold);
-    store::outcome(p, r)
+    kept_pair::outcome(p, r)
 }
 
 // Registers a wait of an end: tested at once against the present word unless edge is 1.
@@ -123,7 +122,7 @@ pub extern "C" fn murgwethan_wait(p: &mut Pair, handle: u32, key: u64, mask: u32
     ensures { λ w. ⌜ Answered (Steps (now (p .entry)) (waitAnswer (now (p .entry)) handle edge) (waited (isOne handle) key mask edge (now (p .entry)))) (now (p .exit)) w ⌝ }
 {
     let a = ends::wait_answer(socket::ends_of(*p), handle, edge);
-    store::wait(p, a, handle, key, mask, edge)
+    kept_pair::wait(p, a, handle, key, mask, edge)
 }
 
 #[no_mangle]
@@ -131,7 +130,7 @@ pub extern "C" fn murgwethan_close(p: &mut Pair, handle: u32) -> i64
     ensures { λ w. ⌜ Answered (Steps (now (p .entry)) (closeAnswer (now (p .entry)) handle) (closed (isOne handle) (now (p .entry)))) (now (p .exit)) w ⌝ }
 {
     let r = control::close_ends(socket::ends_of(*p), handle);
-    store::close(p, handle, r)
+    kept_pair::close(p, handle, r)
 }
 
 // The signal word that an end shows; −11 for a closed end and for another handle.

@@ -1,5 +1,4 @@
 // The calls over user memory: one slice that the caller lends, at a 64-bit base.
-use crate::store;
 use socket::Pair;
 ghost use Rattle.socket.specs.Pair.{isOne};
 ghost use Rattle.socket.specs.Tests.{Steps};
@@ -37,7 +36,7 @@ pub extern "C" fn murgwethan_user_write(
         ring,
         table,
     );
-    store::outcome(p, r)
+    kept_pair::outcome(p, r)
 }
 
 // Reads the front of the own queue into user memory, then lands the count over the bytes. Option 8 is a peek.
@@ -68,7 +67,7 @@ pub extern "C" fn murgwethan_user_read(
         ring,
         table,
     );
-    store::outcome(p, r)
+    kept_pair::outcome(p, r)
 }
 
 // Disables or enables the writing of an end and of its peer, by numbers from 0 to 2.
@@ -82,7 +81,7 @@ pub extern "C" fn murgwethan_user_set_disposition(
     ensures { λ w. ⌜ Answered (Steps (now (p .entry)) (userDisposeAnswer (now (p .entry)) handle disposition «peer_disposition») (disposed (isOne handle) (dispositionOf disposition) (dispositionOf «peer_disposition») (now (p .entry)))) (now (p .exit)) w ⌝ }
 {
     let r = syscall::dispose_ends(socket::ends_of(*p), handle, disposition, peer_disposition);
-    store::outcome(p, r)
+    kept_pair::outcome(p, r)
 }
 
 // Prevents reading or writing by the end of a handle: bit 0x1 of the options is write, 0x2 read.
@@ -91,5 +90,5 @@ pub extern "C" fn murgwethan_user_shutdown(p: &mut Pair, handle: u32, options: u
     ensures { λ w. ⌜ Answered (Steps (now (p .entry)) (userShutdownAnswer (now (p .entry)) handle) (shut (isOne handle) (shutsRead options) (shutsWrite options) (now (p .entry)))) (now (p .exit)) w ⌝ }
 {
     let r = syscall::shutdown_ends(socket::ends_of(*p), handle, options);
-    store::outcome(p, r)
+    kept_pair::outcome(p, r)
 }

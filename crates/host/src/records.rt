@@ -1,5 +1,4 @@
 // The calls whose record goes to an array that the caller lends. A refused call leaves the array as it is.
-use crate::store;
 use crate::values;
 use socket::Pair;
 ghost use mathlib.Core.Path.{_≡_};
@@ -41,5 +40,5 @@ pub extern "C" fn murgwethan_take(p: &mut Pair, out: &mut [u64; 5]) -> i64
     ensures { λ w. ⌜ Answered (Recorded packetNumbers (now (p .entry)) (takeAnswer (now (p .entry))) (took (now (p .entry))) (now (out .entry)) (now (out .exit))) (now (p .exit)) w ⌝ }
 {
     let a = values::take_answer(*p, out);
-    store::take(p, a)
+    kept_pair::take(p, a)
 }

@@ -17,24 +17,8 @@ ghost use Rattle.socket.specs.Wait.{takeAnswer};
 ghost use Rattle.ends.specs.Create.{createAnswer};
 ghost use lib.ListN.{length};
 ghost use Rattle.syscall.specs.Control.{dispositionOf};
-ghost use Rattle.status.specs.Answer.{answerWord};
 ghost use Rattle.host.specs.Host.{signalNumber};
 ghost use Rattle.host.specs.Records.{thresholdNumbers, infoNumbers, packetNumbers, arrayOf, Recorded};
-
-// The word of an outcome's answer.
-pub fn word(r: Outcome) -> i64
-    ensures { λ w. ⌜ w ≡ answerWord (r .answer) ⌝ }
-{
-    let a = r.answer;
-    status::word(a)
-}
-
-// Whether the waits are to be looked at.
-pub fn fires(r: Outcome) -> bool
-    ensures { λ f. ⌜ f ≡ r .fires ⌝ }
-{
-    r.fires
-}
 
 // What a number asks for an end's writing.
 fn disposition_of(n: u32) -> Disposition

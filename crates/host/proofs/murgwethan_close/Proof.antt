@@ -57,7 +57,7 @@ use Rattle.socket.specs.Deferred.{settledClose}
 use Rattle.host.specs.Host.{Answered}
 use Rattle.socket.specs.Tests.{Steps}
 use Rattle.socket.proofs.Visiting.{places-128}
-use Rattle.host.proofs.Stored.{closed-as}
+use Rattle.kept_pair.proofs.Stored.{closed-as}
 use Rattle.socket.specs.Wait.{closeAnswer, closed}
 use Rattle.socket.proofs.Closed.{close-whole}
 use Rattle.socket.proofs.ends_of as ends
@@ -68,10 +68,10 @@ use Rattle.control.proofs.close_ends as close-ends
 use Rattle.control.proofs.close_ends.Symbol as close-ends-def
 use Rattle.control.proofs.close_ends.Symbol.{name as #close-ends}
 use Rattle.control.proofs.close_ends.Met as close-ends-thm
-use Rattle.host.proofs.store.close as close
-use Rattle.host.proofs.store.close.Symbol as close-def
-use Rattle.host.proofs.store.close.Symbol.{name as #close}
-use Rattle.host.proofs.store.close.Met as close-thm
+use Rattle.kept_pair.proofs.close as close
+use Rattle.kept_pair.proofs.close.Symbol as close-def
+use Rattle.kept_pair.proofs.close.Symbol.{name as #close}
+use Rattle.kept_pair.proofs.close.Met as close-thm
 use Rattle.host.proofs.murgwethan_close.Key.{name as #own}
 use Rattle.host.proofs.murgwethan_close as f
 use Rattle.host.proofs.murgwethan_close.Statement as stated
@@ -146,4 +146,4 @@ murgwethan-close-spec 𝓤 H 𝓜 𝓖 𝓡 =
     (meets 𝓤 H (𝓖 .A) (givenOf 𝓤 H 𝓜 𝓖) (𝓜 .mem) (𝓡 .run) (tablesOf 𝓤 H 𝓜 (tables 𝓤 H 𝓜 𝓡 code.env))
     (cited 𝓤 H (ends-contract 𝓤 H (𝓖 .A) (𝓜 .mem) (𝓡 .run)) 𝓜 𝓡 code.env #ends ends-def.routine code.calls-socket·ends-of (ends-thm.met 𝓤 H 𝓜 𝓖 𝓡))
     (cited 𝓤 H (close-ends-contract 𝓤 H (𝓖 .A) (𝓜 .mem) (𝓡 .run)) 𝓜 𝓡 code.env #close-ends close-ends-def.routine code.calls-control·close-ends (close-ends-thm.met 𝓤 H 𝓜 𝓖 𝓡))
-    (cited 𝓤 H (close-contract 𝓤 H (𝓖 .A) (𝓜 .mem) (𝓡 .run)) 𝓜 𝓡 code.env #close close-def.routine code.calls-host·store·close (close-thm.met 𝓤 H 𝓜 𝓖 𝓡)))
+    (cited 𝓤 H (close-contract 𝓤 H (𝓖 .A) (𝓜 .mem) (𝓡 .run)) 𝓜 𝓡 code.env #close close-def.routine code.calls-kept-pair·close (close-thm.met 𝓤 H 𝓜 𝓖 𝓡)))

@@ -59,7 +59,7 @@ use Rattle.socket.specs.Pair.{own, endsOf}
 use Rattle.socket.specs.Deferred.{settled}
 use Rattle.host.specs.Host.{Answered}
 use Rattle.socket.proofs.Visiting.{places-128}
-use Rattle.host.proofs.Stored.{settled-as}
+use Rattle.kept_pair.proofs.Stored.{settled-as}
 use Rattle.transfer.specs.Read.{EndsRead}
 use Rattle.socket.specs.Read.{Read}
 use Rattle.socket.proofs.Settled.{read-whole}
@@ -71,10 +71,10 @@ use Rattle.socket.proofs.ends_of as ends
 use Rattle.socket.proofs.ends_of.Symbol as ends-def
 use Rattle.socket.proofs.ends_of.Symbol.{name as #ends}
 use Rattle.socket.proofs.ends_of.Met as ends-thm
-use Rattle.host.proofs.store.outcome as outcome
-use Rattle.host.proofs.store.outcome.Symbol as outcome-def
-use Rattle.host.proofs.store.outcome.Symbol.{name as #outcome}
-use Rattle.host.proofs.store.outcome.Met as outcome-thm
+use Rattle.kept_pair.proofs.outcome as outcome
+use Rattle.kept_pair.proofs.outcome.Symbol as outcome-def
+use Rattle.kept_pair.proofs.outcome.Symbol.{name as #outcome}
+use Rattle.kept_pair.proofs.outcome.Met as outcome-thm
 use Rattle.host.proofs.murgwethan_read.Key.{name as #own}
 use Rattle.host.proofs.murgwethan_read as f
 use Rattle.host.proofs.murgwethan_read.Statement as stated
@@ -183,4 +183,4 @@ murgwethan-read-spec 𝓤 H 𝓜 𝓖 𝓡 =
     (meets 𝓤 H (𝓖 .A) (givenOf 𝓤 H 𝓜 𝓖) (𝓜 .mem) (𝓡 .run) (tablesOf 𝓤 H 𝓜 (tables 𝓤 H 𝓜 𝓡 code.env))
     (cited 𝓤 H (Called 𝓤 H (𝓖 .A) (𝓜 .mem) (𝓡 .run)) 𝓜 𝓡 code.env #step step-def.routine code.calls-transfer·read-ends (step-thm.met 𝓤 H 𝓜 𝓖 𝓡))
     (cited 𝓤 H (ends-contract 𝓤 H (𝓖 .A) (𝓜 .mem) (𝓡 .run)) 𝓜 𝓡 code.env #ends ends-def.routine code.calls-socket·ends-of (ends-thm.met 𝓤 H 𝓜 𝓖 𝓡))
-    (cited 𝓤 H (outcome-contract 𝓤 H (𝓖 .A) (𝓜 .mem) (𝓡 .run)) 𝓜 𝓡 code.env #outcome outcome-def.routine code.calls-host·store·outcome (outcome-thm.met 𝓤 H 𝓜 𝓖 𝓡)))
+    (cited 𝓤 H (outcome-contract 𝓤 H (𝓖 .A) (𝓜 .mem) (𝓡 .run)) 𝓜 𝓡 code.env #outcome outcome-def.routine code.calls-kept-pair·outcome (outcome-thm.met 𝓤 H 𝓜 𝓖 𝓡)))

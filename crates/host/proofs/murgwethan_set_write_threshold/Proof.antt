@@ -57,7 +57,7 @@ use Rattle.socket.specs.Deferred.{settled}
 use Rattle.host.specs.Host.{Answered}
 use Rattle.socket.specs.Tests.{Steps}
 use Rattle.socket.proofs.Visiting.{places-128}
-use Rattle.host.proofs.Stored.{settled-as}
+use Rattle.kept_pair.proofs.Stored.{settled-as}
 use Rattle.socket.specs.Threshold.{writeThresholdAnswer, writeThresholdSet}
 use Rattle.socket.proofs.Settled.{write-threshold-whole}
 use Rattle.socket.proofs.ends_of as ends
@@ -68,10 +68,10 @@ use Rattle.control.proofs.write_threshold_ends as write-threshold-ends
 use Rattle.control.proofs.write_threshold_ends.Symbol as write-threshold-ends-def
 use Rattle.control.proofs.write_threshold_ends.Symbol.{name as #write-threshold-ends}
 use Rattle.control.proofs.write_threshold_ends.Met as write-threshold-ends-thm
-use Rattle.host.proofs.store.outcome as outcome
-use Rattle.host.proofs.store.outcome.Symbol as outcome-def
-use Rattle.host.proofs.store.outcome.Symbol.{name as #outcome}
-use Rattle.host.proofs.store.outcome.Met as outcome-thm
+use Rattle.kept_pair.proofs.outcome as outcome
+use Rattle.kept_pair.proofs.outcome.Symbol as outcome-def
+use Rattle.kept_pair.proofs.outcome.Symbol.{name as #outcome}
+use Rattle.kept_pair.proofs.outcome.Met as outcome-thm
 use Rattle.host.proofs.murgwethan_set_write_threshold.Key.{name as #own}
 use Rattle.host.proofs.murgwethan_set_write_threshold as f
 use Rattle.host.proofs.murgwethan_set_write_threshold.Statement as stated
@@ -146,4 +146,4 @@ murgwethan-set-write-threshold-spec 𝓤 H 𝓜 𝓖 𝓡 =
     (meets 𝓤 H (𝓖 .A) (givenOf 𝓤 H 𝓜 𝓖) (𝓜 .mem) (𝓡 .run) (tablesOf 𝓤 H 𝓜 (tables 𝓤 H 𝓜 𝓡 code.env))
     (cited 𝓤 H (ends-contract 𝓤 H (𝓖 .A) (𝓜 .mem) (𝓡 .run)) 𝓜 𝓡 code.env #ends ends-def.routine code.calls-socket·ends-of (ends-thm.met 𝓤 H 𝓜 𝓖 𝓡))
     (cited 𝓤 H (write-threshold-ends-contract 𝓤 H (𝓖 .A) (𝓜 .mem) (𝓡 .run)) 𝓜 𝓡 code.env #write-threshold-ends write-threshold-ends-def.routine code.calls-control·write-threshold-ends (write-threshold-ends-thm.met 𝓤 H 𝓜 𝓖 𝓡))
-    (cited 𝓤 H (outcome-contract 𝓤 H (𝓖 .A) (𝓜 .mem) (𝓡 .run)) 𝓜 𝓡 code.env #outcome outcome-def.routine code.calls-host·store·outcome (outcome-thm.met 𝓤 H 𝓜 𝓖 𝓡)))
+    (cited 𝓤 H (outcome-contract 𝓤 H (𝓖 .A) (𝓜 .mem) (𝓡 .run)) 𝓜 𝓡 code.env #outcome outcome-def.routine code.calls-kept-pair·outcome (outcome-thm.met 𝓤 H 𝓜 𝓖 𝓡)))

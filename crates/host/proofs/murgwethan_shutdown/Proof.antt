@@ -58,7 +58,7 @@ use Rattle.socket.specs.Deferred.{settled}
 use Rattle.host.specs.Host.{Answered}
 use Rattle.socket.specs.Tests.{Steps}
 use Rattle.socket.proofs.Visiting.{places-128}
-use Rattle.host.proofs.Stored.{settled-as}
+use Rattle.kept_pair.proofs.Stored.{settled-as}
 use Rattle.socket.specs.Disposition.{shutdownAnswer, shut}
 use Rattle.socket.proofs.Settled.{shutdown-whole}
 use Rattle.socket.proofs.ends_of as ends
@@ -69,10 +69,10 @@ use Rattle.control.proofs.shutdown_ends as shutdown-ends
 use Rattle.control.proofs.shutdown_ends.Symbol as shutdown-ends-def
 use Rattle.control.proofs.shutdown_ends.Symbol.{name as #shutdown-ends}
 use Rattle.control.proofs.shutdown_ends.Met as shutdown-ends-thm
-use Rattle.host.proofs.store.outcome as outcome
-use Rattle.host.proofs.store.outcome.Symbol as outcome-def
-use Rattle.host.proofs.store.outcome.Symbol.{name as #outcome}
-use Rattle.host.proofs.store.outcome.Met as outcome-thm
+use Rattle.kept_pair.proofs.outcome as outcome
+use Rattle.kept_pair.proofs.outcome.Symbol as outcome-def
+use Rattle.kept_pair.proofs.outcome.Symbol.{name as #outcome}
+use Rattle.kept_pair.proofs.outcome.Met as outcome-thm
 use Rattle.host.proofs.murgwethan_shutdown.Key.{name as #own}
 use Rattle.host.proofs.murgwethan_shutdown as f
 use Rattle.host.proofs.murgwethan_shutdown.Statement as stated
@@ -147,4 +147,4 @@ murgwethan-shutdown-spec 𝓤 H 𝓜 𝓖 𝓡 =
     (meets 𝓤 H (𝓖 .A) (givenOf 𝓤 H 𝓜 𝓖) (𝓜 .mem) (𝓡 .run) (tablesOf 𝓤 H 𝓜 (tables 𝓤 H 𝓜 𝓡 code.env))
     (cited 𝓤 H (ends-contract 𝓤 H (𝓖 .A) (𝓜 .mem) (𝓡 .run)) 𝓜 𝓡 code.env #ends ends-def.routine code.calls-socket·ends-of (ends-thm.met 𝓤 H 𝓜 𝓖 𝓡))
     (cited 𝓤 H (shutdown-ends-contract 𝓤 H (𝓖 .A) (𝓜 .mem) (𝓡 .run)) 𝓜 𝓡 code.env #shutdown-ends shutdown-ends-def.routine code.calls-control·shutdown-ends (shutdown-ends-thm.met 𝓤 H 𝓜 𝓖 𝓡))
-    (cited 𝓤 H (outcome-contract 𝓤 H (𝓖 .A) (𝓜 .mem) (𝓡 .run)) 𝓜 𝓡 code.env #outcome outcome-def.routine code.calls-host·store·outcome (outcome-thm.met 𝓤 H 𝓜 𝓖 𝓡)))
+    (cited 𝓤 H (outcome-contract 𝓤 H (𝓖 .A) (𝓜 .mem) (𝓡 .run)) 𝓜 𝓡 code.env #outcome outcome-def.routine code.calls-kept-pair·outcome (outcome-thm.met 𝓤 H 𝓜 𝓖 𝓡)))

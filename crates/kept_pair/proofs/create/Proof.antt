@@ -1,4 +1,4 @@
--- `host::store::create` meets its contract: a walk of its MIR, by hand. Where the answer is done, a new pair is stored.
+-- `kept_pair::create` meets its contract: a walk of its MIR, by hand. Where the answer is done, a new pair is stored.
 -- Assumes nothing.
 use mathlib.Core.Path.{_≡_, refl, ap}
 use mathlib.Core.Bool.{Bool}
@@ -51,9 +51,9 @@ use Rattle.socket.proofs.Pair as T
 use Rattle.socket.proofs.Pair.Laws as T′
 use Rattle.status.proofs.Answer as N
 use Rattle.status.proofs.Answer.Laws as N′
-use Rattle.host.proofs.Callees.{word-contract, to-word, goes-word, word-told, is-done-contract, to-is-done, goes-is-done, is-done-told, new-pair-contract, to-new-pair, goes-new-pair, new-pair-told}
+use Rattle.kept_pair.proofs.Callees.{word-contract, to-word, goes-word, word-told, is-done-contract, to-is-done, goes-is-done, is-done-told, new-pair-contract, to-new-pair, goes-new-pair, new-pair-told}
 use Rattle.socket.specs.Pair.{own, newPair}
-use Rattle.host.proofs.Stored.{made-on, made-off}
+use Rattle.kept_pair.proofs.Stored.{made-on, made-off}
 use Rattle.status.proofs.word as word
 use Rattle.status.proofs.word.Symbol as word-def
 use Rattle.status.proofs.word.Symbol.{name as #word}
@@ -66,10 +66,10 @@ use Rattle.socket.proofs.new_pair as new-pair
 use Rattle.socket.proofs.new_pair.Symbol as new-pair-def
 use Rattle.socket.proofs.new_pair.Symbol.{name as #new-pair}
 use Rattle.socket.proofs.new_pair.Met as new-pair-thm
-use Rattle.host.proofs.store.create.Key.{name as #own}
-use Rattle.host.proofs.store.create as f
-use Rattle.host.proofs.store.create.Statement as stated
-use Rattle.host.proofs.store.create.Code as code
+use Rattle.kept_pair.proofs.create.Key.{name as #own}
+use Rattle.kept_pair.proofs.create as f
+use Rattle.kept_pair.proofs.create.Statement as stated
+use Rattle.kept_pair.proofs.create.Code as code
 
 abbrev stayed : Stays (f.ended .signature .params) (f.ended .kept)
 stayed = (stay-ref (0 ∷ []) tt (plain (λ _. T.the-row)), (stay-dropped (plain (λ _. N.the-row)) yes, (stay-dropped (plain (λ _. u32)) yes, (stay-dropped (plain (λ _. u32)) yes, (stay-dropped (plain (λ _. u32)) yes, (stay-dropped (plain (λ _. u32)) yes, tt))))))

@@ -1,4 +1,4 @@
--- `host::store::take` meets its contract: a walk of its MIR, by hand. The pair is copied out, and the one without its oldest packet is stored.
+-- `kept_pair::take` meets its contract: a walk of its MIR, by hand. The pair is copied out, and the one without its oldest packet is stored.
 -- Assumes nothing.
 use mathlib.Core.Path.{_≡_, refl, ap}
 use mathlib.Core.Bool.{Bool}
@@ -50,11 +50,11 @@ use Rattle.socket.proofs.Pair as T
 use Rattle.socket.proofs.Pair.Laws as T′
 use Rattle.status.proofs.Answer as N
 use Rattle.status.proofs.Answer.Laws as N′
-use Rattle.host.proofs.Callees.{word-contract, to-word, goes-word, word-told, has-only-packet-contract, to-has-only-packet, goes-has-only-packet, has-only-packet-told, taken-only-contract, to-taken-only, goes-taken-only, taken-only-told, taken-contract, to-taken, goes-taken, taken-told}
+use Rattle.kept_pair.proofs.Callees.{word-contract, to-word, goes-word, word-told, has-only-packet-contract, to-has-only-packet, goes-has-only-packet, has-only-packet-told, taken-only-contract, to-taken-only, goes-taken-only, taken-only-told, taken-contract, to-taken, goes-taken, taken-told}
 use Rattle.places.specs.Table.{onlyPacket}
 use Rattle.socket.specs.Pair.{own}
 use Rattle.socket.specs.Deferred.{takenPair}
-use Rattle.host.proofs.Stored.{taken-on}
+use Rattle.kept_pair.proofs.Stored.{taken-on}
 use Rattle.status.proofs.word as word
 use Rattle.status.proofs.word.Symbol as word-def
 use Rattle.status.proofs.word.Symbol.{name as #word}
@@ -71,10 +71,10 @@ use Rattle.socket.proofs.taken as taken
 use Rattle.socket.proofs.taken.Symbol as taken-def
 use Rattle.socket.proofs.taken.Symbol.{name as #taken}
 use Rattle.socket.proofs.taken.Met as taken-thm
-use Rattle.host.proofs.store.take.Key.{name as #own}
-use Rattle.host.proofs.store.take as f
-use Rattle.host.proofs.store.take.Statement as stated
-use Rattle.host.proofs.store.take.Code as code
+use Rattle.kept_pair.proofs.take.Key.{name as #own}
+use Rattle.kept_pair.proofs.take as f
+use Rattle.kept_pair.proofs.take.Statement as stated
+use Rattle.kept_pair.proofs.take.Code as code
 
 abbrev stayed : Stays (f.ended .signature .params) (f.ended .kept)
 stayed = (stay-ref (0 ∷ []) tt (plain (λ _. T.the-row)), (stay-dropped (plain (λ _. N.the-row)) yes, tt))

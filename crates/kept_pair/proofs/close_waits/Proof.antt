@@ -1,4 +1,4 @@
--- `host::store::close_waits` meets its contract: a walk of its MIR, by hand. Where there are waits, the pair is copied out, and the one that comes back is stored.
+-- `kept_pair::close_waits` meets its contract: a walk of its MIR, by hand. Where there are waits, the pair is copied out, and the one that comes back is stored.
 -- Assumes nothing.
 use mathlib.Core.Path.{_≡_, refl, ap}
 use mathlib.Core.Bool.{Bool}
@@ -48,26 +48,26 @@ use Rattle.socket.proofs.Pair as T
 use Rattle.socket.proofs.Pair.Laws as T′
 use Rattle.ends.proofs.Outcome as K
 use Rattle.ends.proofs.Outcome.Laws as K′
-use Rattle.host.proofs.Callees.{outcome-word-contract, to-outcome-word, goes-outcome-word, outcome-word-told, fires-contract, to-fires, goes-fires, fires-told, by-value-close-waits-contract, to-by-value-close-waits, goes-by-value-close-waits, by-value-close-waits-told}
+use Rattle.kept_pair.proofs.Callees.{outcome-word-contract, to-outcome-word, goes-outcome-word, outcome-word-told, fires-contract, to-fires, goes-fires, fires-told, by-value-close-waits-contract, to-by-value-close-waits, goes-by-value-close-waits, by-value-close-waits-told}
 use Rattle.socket.specs.Pair.{isOne, own}
 use Rattle.socket.specs.Deferred.{visitedAll, withoutWaits, closedWaits}
-use Rattle.host.proofs.Stored.{dropped-on, dropped-off}
-use Rattle.host.proofs.values.word as outcome-word
-use Rattle.host.proofs.values.word.Symbol as outcome-word-def
-use Rattle.host.proofs.values.word.Symbol.{name as #outcome-word}
-use Rattle.host.proofs.values.word.Met as outcome-word-thm
-use Rattle.host.proofs.values.fires as fires
-use Rattle.host.proofs.values.fires.Symbol as fires-def
-use Rattle.host.proofs.values.fires.Symbol.{name as #fires}
-use Rattle.host.proofs.values.fires.Met as fires-thm
+use Rattle.kept_pair.proofs.Stored.{dropped-on, dropped-off}
+use Rattle.kept_pair.proofs.outcome_word as outcome-word
+use Rattle.kept_pair.proofs.outcome_word.Symbol as outcome-word-def
+use Rattle.kept_pair.proofs.outcome_word.Symbol.{name as #outcome-word}
+use Rattle.kept_pair.proofs.outcome_word.Met as outcome-word-thm
+use Rattle.kept_pair.proofs.fires as fires
+use Rattle.kept_pair.proofs.fires.Symbol as fires-def
+use Rattle.kept_pair.proofs.fires.Symbol.{name as #fires}
+use Rattle.kept_pair.proofs.fires.Met as fires-thm
 use Rattle.socket.proofs.close_waits as by-value-close-waits
 use Rattle.socket.proofs.close_waits.Symbol as by-value-close-waits-def
 use Rattle.socket.proofs.close_waits.Symbol.{name as #by-value-close-waits}
 use Rattle.socket.proofs.close_waits.Met as by-value-close-waits-thm
-use Rattle.host.proofs.store.close_waits.Key.{name as #own}
-use Rattle.host.proofs.store.close_waits as f
-use Rattle.host.proofs.store.close_waits.Statement as stated
-use Rattle.host.proofs.store.close_waits.Code as code
+use Rattle.kept_pair.proofs.close_waits.Key.{name as #own}
+use Rattle.kept_pair.proofs.close_waits as f
+use Rattle.kept_pair.proofs.close_waits.Statement as stated
+use Rattle.kept_pair.proofs.close_waits.Code as code
 
 abbrev stayed : Stays (f.ended .signature .params) (f.ended .kept)
 stayed = (stay-ref (0 ∷ []) tt (plain (λ _. T.the-row)), (stay-dropped (plain (λ _. u32)) yes, (stay-dropped (plain (λ _. K.the-row)) yes, tt)))
@@ -143,6 +143,6 @@ close-waits-spec 𝓤 H 𝓜 𝓖 𝓡 =
     entered 𝓤 H (tripleOf 𝓤 H (𝓖 .A) f.signature (f.spec 𝓤 H (𝓖 .A) (𝓜 .mem) (𝓡 .run)))
     (tables 𝓤 H 𝓜 𝓡 code.env .C) (tables 𝓤 H 𝓜 𝓡 code.env .Λ) #own code.function (code.unfolded 𝓤 H 𝓜 𝓡)
     (meets 𝓤 H (𝓖 .A) (givenOf 𝓤 H 𝓜 𝓖) (𝓜 .mem) (𝓡 .run) (tablesOf 𝓤 H 𝓜 (tables 𝓤 H 𝓜 𝓡 code.env))
-    (cited 𝓤 H (outcome-word-contract 𝓤 H (𝓖 .A) (𝓜 .mem) (𝓡 .run)) 𝓜 𝓡 code.env #outcome-word outcome-word-def.routine code.calls-host·values·word (outcome-word-thm.met 𝓤 H 𝓜 𝓖 𝓡))
-    (cited 𝓤 H (fires-contract 𝓤 H (𝓖 .A) (𝓜 .mem) (𝓡 .run)) 𝓜 𝓡 code.env #fires fires-def.routine code.calls-host·values·fires (fires-thm.met 𝓤 H 𝓜 𝓖 𝓡))
+    (cited 𝓤 H (outcome-word-contract 𝓤 H (𝓖 .A) (𝓜 .mem) (𝓡 .run)) 𝓜 𝓡 code.env #outcome-word outcome-word-def.routine code.calls-kept-pair·outcome-word (outcome-word-thm.met 𝓤 H 𝓜 𝓖 𝓡))
+    (cited 𝓤 H (fires-contract 𝓤 H (𝓖 .A) (𝓜 .mem) (𝓡 .run)) 𝓜 𝓡 code.env #fires fires-def.routine code.calls-kept-pair·fires (fires-thm.met 𝓤 H 𝓜 𝓖 𝓡))
     (cited 𝓤 H (by-value-close-waits-contract 𝓤 H (𝓖 .A) (𝓜 .mem) (𝓡 .run)) 𝓜 𝓡 code.env #by-value-close-waits by-value-close-waits-def.routine code.calls-socket·close-waits (by-value-close-waits-thm.met 𝓤 H 𝓜 𝓖 𝓡)))

@@ -1,6 +1,5 @@
-// The next pair, stored behind the reference. The table of places is handed on by value only where it is rebuilt: where one place is used, or is to
-// be used, it is changed where it stands.
-use crate::values;
+// A pair that is kept behind a reference: the next pair of a call, stored there. The table of places is handed on by value only where it is
+// rebuilt: where one place is used, or is to be used, it is changed where it stands.
 use ends::Outcome;
 use socket::Pair;
 use status::Answer;
@@ -10,6 +9,21 @@ ghost use Rattle.status.specs.Choice.{pick};
 ghost use Rattle.status.specs.Answer.{isDone, answerWord};
 ghost use Rattle.socket.specs.Pair.{isOne, newPair};
 ghost use Rattle.socket.specs.Deferred.{visitedAll, settled, closedWaits, settledClose, registeredPair, takenPair};
+
+// The word of an outcome's answer.
+fn outcome_word(r: Outcome) -> i64
+    ensures { λ w. ⌜ w ≡ answerWord (r .answer) ⌝ }
+{
+    let a = r.answer;
+    status::word(a)
+}
+
+// Whether the waits are to be looked at.
+fn fires(r: Outcome) -> bool
+    ensures { λ f. ⌜ f ≡ r .fires ⌝ }
+{
+    r.fires
+}
 
 // A new pair, if the answer is done.
 pub fn create(
@@ -30,10 +44,10 @@ pub fn create(
 }
 
 // Visits the waits of an outcome, where one can fire, and gives the answer's word.
-pub fn visit(p: &mut Pair, r: Outcome) -> i64
+fn visit(p: &mut Pair, r: Outcome) -> i64
     ensures { λ w. ⌜ (w ≡ answerWord (r .answer)) × (now (p .exit) ≡ pick (r .fires) (visitedAll r (now (p .entry))) (now (p .entry))) ⌝ }
 {
-    let w = values::word(r);
+    let w = outcome_word(r);
     if socket::needs_visit(*p, r) {
         if socket::has_only_wait(*p) {
             *p = socket::visit_only(*p, r);
@@ -53,11 +67,11 @@ pub fn outcome(p: &mut Pair, r: Outcome) -> i64
 }
 
 // Drops the waits of the end of a handle, where there are any, then visits the others.
-pub fn close_waits(p: &mut Pair, handle: u32, r: Outcome) -> i64
+fn close_waits(p: &mut Pair, handle: u32, r: Outcome) -> i64
     ensures { λ w. ⌜ (w ≡ answerWord (r .answer)) × (now (p .exit) ≡ closedWaits (isOne handle) r (now (p .entry))) ⌝ }
 {
-    let w = values::word(r);
-    if values::fires(r) {
+    let w = outcome_word(r);
+    if fires(r) {
         *p = socket::close_waits(*p, handle, r);
     }
     w

@@ -1,4 +1,4 @@
--- `host::store::wait` meets its contract: a walk of its MIR, by hand. The pair is copied out, and the one with the wait is stored.
+-- `kept_pair::wait` meets its contract: a walk of its MIR, by hand. The pair is copied out, and the one with the wait is stored.
 -- Assumes nothing.
 use mathlib.Core.Path.{_≡_, refl, ap}
 use mathlib.Core.Bool.{Bool}
@@ -50,11 +50,11 @@ use Rattle.socket.proofs.Pair as T
 use Rattle.socket.proofs.Pair.Laws as T′
 use Rattle.status.proofs.Answer as N
 use Rattle.status.proofs.Answer.Laws as N′
-use Rattle.host.proofs.Callees.{word-contract, to-word, goes-word, word-told, is-unused-contract, to-is-unused, goes-is-unused, is-unused-told, registered-first-contract, to-registered-first, goes-registered-first, registered-first-told, registered-contract, to-registered, goes-registered, registered-told}
+use Rattle.kept_pair.proofs.Callees.{word-contract, to-word, goes-word, word-told, is-unused-contract, to-is-unused, goes-is-unused, is-unused-told, registered-first-contract, to-registered-first, goes-registered-first, registered-first-told, registered-contract, to-registered, goes-registered, registered-told}
 use Rattle.places.specs.Table.{unused}
 use Rattle.socket.specs.Pair.{isOne, own}
 use Rattle.socket.specs.Deferred.{registeredPair}
-use Rattle.host.proofs.Stored.{waited-on}
+use Rattle.kept_pair.proofs.Stored.{waited-on}
 use Rattle.status.proofs.word as word
 use Rattle.status.proofs.word.Symbol as word-def
 use Rattle.status.proofs.word.Symbol.{name as #word}
@@ -71,10 +71,10 @@ use Rattle.socket.proofs.registered as registered
 use Rattle.socket.proofs.registered.Symbol as registered-def
 use Rattle.socket.proofs.registered.Symbol.{name as #registered}
 use Rattle.socket.proofs.registered.Met as registered-thm
-use Rattle.host.proofs.store.wait.Key.{name as #own}
-use Rattle.host.proofs.store.wait as f
-use Rattle.host.proofs.store.wait.Statement as stated
-use Rattle.host.proofs.store.wait.Code as code
+use Rattle.kept_pair.proofs.wait.Key.{name as #own}
+use Rattle.kept_pair.proofs.wait as f
+use Rattle.kept_pair.proofs.wait.Statement as stated
+use Rattle.kept_pair.proofs.wait.Code as code
 
 abbrev stayed : Stays (f.ended .signature .params) (f.ended .kept)
 stayed = (stay-ref (0 ∷ []) tt (plain (λ _. T.the-row)), (stay-dropped (plain (λ _. N.the-row)) yes, (stay-dropped (plain (λ _. u32)) yes, (stay-dropped (plain (λ _. u64)) yes, (stay-dropped (plain (λ _. u32)) yes, (stay-dropped (plain (λ _. u8)) yes, tt))))))

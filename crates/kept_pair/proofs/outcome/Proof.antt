@@ -1,4 +1,4 @@
--- `host::store::outcome` meets its contract: a walk of its MIR, by hand. The ends are stored, and the reference is passed on to the visit.
+-- `kept_pair::outcome` meets its contract: a walk of its MIR, by hand. The ends are stored, and the reference is passed on to the visit.
 -- Assumes nothing.
 use mathlib.Core.Path.{_≡_, refl, ap}
 use Prim.Native.Nat.{ℕ}
@@ -46,22 +46,22 @@ use Rattle.socket.proofs.Pair as T
 use Rattle.socket.proofs.Pair.Laws as T′
 use Rattle.ends.proofs.Outcome as K
 use Rattle.ends.proofs.Outcome.Laws as K′
-use Rattle.host.proofs.Callees.{with-outcome-contract, to-with-outcome, goes-with-outcome, with-outcome-told, visit-contract, to-visit, goes-visit}
+use Rattle.kept_pair.proofs.Callees.{with-outcome-contract, to-with-outcome, goes-with-outcome, with-outcome-told, visit-contract, to-visit, goes-visit}
 use Rattle.socket.specs.Pair.{own}
 use Rattle.socket.specs.Deferred.{visitedAll, withOutcome, settled}
-use Rattle.host.proofs.Stored.{outcome-settled}
+use Rattle.kept_pair.proofs.Stored.{outcome-settled}
 use Rattle.socket.proofs.with_outcome as with-outcome
 use Rattle.socket.proofs.with_outcome.Symbol as with-outcome-def
 use Rattle.socket.proofs.with_outcome.Symbol.{name as #with-outcome}
 use Rattle.socket.proofs.with_outcome.Met as with-outcome-thm
-use Rattle.host.proofs.store.visit as visit
-use Rattle.host.proofs.store.visit.Symbol as visit-def
-use Rattle.host.proofs.store.visit.Symbol.{name as #visit}
-use Rattle.host.proofs.store.visit.Met as visit-thm
-use Rattle.host.proofs.store.outcome.Key.{name as #own}
-use Rattle.host.proofs.store.outcome as f
-use Rattle.host.proofs.store.outcome.Statement as stated
-use Rattle.host.proofs.store.outcome.Code as code
+use Rattle.kept_pair.proofs.visit as visit
+use Rattle.kept_pair.proofs.visit.Symbol as visit-def
+use Rattle.kept_pair.proofs.visit.Symbol.{name as #visit}
+use Rattle.kept_pair.proofs.visit.Met as visit-thm
+use Rattle.kept_pair.proofs.outcome.Key.{name as #own}
+use Rattle.kept_pair.proofs.outcome as f
+use Rattle.kept_pair.proofs.outcome.Statement as stated
+use Rattle.kept_pair.proofs.outcome.Code as code
 
 abbrev stayed : Stays (f.ended .signature .params) (f.ended .kept)
 stayed = (gave-ref (0 ∷ []) tt (plain (λ _. T.the-row)), (stay-dropped (plain (λ _. K.the-row)) yes, tt))
@@ -128,4 +128,4 @@ outcome-spec 𝓤 H 𝓜 𝓖 𝓡 =
     (tables 𝓤 H 𝓜 𝓡 code.env .C) (tables 𝓤 H 𝓜 𝓡 code.env .Λ) #own code.function (code.unfolded 𝓤 H 𝓜 𝓡)
     (meets 𝓤 H (𝓖 .A) (givenOf 𝓤 H 𝓜 𝓖) (𝓜 .mem) (𝓡 .run) (tablesOf 𝓤 H 𝓜 (tables 𝓤 H 𝓜 𝓡 code.env))
     (cited 𝓤 H (with-outcome-contract 𝓤 H (𝓖 .A) (𝓜 .mem) (𝓡 .run)) 𝓜 𝓡 code.env #with-outcome with-outcome-def.routine code.calls-socket·with-outcome (with-outcome-thm.met 𝓤 H 𝓜 𝓖 𝓡))
-    (cited 𝓤 H (visit-contract 𝓤 H (𝓖 .A) (𝓜 .mem) (𝓡 .run)) 𝓜 𝓡 code.env #visit visit-def.routine code.calls-host·store·visit (visit-thm.met 𝓤 H 𝓜 𝓖 𝓡)))
+    (cited 𝓤 H (visit-contract 𝓤 H (𝓖 .A) (𝓜 .mem) (𝓡 .run)) 𝓜 𝓡 code.env #visit visit-def.routine code.calls-kept-pair·visit (visit-thm.met 𝓤 H 𝓜 𝓖 𝓡)))

@@ -1,4 +1,4 @@
--- `host::store::visit` meets its contract: a walk of its MIR, by hand. The pair is copied out, the visit is asked for, and the pair that comes back is stored.
+-- `kept_pair::visit` meets its contract: a walk of its MIR, by hand. The pair is copied out, the visit is asked for, and the pair that comes back is stored.
 -- Assumes nothing.
 use mathlib.Core.Path.{_≡_, refl, ap}
 use mathlib.Core.Bool.{Bool}
@@ -49,16 +49,16 @@ use Rattle.socket.proofs.Pair as T
 use Rattle.socket.proofs.Pair.Laws as T′
 use Rattle.ends.proofs.Outcome as K
 use Rattle.ends.proofs.Outcome.Laws as K′
-use Rattle.host.proofs.Callees.{outcome-word-contract, to-outcome-word, goes-outcome-word, outcome-word-told, needs-visit-contract, to-needs-visit, goes-needs-visit, needs-visit-told, has-only-wait-contract, to-has-only-wait, goes-has-only-wait, has-only-wait-told, visit-only-contract, to-visit-only, goes-visit-only, visit-only-told, visit-each-contract, to-visit-each, goes-visit-each, visit-each-told}
+use Rattle.kept_pair.proofs.Callees.{outcome-word-contract, to-outcome-word, goes-outcome-word, outcome-word-told, needs-visit-contract, to-needs-visit, goes-needs-visit, needs-visit-told, has-only-wait-contract, to-has-only-wait, goes-has-only-wait, has-only-wait-told, visit-only-contract, to-visit-only, goes-visit-only, visit-only-told, visit-each-contract, to-visit-each, goes-visit-each, visit-each-told}
 use Rattle.places.specs.Table.{onlyWait}
 use Rattle.socket.specs.Pair.{own}
 use Rattle.socket.specs.Deferred.{needsVisit, visitedAll}
 use Rattle.socket.proofs.Visiting.{places-128}
-use Rattle.host.proofs.Stored.{only-visited, each-visited, not-visited}
-use Rattle.host.proofs.values.word as outcome-word
-use Rattle.host.proofs.values.word.Symbol as outcome-word-def
-use Rattle.host.proofs.values.word.Symbol.{name as #outcome-word}
-use Rattle.host.proofs.values.word.Met as outcome-word-thm
+use Rattle.kept_pair.proofs.Stored.{only-visited, each-visited, not-visited}
+use Rattle.kept_pair.proofs.outcome_word as outcome-word
+use Rattle.kept_pair.proofs.outcome_word.Symbol as outcome-word-def
+use Rattle.kept_pair.proofs.outcome_word.Symbol.{name as #outcome-word}
+use Rattle.kept_pair.proofs.outcome_word.Met as outcome-word-thm
 use Rattle.socket.proofs.needs_visit as needs-visit
 use Rattle.socket.proofs.needs_visit.Symbol as needs-visit-def
 use Rattle.socket.proofs.needs_visit.Symbol.{name as #needs-visit}
@@ -75,10 +75,10 @@ use Rattle.socket.proofs.visit_each as visit-each
 use Rattle.socket.proofs.visit_each.Symbol as visit-each-def
 use Rattle.socket.proofs.visit_each.Symbol.{name as #visit-each}
 use Rattle.socket.proofs.visit_each.Met as visit-each-thm
-use Rattle.host.proofs.store.visit.Key.{name as #own}
-use Rattle.host.proofs.store.visit as f
-use Rattle.host.proofs.store.visit.Statement as stated
-use Rattle.host.proofs.store.visit.Code as code
+use Rattle.kept_pair.proofs.visit.Key.{name as #own}
+use Rattle.kept_pair.proofs.visit as f
+use Rattle.kept_pair.proofs.visit.Statement as stated
+use Rattle.kept_pair.proofs.visit.Code as code
 
 abbrev stayed : Stays (f.ended .signature .params) (f.ended .kept)
 stayed = (stay-ref (0 ∷ []) tt (plain (λ _. T.the-row)), (stay-dropped (plain (λ _. K.the-row)) yes, tt))
@@ -173,7 +173,7 @@ visit-spec 𝓤 H 𝓜 𝓖 𝓡 =
     entered 𝓤 H (tripleOf 𝓤 H (𝓖 .A) f.signature (f.spec 𝓤 H (𝓖 .A) (𝓜 .mem) (𝓡 .run)))
     (tables 𝓤 H 𝓜 𝓡 code.env .C) (tables 𝓤 H 𝓜 𝓡 code.env .Λ) #own code.function (code.unfolded 𝓤 H 𝓜 𝓡)
     (meets 𝓤 H (𝓖 .A) (givenOf 𝓤 H 𝓜 𝓖) (𝓜 .mem) (𝓡 .run) (tablesOf 𝓤 H 𝓜 (tables 𝓤 H 𝓜 𝓡 code.env))
-    (cited 𝓤 H (outcome-word-contract 𝓤 H (𝓖 .A) (𝓜 .mem) (𝓡 .run)) 𝓜 𝓡 code.env #outcome-word outcome-word-def.routine code.calls-host·values·word (outcome-word-thm.met 𝓤 H 𝓜 𝓖 𝓡))
+    (cited 𝓤 H (outcome-word-contract 𝓤 H (𝓖 .A) (𝓜 .mem) (𝓡 .run)) 𝓜 𝓡 code.env #outcome-word outcome-word-def.routine code.calls-kept-pair·outcome-word (outcome-word-thm.met 𝓤 H 𝓜 𝓖 𝓡))
     (cited 𝓤 H (needs-visit-contract 𝓤 H (𝓖 .A) (𝓜 .mem) (𝓡 .run)) 𝓜 𝓡 code.env #needs-visit needs-visit-def.routine code.calls-socket·needs-visit (needs-visit-thm.met 𝓤 H 𝓜 𝓖 𝓡))
     (cited 𝓤 H (has-only-wait-contract 𝓤 H (𝓖 .A) (𝓜 .mem) (𝓡 .run)) 𝓜 𝓡 code.env #has-only-wait has-only-wait-def.routine code.calls-socket·has-only-wait (has-only-wait-thm.met 𝓤 H 𝓜 𝓖 𝓡))
     (cited 𝓤 H (visit-only-contract 𝓤 H (𝓖 .A) (𝓜 .mem) (𝓡 .run)) 𝓜 𝓡 code.env #visit-only visit-only-def.routine code.calls-socket·visit-only (visit-only-thm.met 𝓤 H 𝓜 𝓖 𝓡))

@@ -1,4 +1,4 @@
--- `host::store::close` meets its contract: a walk of its MIR, by hand. The ends are stored, and the reference is passed on to the waits.
+-- `kept_pair::close` meets its contract: a walk of its MIR, by hand. The ends are stored, and the reference is passed on to the waits.
 -- Assumes nothing.
 use mathlib.Core.Path.{_≡_, refl, ap}
 use Prim.Native.Nat.{ℕ}
@@ -46,22 +46,22 @@ use Rattle.socket.proofs.Pair as T
 use Rattle.socket.proofs.Pair.Laws as T′
 use Rattle.ends.proofs.Outcome as K
 use Rattle.ends.proofs.Outcome.Laws as K′
-use Rattle.host.proofs.Callees.{with-outcome-contract, to-with-outcome, goes-with-outcome, with-outcome-told, close-waits-contract, to-close-waits, goes-close-waits}
+use Rattle.kept_pair.proofs.Callees.{with-outcome-contract, to-with-outcome, goes-with-outcome, with-outcome-told, close-waits-contract, to-close-waits, goes-close-waits}
 use Rattle.socket.specs.Pair.{isOne, own}
 use Rattle.socket.specs.Deferred.{withOutcome, closedWaits, settledClose}
-use Rattle.host.proofs.Stored.{close-settled}
+use Rattle.kept_pair.proofs.Stored.{close-settled}
 use Rattle.socket.proofs.with_outcome as with-outcome
 use Rattle.socket.proofs.with_outcome.Symbol as with-outcome-def
 use Rattle.socket.proofs.with_outcome.Symbol.{name as #with-outcome}
 use Rattle.socket.proofs.with_outcome.Met as with-outcome-thm
-use Rattle.host.proofs.store.close_waits as close-waits
-use Rattle.host.proofs.store.close_waits.Symbol as close-waits-def
-use Rattle.host.proofs.store.close_waits.Symbol.{name as #close-waits}
-use Rattle.host.proofs.store.close_waits.Met as close-waits-thm
-use Rattle.host.proofs.store.close.Key.{name as #own}
-use Rattle.host.proofs.store.close as f
-use Rattle.host.proofs.store.close.Statement as stated
-use Rattle.host.proofs.store.close.Code as code
+use Rattle.kept_pair.proofs.close_waits as close-waits
+use Rattle.kept_pair.proofs.close_waits.Symbol as close-waits-def
+use Rattle.kept_pair.proofs.close_waits.Symbol.{name as #close-waits}
+use Rattle.kept_pair.proofs.close_waits.Met as close-waits-thm
+use Rattle.kept_pair.proofs.close.Key.{name as #own}
+use Rattle.kept_pair.proofs.close as f
+use Rattle.kept_pair.proofs.close.Statement as stated
+use Rattle.kept_pair.proofs.close.Code as code
 
 abbrev stayed : Stays (f.ended .signature .params) (f.ended .kept)
 stayed = (gave-ref (0 ∷ []) tt (plain (λ _. T.the-row)), (stay-dropped (plain (λ _. u32)) yes, (stay-dropped (plain (λ _. K.the-row)) yes, tt)))
@@ -128,4 +128,4 @@ close-spec 𝓤 H 𝓜 𝓖 𝓡 =
     (tables 𝓤 H 𝓜 𝓡 code.env .C) (tables 𝓤 H 𝓜 𝓡 code.env .Λ) #own code.function (code.unfolded 𝓤 H 𝓜 𝓡)
     (meets 𝓤 H (𝓖 .A) (givenOf 𝓤 H 𝓜 𝓖) (𝓜 .mem) (𝓡 .run) (tablesOf 𝓤 H 𝓜 (tables 𝓤 H 𝓜 𝓡 code.env))
     (cited 𝓤 H (with-outcome-contract 𝓤 H (𝓖 .A) (𝓜 .mem) (𝓡 .run)) 𝓜 𝓡 code.env #with-outcome with-outcome-def.routine code.calls-socket·with-outcome (with-outcome-thm.met 𝓤 H 𝓜 𝓖 𝓡))
-    (cited 𝓤 H (close-waits-contract 𝓤 H (𝓖 .A) (𝓜 .mem) (𝓡 .run)) 𝓜 𝓡 code.env #close-waits close-waits-def.routine code.calls-host·store·close-waits (close-waits-thm.met 𝓤 H 𝓜 𝓖 𝓡)))
+    (cited 𝓤 H (close-waits-contract 𝓤 H (𝓖 .A) (𝓜 .mem) (𝓡 .run)) 𝓜 𝓡 code.env #close-waits close-waits-def.routine code.calls-kept-pair·close-waits (close-waits-thm.met 𝓤 H 𝓜 𝓖 𝓡)))
