@@ -13,7 +13,7 @@ use Rattle.status.specs.declared.Answer.the-variants.{Done, Refused}
 use Rattle.status.specs.Choice.{pick}
 use Rattle.status.specs.Answer.{refuseUnless, _then_, countOf, isDone}
 use Rattle.endpoint.specs.Queue.{firstLength}
-use Rattle.ends.specs.Create.{createAnswer}
+use Rattle.answers.specs.Create.{createAnswer}
 use Rattle.socket.specs.declared.Pair.{Pair}
 use Rattle.socket.specs.declared.Step.{Step}
 use Rattle.socket.specs.Pair.{isOne, own, peer, newPair, noPair}

@@ -10,13 +10,13 @@ use Rattle.status.specs.declared.Answer.{Answer}
 use Rattle.status.specs.declared.Answer.the-variants.{Refused}
 use Rattle.status.specs.Choice.{_and_}
 use Rattle.status.specs.Answer.{refuseUnless, _then_}
-use Rattle.ends.specs.Disposition.{disposeAnswer}
-use Rattle.ends.specs.Info.{infoAnswer}
-use Rattle.transfer.specs.Read.{readAnswer}
+use Rattle.answers.specs.Disposition.{disposeAnswer}
+use Rattle.answers.specs.Info.{infoAnswer}
+use Rattle.transfer_answers.specs.Read.{readAnswer}
 use Rattle.ends.specs.Tests.{soundEnds, soundTest, openingTest}
-use Rattle.ends.specs.Threshold.{readThresholdAnswer, writeThresholdAnswer, thresholdsAnswer}
-use Rattle.ends.specs.Wait.{waitAnswer}
-use Rattle.transfer.specs.Write.{writeAnswer}
+use Rattle.answers.specs.Threshold.{readThresholdAnswer, writeThresholdAnswer, thresholdsAnswer}
+use Rattle.answers.specs.Wait.{waitAnswer}
+use Rattle.transfer_answers.specs.Write.{writeAnswer}
 use Rattle.socket.specs.Pair.{noPair}
 use Rattle.socket.specs.Tests.{Lent}
 use Rattle.socket.specs.Disposition.{shutdownAnswer}

@@ -22,13 +22,13 @@ use Rattle.endpoint.specs.Queue.{shortSlices, firstLength, badFirst}
 use Rattle.sizes.specs.Write.{datagramSize, writeSize}
 use Rattle.sizes.specs.Read.{emptyAnswer, readSize}
 use Rattle.endpoint.specs.Disposition.{disposeChecks}
-use Rattle.ends.specs.Disposition.{disposeAnswer}
-use Rattle.ends.specs.Info.{infoAnswer}
-use Rattle.transfer.specs.Read.{readAnswer}
+use Rattle.answers.specs.Disposition.{disposeAnswer}
+use Rattle.answers.specs.Info.{infoAnswer}
+use Rattle.transfer_answers.specs.Read.{readAnswer}
 use Rattle.ends.specs.Tests.{soundEnds, isOpen, soundTest as endsSoundTest, handleTest as endsHandleTest, openingTest as endsOpeningTest}
-use Rattle.ends.specs.Threshold.{readThresholdAnswer, writeThresholdAnswer, thresholdsAnswer}
-use Rattle.ends.specs.Wait.{waitAnswer}
-use Rattle.transfer.specs.Write.{writeAnswer}
+use Rattle.answers.specs.Threshold.{readThresholdAnswer, writeThresholdAnswer, thresholdsAnswer}
+use Rattle.answers.specs.Wait.{waitAnswer}
+use Rattle.transfer_answers.specs.Write.{writeAnswer}
 use Rattle.socket.specs.declared.Pair.{Pair}
 use Rattle.socket.specs.Pair.{isOne, endsOf, own, peer}
 use Rattle.socket.specs.Tests.{soundPair, soundTest, Lent, lentOf, slicesTest, tableTest, handleTest, openingTest}

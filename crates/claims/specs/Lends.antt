@@ -7,7 +7,7 @@ use lib.ListN.{replicate}
 use lib.IntN.{ℤ, pos, negℤ}
 use Rattle.status.specs.Answer.{answerWord}
 use Rattle.endpoint.specs.declared.Disposition.the-variants.{Unchanged, Enable}
-use Rattle.ends.specs.Create.{createAnswer}
+use Rattle.answers.specs.Create.{createAnswer}
 use Rattle.claims.specs.Calls.{plainDisposition, setReadThreshold, getInfo, takePacket, write, read, plainWrite, plainRead, control, Slices, State, state}
 use Rattle.claims.specs.Lines.{linesOf}
 use Rattle.claims.specs.Damaged.{queue, end, pair, slices, first, fine, long, empty, stream, Row, is, no, rowWord}

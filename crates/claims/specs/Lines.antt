@@ -29,14 +29,16 @@ use Rattle.endpoint.specs.Queue.{noQueue, soundLengths, soundQueue, shortTable,
 use Rattle.bits.specs.Bits.{lostByReader, gainedByWriter, reached, missed, bitIf, gainedByPeer, lostByWriter}
 use Rattle.sizes.specs.Read.{emptyAnswer, availableIn, readSize}
 use Rattle.sizes.specs.Write.{datagramSize, writeSize}
-use Rattle.ends.specs.Create.{numbersAnswer, createAnswer}
-use Rattle.ends.specs.Disposition.{disposeAnswer}
-use Rattle.ends.specs.Info.{infoAnswer}
-use Rattle.transfer.specs.Read.{leaving, drainedQueue, readAnswer, bufferRead}
+use Rattle.answers.specs.Create.{numbersAnswer, createAnswer}
+use Rattle.answers.specs.Disposition.{disposeAnswer}
+use Rattle.answers.specs.Info.{infoAnswer}
+use Rattle.transfer_answers.specs.Read.{readAnswer}
+use Rattle.transfer.specs.Read.{leaving, drainedQueue, bufferRead}
 use Rattle.ends.specs.Tests.{soundEnds, isOpen, soundTest, handleTest, openingTest}
-use Rattle.ends.specs.Threshold.{readThresholdAnswer, writeThresholdAnswer, thresholdsAnswer}
-use Rattle.ends.specs.Wait.{waitAnswer}
-use Rattle.transfer.specs.Write.{fedQueue, ringFed, tableFed, writeAnswer, ringWritten, tableWritten}
+use Rattle.answers.specs.Threshold.{readThresholdAnswer, writeThresholdAnswer, thresholdsAnswer}
+use Rattle.answers.specs.Wait.{waitAnswer}
+use Rattle.transfer_answers.specs.Write.{writeAnswer}
+use Rattle.transfer.specs.Write.{fedQueue, ringFed, tableFed, ringWritten, tableWritten}
 use Rattle.socket.specs.Disposition.{switchWriting, disposeOwn, disposePeer, disposedOwn, disposedPeer, disposed, shutdownAnswer, shutEnd, shut}
 use Rattle.socket.specs.Pair.{isHandle, withEnd, withPlaces, withChange, signalChange, putBit, switchReading, newPair, noPair}
 use Rattle.socket.specs.Read.{consumed, pairRead}

@@ -15,7 +15,7 @@ use Rattle.ends.specs.declared.Moved.{Moved}
 use Rattle.ends.specs.declared.Outcome.{Outcome}
 use Rattle.ends.specs.Ends.{isOne, own, peer}
 use Rattle.ends.specs.Outcome.{outcomeOf, keptEnds, unchangedEnds}
-use Rattle.ends.specs.Disposition.{disposeAnswer}
+use Rattle.answers.specs.Disposition.{disposeAnswer}
 use Rattle.control.specs.Signal.{bitVisit, changedEnd, firstOnly}
 
 -- the writing of an end: disabled, it loses WRITABLE and gains WRITE_DISABLED; enabled, the reverse

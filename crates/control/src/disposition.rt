@@ -103,7 +103,7 @@ pub fn dispose_ends(
 ) -> Outcome
     ensures { λ r. ⌜ r ≡ disposeEnds e handle disposition «peer_disposition» ⌝ }
 {
-    let a = ends::dispose_answer(e, handle, disposition, peer_disposition);
+    let a = answers::dispose_answer(e, handle, disposition, peer_disposition);
     if !status::is_done(a) {
         return ends::unchanged(e, a);
     }

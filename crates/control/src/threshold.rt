@@ -63,7 +63,7 @@ fn write_threshold_moved(
 pub fn read_threshold_ends(e: Ends, handle: u32, threshold: u64) -> Outcome
     ensures { λ r. ⌜ r ≡ readThresholdEnds e handle threshold ⌝ }
 {
-    let a = ends::read_threshold_answer(e, handle, threshold);
+    let a = answers::read_threshold_answer(e, handle, threshold);
     if !status::is_done(a) {
         return ends::unchanged(e, a);
     }
@@ -72,11 +72,11 @@ pub fn read_threshold_ends(e: Ends, handle: u32, threshold: u64) -> Outcome
     change::put_both(e.waits, one, a, moved)
 }
 
-// WRITE_THRESHOLD shows while the queue of an open peer has at least so much space; 0 is none.
+// While the peer is open, WRITE_THRESHOLD shows whether its queue has at least so much space; 0 is none. The bit stays as it is when the peer closes.
 pub fn write_threshold_ends(e: Ends, handle: u32, threshold: u64) -> Outcome
     ensures { λ r. ⌜ r ≡ writeThresholdEnds e handle threshold ⌝ }
 {
-    let a = ends::write_threshold_answer(e, handle, threshold);
+    let a = answers::write_threshold_answer(e, handle, threshold);
     if !status::is_done(a) {
         return ends::unchanged(e, a);
     }

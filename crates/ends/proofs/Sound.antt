@@ -14,8 +14,6 @@ use Rattle.endpoint.specs.Queue.{soundQueue, soundLengths, shortSlices, shortTa
 use Rattle.ends.specs.declared.Ends.{Ends}
 use Rattle.ends.specs.Ends.{isHandle, own, peer}
 use Rattle.ends.specs.Tests.{soundEnds, soundTest, Lent, slicesTest, isOpen, handleTest, openingTest}
-use Rattle.ends.specs.Threshold.{writeThresholdAnswer}
-use Rattle.ends.specs.Wait.{waitAnswer}
 
 -- ---- a sound queue
 
@@ -103,20 +101,6 @@ opening-passed p h e = sound-passed p (then-both _ _ e .0)
 -- the same from a test's own answer
 pub opening-sound : (p : Ends) (h : ℕ) (x : Answer) → x ≡ openingTest p h → isDone x ≡ true → SoundEnds p
 opening-sound p h x e d = opening-passed p h (ap isDone (sym e) ∙ d)
-
--- a write threshold that may be set
-pub threshold-sound : (p : Ends) (h n : ℕ) (x : Answer) → x ≡ writeThresholdAnswer p h n → isDone x ≡ true → SoundEnds p
-unfolding writeThresholdAnswer
-threshold-sound p h n x e d = opening-passed p h (then-both _ _ (ap isDone (sym e) ∙ d) .0)
-
--- a wait that may be registered: a place is unused
-pub wait-room : (p : Ends) (h edge : ℕ) (x : Answer) → x ≡ waitAnswer p h edge → isDone x ≡ true → p .packets + p .waits < 128
-unfolding waitAnswer
-wait-room p h edge x e d =
-    let w = then-both _ _ (ap isDone (sym e) ∙ d) in
-    let s = opening-passed p h (w .0) in
-    let r = then-both _ _ (w .1) in
-    omega (arith, leb-true (p .packets + p .waits) 128 (s .places), eqb-false (p .packets + p .waits) 128 (refuse-passed _ _ (r .1)))
 
 -- ---- the slices lent
 

@@ -1,4 +1,4 @@
-// Both ends of a pair without its table of places: the tests of each call, its answer, and what a call leaves of the two ends.
+// Both ends of a pair without its table of places: the tests that come before a call's own, and what a call leaves of the two ends.
 // After `Socket` of ipc/socket.rs.
 use endpoint::Endpoint;
 use status::Answer;
@@ -6,30 +6,19 @@ ghost use mathlib.Core.Path.{_≡_};
 ghost use Rattle.ends.specs.Ends.{own, peer};
 
 mod change;
-mod create;
-mod disposition;
-mod info;
 mod tests;
-mod threshold;
-mod wait;
 
 pub use change::keeps_word;
 pub use change::kept_ends;
 pub use change::no_visits;
 pub use change::put_back;
 pub use change::unchanged;
-pub use create::create_answer;
-pub use disposition::dispose_answer;
-pub use info::info_answer;
 pub use tests::handle_test;
 pub use tests::is_handle;
 pub use tests::opening_test;
 pub use tests::slices_test;
 pub use tests::sound_test;
-pub use threshold::read_threshold_answer;
-pub use threshold::thresholds_answer;
-pub use threshold::write_threshold_answer;
-pub use wait::wait_answer;
+pub use tests::table_test;
 
 // What every answer but that of take is made of. It is small, so that it is passed on at little cost. `one` names an end throughout: true is end 1.
 pub struct Ends {

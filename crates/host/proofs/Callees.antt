@@ -37,7 +37,7 @@ use Rattle.ends.proofs.Ends as E
 use Rattle.ends.proofs.Ends.Laws as E′
 use Rattle.status.proofs.Answer as N
 use Rattle.status.proofs.Answer.Laws as N′
-use Rattle.ends.specs.Wait.{waitAnswer as waitAnswerOf}
+use Rattle.answers.specs.Wait.{waitAnswer as waitAnswerOf}
 use Rattle.control.specs.Disposition.{disposeEnds}
 use Rattle.control.specs.Shutdown.{shutEnds}
 use Rattle.control.specs.Threshold.{readThresholdEnds, writeThresholdEnds}
@@ -46,7 +46,7 @@ use Rattle.socket.specs.Pair.{own, endsOf}
 use Rattle.syscall.specs.Control.{dispositionOf}
 use Rattle.syscall.specs.Ends.{userDisposeEnds, userShutEnds}
 use Rattle.socket.proofs.ends_of as ends
-use Rattle.ends.proofs.wait_answer as wait-answer
+use Rattle.answers.proofs.wait_answer as wait-answer
 use Rattle.control.proofs.shutdown_ends as shutdown-ends
 use Rattle.control.proofs.read_threshold_ends as read-threshold-ends
 use Rattle.control.proofs.write_threshold_ends as write-threshold-ends

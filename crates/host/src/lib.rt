@@ -4,7 +4,7 @@ use socket::Pair;
 ghost use mathlib.Core.Path.{_≡_};
 ghost use lib.ListN.{length};
 ghost use lib.Dec.{eqb};
-ghost use Rattle.ends.specs.Create.{createAnswer};
+ghost use Rattle.answers.specs.Create.{createAnswer};
 ghost use Rattle.socket.specs.Pair.{isOne, newPair, shownBy};
 ghost use Rattle.socket.specs.Tests.{Steps};
 ghost use Rattle.socket.specs.Write.{Wrote};
@@ -121,7 +121,7 @@ pub extern "C" fn murgwethan_set_write_threshold(p: &mut Pair, handle: u32, thre
 pub extern "C" fn murgwethan_wait(p: &mut Pair, handle: u32, key: u64, mask: u32, edge: u8) -> i64
     ensures { λ w. ⌜ Answered (Steps (now (p .entry)) (waitAnswer (now (p .entry)) handle edge) (waited (isOne handle) key mask edge (now (p .entry)))) (now (p .exit)) w ⌝ }
 {
-    let a = ends::wait_answer(socket::ends_of(*p), handle, edge);
+    let a = answers::wait_answer(socket::ends_of(*p), handle, edge);
     kept_pair::wait(p, a, handle, key, mask, edge)
 }
 

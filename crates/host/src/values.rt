@@ -14,7 +14,7 @@ ghost use Rattle.control.specs.Disposition.{disposeEnds};
 ghost use Rattle.socket.specs.Info.{infoAnswer};
 ghost use Rattle.socket.specs.Threshold.{thresholdsAnswer};
 ghost use Rattle.socket.specs.Wait.{takeAnswer};
-ghost use Rattle.ends.specs.Create.{createAnswer};
+ghost use Rattle.answers.specs.Create.{createAnswer};
 ghost use lib.ListN.{length};
 ghost use Rattle.syscall.specs.Control.{dispositionOf};
 ghost use Rattle.host.specs.Host.{signalNumber};
@@ -165,7 +165,7 @@ pub fn create_answer(
 ) -> Answer
     ensures { λ a. ⌜ a ≡ createAnswer kind capacity «rights_one» «rights_two» (length (now («ring_one» .entry))) (length (now («table_one» .entry))) (length (now («ring_two» .entry))) (length (now («table_two» .entry))) ⌝ }
 {
-    ends::create_answer(
+    answers::create_answer(
         kind,
         capacity,
         rights_one,

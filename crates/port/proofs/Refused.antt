@@ -6,8 +6,7 @@ use mathlib.Core.Logic.{⊎-elim}
 use native.Mathlib.Omega.{arith}
 use lib.Dec.{eqb}
 use borrow.Author.Tests.{leb-true, eqb-true, eqb-false}
-use Rattle.status.specs.Answer.{isDone, refuseIf, refuseUnless, _then_}
-use Rattle.status.specs.declared.Status.the-variants.{Internal, NoResources}
+use Rattle.status.specs.Answer.{isDone}
 use Rattle.places.specs.declared.Places.{Places}
 use Rattle.places.specs.Table.{used, sound}
 use Rattle.places.specs.Next.{refused, done}
@@ -18,22 +17,6 @@ use Rattle.places.proofs.Lists.{either}
 use Rattle.firing.proofs.Operations.{change-unsound, change-sound}
 use Rattle.packets.proofs.Operations.{take-unsound, take-none, take-done}
 use Rattle.port.proofs.Operations.{register-unsound, register-full, register-done, drop-unsound, drop-done}
-
--- the answer to a registration, as a chain of tests
-pub register-answer : (one : Bool) (w key mask : ℕ) (edge : Bool) (t : Places)
-    → registerOf one w key mask edge t .answer ≡ (refuseUnless (sound t) Internal then refuseIf (eqb (used t) 128) NoResources)
-unfolding refused done refuseIf refuseUnless _then_
-register-answer one w key mask edge t =
-    ⊎-elim
-    (λ (s : sound t ≡ true).
-    ⊎-elim
-    (λ (e : eqb (used t) 128 ≡ true). rw (register-full one w key mask edge t (eqb-true (used t) 128 e), s, e) refl)
-    (λ (e : eqb (used t) 128 ≡ false).
-    let below : used t < 128 = omega (arith, leb-true (used t) 128 s, eqb-false (used t) 128 e) in
-    rw (register-done one w key mask edge t below, s, e) refl)
-    (either (eqb (used t) 128)))
-    (λ (s : sound t ≡ false). rw (register-unsound one w key mask edge t s, s) refl)
-    (either (sound t))
 
 pub register-refused : (one : Bool) (w key mask : ℕ) (edge : Bool) (t : Places)
     → isDone (registerOf one w key mask edge t .answer) ≡ false → registerOf one w key mask edge t .places ≡ t

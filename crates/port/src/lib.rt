@@ -9,16 +9,11 @@ use places::is_sound;
 use places::is_unused;
 use places::sound_answer;
 use places::word_if;
-use status::Answer;
-use status::Record;
-use status::Status;
 ghost use mathlib.Core.Path.{_≡_};
 ghost use mathlib.Core.Bool.{true, not};
 ghost use Prim.Native.Nat.{_+_, _≤_, _<_};
 ghost use lib.Dec.{leb, ltb, eqb};
 ghost use Rattle.status.specs.Choice.{pick, _and_};
-ghost use Rattle.status.specs.Answer.{refuseIf, refuseUnless, _then_};
-ghost use Rattle.status.specs.declared.Status.the-variants.{Internal, NoResources};
 ghost use Rattle.signal.specs.Signal.{meets};
 ghost use Rattle.places.specs.Table.{unused};
 ghost use Rattle.port.specs.Port.{insertedOf, appendedOf, droppedOf, registerOf, dropOf};
@@ -130,29 +125,6 @@ pub fn first_registered(
         out.waits = waits;
     }
     out
-}
-
-// The answer to the registration of a wait.
-fn register_answer(packets: usize, waits: usize) -> Answer
-    ensures { λ r. ⌜ r ≡ (refuseUnless (leb (packets + waits) 128) Internal then refuseIf (eqb (packets + waits) 128) NoResources) ⌝ }
-{
-    if !is_sound(packets, waits) {
-        return Answer::Refused(Status::Internal);
-    }
-    if packets + waits == 128 {
-        return Answer::Refused(Status::NoResources);
-    }
-    Answer::Done(Record::Empty)
-}
-
-// Registers a wait of that end, whose present word is `word`. Unless `edge` is set, the wait is tested against it at once.
-pub fn register(t: Places, one: bool, word: u32, key: u64, mask: u32, edge: bool) -> Next
-    ensures { λ r. ⌜ r ≡ registerOf one word key mask edge t ⌝ }
-{
-    Next {
-        places: registered(t, true, one, word, key, mask, edge),
-        answer: register_answer(t.packets, t.waits),
-    }
 }
 
 // Removes that end's waits, if the table is sound: each wait's place is freed, and a wait of the other end goes behind those kept so far.

@@ -9,11 +9,11 @@ use native.Mathlib.Nat.{zero-sub, zero-min}
 use native.Mathlib.Numerals.{add-one}
 use lib.Dec.{ltb, leb, lit≤}
 use lib.ListN.{length, getD, take, drop, set, length-append, length-take, length-drop, List·getD-append}
-use lib.Seq.{paste, paste-zero, length-paste, getD-take, getD-drop, set-split}
+use lib.Seq.{paste, paste-zero, length-paste, getD-take, getD-drop, take-take, set-split}
 use borrow.Author.Tests.{lt-ltb, le-ltb, le-leb, ltb-true, leb-true}
 use Rattle.status.specs.Choice.{pick, _and_}
 use Rattle.ring.specs.Ring.{place, front, put, fits, copiedIn, copiedOut}
-use Rattle.ring.proofs.Lists.{split, ext, getD-right, paste-before, paste-in, paste-after}
+use Rattle.ring.proofs.Lists.{split, ext, getD-right, take-part, paste-before, paste-in, paste-after}
 
 -- ---- places
 
@@ -152,6 +152,12 @@ module _ {A : Type 0} (C at n : ℕ) (xs ring : List A) (low : at < C) (room : n
 pub put-none : {A : Type 0} (C at : ℕ) (xs ring : List A) → put C at 0 xs ring ≡ ring
 unfolding put
 put-none C at xs ring = simp (zero-sub, zero-min) (sym (paste-zero (paste ring at xs 0) 0 (drop 0 xs)) ∙ sym (paste-zero ring at xs))
+
+-- of xs, only the first n entries matter to a put of n
+pub put-take : {A : Type 0} (C at n : ℕ) (xs ring : List A) → n ≤ length xs → put C at n (take n xs) ring ≡ put C at n xs ring
+unfolding put
+put-take C at n xs ring has =
+    rw (take-take (min n (C - at)) n xs (omega arith), take-part (n - (C - at)) (min n (C - at)) n xs (omega arith) has) refl
 
 -- one entry is put by a store
 pub put-one : {A : Type 0} (C at : ℕ) (v : A) (ring : List A) → at < C → C ≤ length ring → put C at 1 (v ∷ []) ring ≡ set ring at v

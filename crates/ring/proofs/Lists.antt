@@ -5,8 +5,8 @@ use mathlib.Core.List.{List, [], _∷_, _++_, append-assoc, append-nil}
 use native.Mathlib.Omega.{arith}
 use native.Mathlib.Decide.{decLe}
 use native.Mathlib.Nat.{lt-of-not-le, le-refl, zero-add, sub-zero}
-use lib.ListN.{length, getD, take, drop, length-append, length-take, length-drop, List·getD-append, drop-of-length-le}
-use lib.Seq.{paste, getD-take, getD-drop, getD-append-add, ext-getD, take-length, take-all, take-add, take-append-seam, drop-append-add, take-paste, drop-paste, take-take, drop-drop}
+use lib.ListN.{length, getD, take, drop, length-append, length-take, length-drop, List·getD-append, drop-of-length-le, take-append-drop}
+use lib.Seq.{paste, drop-append-le, take-append-le, getD-take, getD-drop, getD-append-add, ext-getD, take-length, take-all, take-add, take-append-seam, drop-append-add, take-paste, drop-paste, take-take, drop-drop}
 
 -- one order of two numbers or the other
 pub split {ℓ} : {X : Type ℓ} (a b : ℕ) → (a ≤ b → X) → (b < a → X) → X
@@ -65,13 +65,24 @@ module _ {A : Type 0} where
       let second : ps ≡ s = f ∙ simp (first, sub-zero, take-append-seam) in
       g ∙ simp (second, zero-add)
 
-  -- a copy to the part of l from `at` on
-  pub copied-part : (l s ys : List A) (at k : ℕ) → k ≡ length l - at → ys ≡ paste (take k (drop at l)) 0 s (length s)
-      → take at l ++ (ys ++ drop k (drop at l)) ≡ paste l at s (length s)
-  copied-part l s ys at k e f =
-      let all : take k (drop at l) ≡ drop at l = take-all k (drop at l) (simp length-drop (omega arith)) in
-      let none : drop k (drop at l) ≡ [] = drop-of-length-le (drop at l) {i = k} (simp length-drop (omega arith)) in
-      simp (f, all, none, append-nil, drop-drop, zero-add, append-assoc)
+  -- a part of a list past its first k entries, with what stands behind the part
+  drop-part : (k n : ℕ) (l : List A) → k ≤ n → n ≤ length l → drop k (take n l) ++ drop n l ≡ drop k l
+  drop-part k n l h room =
+      sym (drop-append-le k (take n l) (drop n l) (simp length-take (omega arith))) ∙ ap (drop k) (take-append-drop n l)
+
+  -- the entries past the first j of a part
+  pub take-part : (i j n : ℕ) (l : List A) → i + j ≤ n → n ≤ length l → take i (drop j (take n l)) ≡ take i (drop j l)
+  take-part i j n l h room =
+      sym (take-append-le i (drop j (take n l)) (drop n l) (simp (length-drop, length-take) (omega arith)))
+      ∙ ap (take i) (drop-part j n l (omega arith) room)
+
+  -- a copy to the start of the part of l that has n entries from `at` on
+  pub copied-part : (l f ys : List A) (at n k : ℕ) → k ≤ n → at + n ≤ length l → ys ≡ paste (take n (drop at l)) 0 f k
+      → take at l ++ (ys ++ drop n (drop at l)) ≡ paste l at f k
+  copied-part l f ys at n k h room e =
+      let rest : drop k (take n (drop at l)) ++ drop n (drop at l) ≡ drop (at + k) l
+      = drop-part k n (drop at l) h (simp length-drop (omega arith)) ∙ drop-drop k at l in
+      rw (e, zero-add, append-assoc (take k f), rest, ← append-assoc (take at l)) refl
 
   -- the next n of xs copied behind the first i of it
   pub paste-next : (l : List A) (at : ℕ) (xs : List A) (i n : ℕ) → at ≤ length l → i + n ≤ length xs
@@ -85,13 +96,17 @@ module _ {A : Type 0} where
       ∙ ap (λ (j : ℕ). drop j l) (let e : at + i + n ≡ at + (i + n) = omega arith in e) in
       rw (k, take-paste l at xs i h (omega arith), behind, take-take n n (drop i xs) (le-refl n), append-assoc (take at l) (take i xs) (take n (drop i xs)), ← take-add i n xs)
 
-  -- a copy of the next n of xs to the part of m from at + i on, where m has the first i of xs from `at` on
-  pub copied-next : (l m xs ys : List A) (at i n : ℕ) → at ≤ length l → i + n ≤ length xs → m ≡ paste l at xs i
-      → ys ≡ paste (take (length m - (at + i)) (drop (at + i) m)) 0 (take (i + n - i) (drop i xs)) (length (take (i + n - i) (drop i xs)))
-      → take (at + i) m ++ (ys ++ drop (length m - (at + i)) (drop (at + i) m)) ≡ paste l at xs (i + n)
-  copied-next l m xs ys at i n h has e f =
+  -- a copy of the next n of xs to the part of m from i on, where m has the first i of xs at its start
+  pub copied-next : (l m xs ys : List A) (i n : ℕ) → i + n ≤ length xs → i + n ≤ length m → m ≡ paste l 0 xs i
+      → ys ≡ paste (take (length m - i) (drop i m)) 0 (take (i + n - i) (drop i xs)) (length (take (i + n - i) (drop i xs)))
+      → take i m ++ (ys ++ drop (length m - i) (drop i m)) ≡ paste l 0 xs (i + n)
+  copied-next l m xs ys i n has room e f =
       let k : i + n - i ≡ n = omega arith in
-      copied-part m (take (i + n - i) (drop i xs)) ys (at + i) (length m - (at + i)) refl f ∙ rw (k, e) (paste-next l at xs i n h has)
+      let len : length (take (i + n - i) (drop i xs)) ≤ length m - i = simp (length-take, length-drop) (omega arith) in
+      copied-part m (take (i + n - i) (drop i xs)) ys i (length m - i) (length (take (i + n - i) (drop i xs))) len (omega arith) f
+      ∙ rw (k, e)
+      (subst (λ (j : ℕ). paste (paste l 0 xs i) j (take n (drop i xs)) (length (take n (drop i xs))) ≡ paste l 0 xs (i + n)) (zero-add i)
+      (paste-next l 0 xs i n (omega arith) has))
 
   -- a copy of a part of xs, as a copy of the first n from f on
   pub paste-part : (l : List A) (at : ℕ) (xs : List A) (f n : ℕ) → f + n ≤ length xs

@@ -55,39 +55,38 @@ fn copy_block(dst: &mut [u8], src: &[u8])
     bytes::copy(&filled[0..n], dst);
 }
 
-// Copies all of src into dst from index `at` on, block by block.
-fn copy_at(dst: &mut [u8], at: usize, src: &[u8])
-    requires { ⌜ at + length (now src) ≤ length (now dst) ⌝ }
-    ensures { λ _. ⌜ now (dst .exit) ≡ paste (now (dst .entry)) at (now (src .entry)) (length (now (src .entry))) ⌝ }
+// Copies all of src to the start of dst, block by block.
+fn copy(dst: &mut [u8], src: &[u8])
+    requires { ⌜ length (now src) ≤ length (now dst) ⌝ }
+    ensures { λ _. ⌜ now (dst .exit) ≡ paste (now (dst .entry)) 0 (now (src .entry)) (length (now (src .entry))) ⌝ }
 {
     let mut i = 0;
     while i < src.len() {
         let n = least(src.len() - i, BLOCK);
-        let to = at + i;
         let end = i + n;
-        copy_block(&mut dst[to..], &src[i..end]);
+        copy_block(&mut dst[i..], &src[i..end]);
         i = end;
     }
 }
 
-// Puts the first n bytes of src into the ring from the place `at` on.
+// Puts the first n bytes of src into the ring from the place `at` on: into the part up to the ring's end, then into the part before that place.
 fn put(ring: &mut [u8], capacity: usize, at: usize, src: &[u8], n: usize)
     requires { ⌜ (at < capacity) × (n ≤ capacity) × (capacity ≤ length (now ring)) × (n ≤ length (now src)) ⌝ }
     ensures { λ _. ⌜ now (ring .exit) ≡ Ring.put capacity at n (now (src .entry)) (now (ring .entry)) ⌝ }
 {
     let first = least(n, capacity - at);
-    copy_at(ring, at, &src[0..first]);
-    copy_at(ring, 0, &src[first..n]);
+    copy(&mut ring[at..capacity], &src[0..first]);
+    copy(&mut ring[0..at], &src[first..n]);
 }
 
-// Copies the n bytes from the place `start` on to the start of dst.
+// Copies the n bytes from the place `start` on to the start of dst: those up to the ring's end, then those from its start.
 fn get(ring: &[u8], capacity: usize, start: usize, n: usize, dst: &mut [u8])
     requires { ⌜ (start < capacity) × (n ≤ capacity) × (capacity ≤ length (now ring)) × (n ≤ length (now dst)) ⌝ }
     ensures { λ _. ⌜ now (dst .exit) ≡ paste (now (dst .entry)) 0 (Ring.front capacity start n (now (ring .entry))) n ⌝ }
 {
     let first = least(n, capacity - start);
-    copy_at(dst, 0, &ring[start..start + first]);
-    copy_at(dst, first, &ring[0..n - first]);
+    copy(dst, &ring[start..start + first]);
+    copy(&mut dst[first..], &ring[0..n - first]);
 }
 
 // Copies the first n bytes of src into the ring from the place `at` on. What does not fit is not copied.

@@ -15,7 +15,7 @@ use Rattle.ends.specs.declared.Ends.{Ends}
 use Rattle.ends.specs.declared.Moved.{Moved}
 use Rattle.ends.specs.declared.Outcome.{Outcome}
 use Rattle.ends.specs.Outcome.{canFire, anyFires, outcomeOf, unchangedEnds}
-use Rattle.ends.specs.Disposition as E
+use Rattle.answers.specs.Disposition as E
 use Rattle.ends.proofs.Sound.{opening-passed}
 use Rattle.control.specs.Disposition.{ownMoved, peerMoved, disposedEnds, disposeEnds}
 use Rattle.socket.specs.declared.Pair.{Pair}

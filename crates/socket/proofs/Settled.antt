@@ -18,15 +18,15 @@ use Rattle.ends.specs.declared.Outcome.{Outcome}
 use Rattle.ends.specs.Tests.{lentOf}
 use Rattle.ends.specs.Outcome.{keptEnds, unchangedEnds}
 use Rattle.transfer.specs.Write.{fedEnds, wroteEnds, EndsWrote}
-use Rattle.transfer.specs.Write as W
+use Rattle.transfer_answers.specs.Write as W
 use Rattle.transfer.specs.Read.{leaving, drainedEnds, readEnds, EndsRead}
-use Rattle.transfer.specs.Read as R
+use Rattle.transfer_answers.specs.Read as R
 use Rattle.socket.specs.declared.Pair.{Pair}
 use Rattle.socket.specs.declared.Step.{Step}
 use Rattle.socket.specs.Pair.{isOne, own, peer, endsOf}
 use Rattle.socket.specs.Write.{wrote, pairWritten, Wrote}
 use Rattle.socket.specs.Read.{consumed, pairRead, Read}
-use Rattle.ends.specs.Threshold.{readThresholdAnswer, writeThresholdAnswer}
+use Rattle.answers.specs.Threshold.{readThresholdAnswer, writeThresholdAnswer}
 use Rattle.ends.proofs.Sound.{passed, opening-passed}
 use Rattle.control.specs.Signal.{movedIf}
 use Rattle.control.specs.Shutdown.{shutEnds}

@@ -8,7 +8,7 @@ use Rattle.signal.specs.Signal.{WRITABLE, «WRITE_DISABLED», «PEER_WRITE_DISA
 use Rattle.endpoint.specs.declared.Disposition.{Disposition}
 use Rattle.endpoint.specs.declared.Disposition.the-variants.{Unchanged, Disable, Enable}
 use Rattle.bits.specs.Bits.{bitIf}
-use Rattle.ends.specs.Disposition as E
+use Rattle.answers.specs.Disposition as E
 use Rattle.socket.specs.declared.Pair.{Pair}
 use Rattle.socket.specs.Pair.{endsOf, peer, signalChange, putBit, switchReading}
 use Rattle.socket.specs.Tests.{openingTest}

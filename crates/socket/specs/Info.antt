@@ -2,7 +2,7 @@
 use Prim.Native.Nat.{ℕ}
 use Rattle.status.specs.declared.Answer.{Answer}
 use Rattle.ends.specs.Tests.{Lent}
-use Rattle.ends.specs.Info as E
+use Rattle.answers.specs.Info as E
 use Rattle.socket.specs.declared.Pair.{Pair}
 use Rattle.socket.specs.Pair.{endsOf}
 

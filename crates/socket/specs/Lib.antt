@@ -1,5 +1,7 @@
--- Where each paragraph of 01 is defined over the pair. The crates ends and transfer (write, read) have the answers over the two ends, the crates
--- below them status (answers), ring (copies), port (places) and endpoint (one end). The crate control has what the other calls do to the two ends:
+-- Where each paragraph of 01 is defined over the pair. The answers over the two ends are in the crates answers (create, disposition, thresholds,
+-- info, wait) and transfer_answers (write, read), with the tests that come first in ends; what a write and a read do to the two ends is in
+-- transfer, what the other calls do in control. Below them: sizes, bits and endpoint (one end), port, packets, firing, places and signal (waits,
+-- packets and words), ring (copies) and status (answers).
 --   Status and answer word    Tests: the record, the handle; Pair: newPair
 --   Signal word and packets   Pair: signalChange; Wait: wait, take
 --   Delivered bytes           Write, Read, Threshold, Disposition (and shutdown); Wait: close

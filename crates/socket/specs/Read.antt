@@ -13,6 +13,7 @@ use Rattle.endpoint.specs.Endpoint.{withQueue}
 use Rattle.bits.specs.Bits.{lostByReader, gainedByWriter}
 use Rattle.ends.specs.Tests.{Lent, lentOf}
 use Rattle.transfer.specs.Read.{leaving, drainedQueue}
+use Rattle.transfer_answers.specs.Read as A
 use Rattle.transfer.specs.Read as E
 use Rattle.socket.specs.declared.Pair.{Pair}
 use Rattle.socket.specs.declared.Step.{Step}
@@ -20,7 +21,7 @@ use Rattle.socket.specs.Pair.{isOne, endsOf, own, peer, withEnd, signalC
 
 -- the answer; a read is lent the slices of its own end
 abbrev pub readAnswer : Pair → Lent → (h n : ℕ) → Answer
-readAnswer p z h n = E.readAnswer (endsOf p) z h n
+readAnswer p z h n = A.readAnswer (endsOf p) z h n
 
 -- the pair after n bytes, more than 0, left the queue of end t: the queue, then the reader's change, then an open peer's
 unfoldable pub consumed : Bool → (n : ℕ) → Pair → Pair

@@ -14,7 +14,7 @@ use Rattle.places.specs.Table.{free, packetsOf, packetOf, waitOf}
 use Rattle.packets.specs.Packets.{takenOf}
 use Rattle.port.specs.Port.{registeredOf, droppedOf}
 use Rattle.endpoint.specs.Endpoint.{closedEnd}
-use Rattle.ends.specs.Wait as E
+use Rattle.answers.specs.Wait as E
 use Rattle.socket.specs.declared.Pair.{Pair}
 use Rattle.socket.specs.Pair.{endsOf, own, peer, withEnd, withPlaces, signalChange}
 use Rattle.socket.specs.Tests.{soundTest, openingTest}

@@ -12,6 +12,7 @@ use Rattle.endpoint.specs.Endpoint.{withQueue}
 use Rattle.bits.specs.Bits.{gainedByPeer, lostByWriter}
 use Rattle.ends.specs.Tests.{Lent, lentOf}
 use Rattle.transfer.specs.Write.{fedQueue}
+use Rattle.transfer_answers.specs.Write as A
 use Rattle.transfer.specs.Write as E
 use Rattle.socket.specs.declared.Pair.{Pair}
 use Rattle.socket.specs.declared.Step.{Step}
@@ -19,7 +20,7 @@ use Rattle.socket.specs.Pair.{isOne, endsOf, own, peer, withEnd, signalC
 
 -- the answer; a write is lent the slices of the peer
 abbrev pub writeAnswer : Pair → Lent → (h n : ℕ) → Answer
-writeAnswer p z h n = E.writeAnswer (endsOf p) z h n
+writeAnswer p z h n = A.writeAnswer (endsOf p) z h n
 
 -- the pair after m bytes, more than 0, went in from end t: the queue, then the peer's change, then the writer's
 unfoldable pub wrote : Bool → (m : ℕ) → Pair → Pair

@@ -14,7 +14,7 @@ impl Pair {
     {
         Step {
             pair: self,
-            answer: ends::info_answer(parts::ends_of(self), handle, table),
+            answer: answers::info_answer(parts::ends_of(self), handle, table),
         }
     }
 }

@@ -16,7 +16,7 @@ impl Pair {
         deferred::settle(self, r)
     }
 
-    // WRITE_THRESHOLD shows while the queue of an open peer has at least so much space; 0 is none.
+    // While the peer is open, WRITE_THRESHOLD shows whether its queue has at least so much space; 0 is none. The bit stays as it is when the peer closes.
     pub fn set_write_threshold(self, handle: u32, threshold: u64) -> Step
         ensures { λ r. ⌜ Steps self (writeThresholdAnswer self handle threshold) (writeThresholdSet (isOne handle) threshold self) r ⌝ }
     {
@@ -30,7 +30,7 @@ impl Pair {
     {
         Step {
             pair: self,
-            answer: ends::thresholds_answer(parts::ends_of(self), handle),
+            answer: answers::thresholds_answer(parts::ends_of(self), handle),
         }
     }
 }

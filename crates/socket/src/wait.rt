@@ -84,7 +84,7 @@ impl Pair {
     pub fn wait(self, handle: u32, key: u64, mask: u32, edge: u8) -> Step
         ensures { λ r. ⌜ Steps self (waitAnswer self handle edge) (waited (isOne handle) key mask edge self) r ⌝ }
     {
-        let a = ends::wait_answer(parts::ends_of(self), handle, edge);
+        let a = answers::wait_answer(parts::ends_of(self), handle, edge);
         Step {
             pair: registered(self, a, handle, key, mask, edge),
             answer: a,

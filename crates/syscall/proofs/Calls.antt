@@ -32,7 +32,8 @@ use Rattle.syscall.specs.Ends.{pairOf, EndsUserWrote, EndsBytesRead, End
 use Rattle.user_memory.specs.Memory.{countFits, countLanded, countPut}
 use Rattle.syscall.specs.Write.{userWriteAnswer}
 use Rattle.syscall.specs.Read.{isPeek, userReadAnswer, bytesLanded, BytesRead, UserRead}
-use Rattle.syscall.proofs.Lists.{paste-part, put-take}
+use Rattle.ring.proofs.Lists.{copied-part}
+use Rattle.ring.proofs.Laws.{put-take}
 use Rattle.user_memory.proofs.Landed.{fits-in, count-put}
 use Rattle.syscall.proofs.Passed.{read-passed, write-passed}
 
@@ -130,7 +131,7 @@ module _ (p : Pair) (h base options address n countAt : ℕ) (ring table memory 
       let t : eqb (countOf y) 0 ≡ false = ne-eqb (countOf y) 0 (λ q. z (ap countOf (sym is) ∙ q)) in (
         is,
         pick-off _ _ _ _ _ t
-            (paste-part memory _ buffer′ (address - base) k (countOf y) (omega (arith, w .most, ap countOf is)) (omega (arith, room .1))
+            (copied-part memory _ buffer′ (address - base) k (countOf y) (omega (arith, w .most, ap countOf is)) (omega (arith, room .1))
             (b ∙ sym (pick-off _ _ _ _ _ t refl))),
       )
 

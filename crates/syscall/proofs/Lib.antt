@@ -1,4 +1,3 @@
-pub mod Lists
 pub mod Passed
 pub mod Calls
 pub mod Same

@@ -17,10 +17,10 @@ use Rattle.status.proofs.Chains.{then-both, then-is, refuse-passed, unless-pass
 use Rattle.endpoint.specs.declared.Endpoint.{Endpoint}
 use Rattle.sizes.specs.Write.{datagramSize, writeSize}
 use Rattle.sizes.specs.Read.{readSize}
-use Rattle.ends.specs.Disposition.{disposeAnswer as endsDisposeAnswer}
-use Rattle.transfer.specs.Read.{readAnswer as endsReadAnswer}
+use Rattle.answers.specs.Disposition.{disposeAnswer as endsDisposeAnswer}
+use Rattle.transfer_answers.specs.Read.{readAnswer as endsReadAnswer}
 use Rattle.ends.specs.Tests.{openingTest, handleTest as endsHandleTest}
-use Rattle.transfer.specs.Write.{writeAnswer}
+use Rattle.transfer_answers.specs.Write.{writeAnswer}
 use Rattle.ends.proofs.Sound.{SoundEnds, sound-passed}
 use Rattle.transfer.proofs.Moved.{write-fits, read-fits}
 use Rattle.socket.specs.declared.Pair.{Pair}
@@ -29,14 +29,17 @@ use Rattle.socket.specs.Tests.{Lent, handleTest}
 use Rattle.socket.specs.Read.{readAnswer}
 use Rattle.socket.specs.Disposition.{disposeAnswer, shutdownAnswer}
 use Rattle.user_memory.specs.Memory.{fits, countFits}
-use Rattle.syscall.specs.Lookup.{lookup}
-use Rattle.syscall.specs.Write.{writeRanges, userWriteAnswer, Taking}
+use Rattle.user_answers.specs.Lookup.{lookup}
+use Rattle.user_answers.specs.Write.{writeRanges, userWriteAnswer as endsUserWriteAnswer}
+use Rattle.user_answers.specs.Read.{userReadAnswer as endsUserReadAnswer}
+use Rattle.user_answers.specs.Control.{userDisposeAnswer as endsUserDisposeAnswer, userShutdownAnswer as endsUserShutdownAnswer}
+use Rattle.syscall.specs.Write.{userWriteAnswer, Taking}
 use Rattle.syscall.specs.Read.{userReadAnswer}
 use Rattle.syscall.specs.Control.{dispositionOf, userDisposeAnswer, userShutdownAnswer}
 use Rattle.user_memory.proofs.Landed.{fits-in}
 
 -- a lookup that passed: the handle is open, and the rest is what the call without user memory asks
-handle-passed : (p : Pair) (h right : ℕ) → isDone (lookup p h right) ≡ true → isDone (handleTest p h) ≡ true
+handle-passed : (p : Pair) (h right : ℕ) → isDone (lookup (endsOf p) h right) ≡ true → isDone (handleTest p h) ≡ true
 unfolding lookup
 handle-passed p h right d = then-both _ _ d .0
 
@@ -112,7 +115,7 @@ pub record WritePassed (p : Pair) (z : Lent) (h base size address countAt : ℕ)
 
 pub write-passed : (p : Pair) (z : Lent) (h base size options address n countAt : ℕ) (x : Answer)
     → x ≡ userWriteAnswer p z h base size options address n countAt → isDone x ≡ true → WritePassed p z h base size address countAt x
-unfolding userWriteAnswer writeAnswer
+unfolding endsUserWriteAnswer writeAnswer
 write-passed p z h base size options address n countAt x e d =
     let s = then-both _ _ (ap isDone (sym e) ∙ d) in
     let l = then-both _ _ (s .1) in
@@ -151,7 +154,7 @@ pub record ReadPassed (p : Pair) (z : Lent) (h base size address n countAt : ℕ
 
 pub read-passed : (p : Pair) (z : Lent) (h base size options address n countAt : ℕ) (x : Answer)
     → x ≡ userReadAnswer p z h base size options address n countAt → isDone x ≡ true → ReadPassed p z h base size address n countAt x
-unfolding userReadAnswer endsReadAnswer
+unfolding endsUserReadAnswer endsReadAnswer
 read-passed p z h base size options address n countAt x e d =
     let s = then-both _ _ (ap isDone (sym e) ∙ d) in
     let l = then-both _ _ (s .1) in
@@ -189,7 +192,7 @@ refuse-ok b s d = sym (pass-last b s (refuse-passed b s d))
 
 pub dispose-passed : (p : Pair) (h a b : ℕ) → isDone (userDisposeAnswer p h a b) ≡ true
     → disposeAnswer p h (dispositionOf a) (dispositionOf b) ≡ userDisposeAnswer p h a b
-unfolding userDisposeAnswer endsDisposeAnswer openingTest
+unfolding endsUserDisposeAnswer endsDisposeAnswer openingTest
 dispose-passed p h a b d =
     let s = then-both _ _ d in
     let u = then-both _ _ (s .1) in
@@ -200,7 +203,7 @@ dispose-passed p h a b d =
     ∙ sym (then-is _ _ (s .0) ∙ then-is _ _ (u .0) ∙ then-is _ _ (v .0) ∙ then-is _ _ (f .0))
 
 pub shutdown-passed : (p : Pair) (h : ℕ) → isDone (userShutdownAnswer p h) ≡ true → shutdownAnswer p h ≡ userShutdownAnswer p h
-unfolding userShutdownAnswer shutdownAnswer openingTest lookup endsHandleTest
+unfolding endsUserShutdownAnswer shutdownAnswer openingTest lookup endsHandleTest
 shutdown-passed p h d =
     let s = then-both _ _ d in
     let f = then-both _ _ (s .1) in

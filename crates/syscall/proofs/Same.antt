@@ -8,7 +8,6 @@ use Rattle.socket.specs.declared.Pair.{Pair}
 use Rattle.socket.specs.Pair.{isOne, own, peer, endsOf}
 use Rattle.socket.specs.Tests.{lentOf}
 use Rattle.syscall.specs.Ends.{pairOf}
-use Rattle.syscall.specs.Lookup.{lookup}
 use Rattle.syscall.specs.Write.{userWriteAnswer}
 use Rattle.syscall.specs.Read.{userReadAnswer, bytesLanded}
 use Rattle.syscall.specs.Control.{userDisposeAnswer, userShutdownAnswer}
@@ -18,13 +17,11 @@ module _ (p : Pair) (h : ℕ) where
     pub same-write :
         userWriteAnswer (pairOf (endsOf p)) (lentOf (p .datagram) (peer (isOne h) p .queue) ring table) h base size options address n countAt
         ≡ userWriteAnswer p (lentOf (p .datagram) (peer (isOne h) p .queue) ring table) h base size options address n countAt
-    unfolding userWriteAnswer lookup
     same-write = refl
 
     pub same-read :
         userReadAnswer (pairOf (endsOf p)) (lentOf (p .datagram) (own (isOne h) p .queue) ring table) h base size options address n countAt
         ≡ userReadAnswer p (lentOf (p .datagram) (own (isOne h) p .queue) ring table) h base size options address n countAt
-    unfolding userReadAnswer lookup
     same-read = refl
 
   pub same-landed : (base address k : ℕ) (ring memory : List ℕ)
@@ -34,9 +31,7 @@ module _ (p : Pair) (h : ℕ) where
 
   -- the same of the answer to a test of the ends
   pub told-dispose : (a b : ℕ) (e : Ends) (x : Answer) → e ≡ endsOf p → x ≡ userDisposeAnswer (pairOf e) h a b → x ≡ userDisposeAnswer p h a b
-  unfolding userDisposeAnswer lookup
   told-dispose a b e x f g = g ∙ ap (λ (k : Ends). userDisposeAnswer (pairOf k) h a b) f
 
   pub told-shutdown : (e : Ends) (x : Answer) → e ≡ endsOf p → x ≡ userShutdownAnswer (pairOf e) h → x ≡ userShutdownAnswer p h
-  unfolding userShutdownAnswer lookup
   told-shutdown e x f g = g ∙ ap (λ (k : Ends). userShutdownAnswer (pairOf k) h) f

@@ -1,42 +1,16 @@
 -- Disposition and shutdown by their numbers. 01 "Calls over user memory", disposition and shutdown.
 use Prim.Native.Nat.{ℕ}
-use mathlib.Core.Bool.{Bool}
-use lib.Dec.{ltb, eqb}
-use Rattle.status.specs.declared.Status.the-variants.{InvalidArgs}
 use Rattle.status.specs.declared.Answer.{Answer}
-use Rattle.status.specs.Choice.{pick}
-use Rattle.status.specs.Answer.{refuseIf, _then_}
-use Rattle.signal.specs.Signal.{meets}
-use Rattle.endpoint.specs.declared.Disposition.{Disposition}
-use Rattle.endpoint.specs.declared.Disposition.the-variants.{Unchanged, Disable, Enable}
-use Rattle.endpoint.specs.Disposition.{disposeChecks}
 use Rattle.socket.specs.declared.Pair.{Pair}
-use Rattle.socket.specs.Pair.{isOne, own, peer}
-use Rattle.socket.specs.Tests.{soundTest}
-use Rattle.syscall.specs.Lookup.{RIGHT-WRITE, RIGHT-MANAGE, lookup}
+use Rattle.socket.specs.Pair.{endsOf}
+use Rattle.user_answers.specs.Control as A
+pub use Rattle.user_answers.specs.Control.{shutsWrite, shutsRead}
+unfoldable pub use Rattle.user_answers.specs.Control.{dispositionOf}
 
--- 01 "Delivered bytes", disposition: 0 leaves an end's writing unchanged, 1 disables it, 2 enables it. `userDisposeAnswer` refuses numbers above
--- 2. The host's plain call has no −10 (docs/DECISIONS.md): it takes them as 0.
-unfoldable pub dispositionOf : ℕ → Disposition
-dispositionOf n = pick (eqb n 1) Disable (pick (eqb n 2) Enable Unchanged)
+-- 01 "Calls over user memory", disposition: the answer
+abbrev pub userDisposeAnswer : Pair → (h disposition peerDisposition : ℕ) → Answer
+userDisposeAnswer p h a b = A.userDisposeAnswer (endsOf p) h a b
 
--- 01 "Calls over user memory", disposition: both numbers, then the lookup with manage, then the checks of a disposition
-unfoldable pub userDisposeAnswer : Pair → (h disposition peerDisposition : ℕ) → Answer
-userDisposeAnswer p h a b =
-    soundTest p
-    then refuseIf (ltb 2 a) InvalidArgs
-    then refuseIf (ltb 2 b) InvalidArgs
-    then lookup p h RIGHT-MANAGE
-    then disposeChecks (own (isOne h) p) (peer (isOne h) p) (dispositionOf a) (dispositionOf b)
-
--- 01 "Calls over user memory", shutdown: bit 0x1 of the options is write; bits other than 0x1 and 0x2 are ignored
-abbrev pub shutsWrite : (options : ℕ) → Bool
-shutsWrite options = meets options 1
-
--- 01 "Calls over user memory", shutdown: bit 0x2 of the options is read
-abbrev pub shutsRead : (options : ℕ) → Bool
-shutsRead options = meets options 2
-
--- 01 "Calls over user memory", shutdown: the lookup with write; any options are taken
-unfoldable pub userShutdownAnswer : Pair → (h : ℕ) → Answer
-userShutdownAnswer p h = soundTest p then lookup p h RIGHT-WRITE
+-- 01 "Calls over user memory", shutdown: the answer
+abbrev pub userShutdownAnswer : Pair → (h : ℕ) → Answer
+userShutdownAnswer p h = A.userShutdownAnswer (endsOf p) h

@@ -1,41 +1,27 @@
 -- Read and peek over user memory. 01 "Calls over user memory", read.
 use Prim.Native.Nat.{ℕ, _-_}
 use mathlib.Core.Path.{_≡_}
-use mathlib.Core.Bool.{Bool}
 use mathlib.Core.List.{List}
 use lib.ListN.{length}
 use lib.Dec.{eqb}
 use lib.Seq.{paste}
-use Rattle.status.specs.declared.Status.the-variants.{InvalidArgs}
 use Rattle.status.specs.declared.Answer.{Answer}
-use Rattle.status.specs.Choice.{pick, _or_}
-use Rattle.status.specs.Answer.{refuseIf, refuseUnless, _then_, countOf, isDone}
+use Rattle.status.specs.Choice.{pick}
+use Rattle.status.specs.Answer.{countOf, isDone}
 use Rattle.ring.specs.Ring.{front}
 use Rattle.endpoint.specs.Queue.{firstLength}
-use Rattle.sizes.specs.Read.{readSize}
 use Rattle.socket.specs.declared.Pair.{Pair}
 use Rattle.socket.specs.declared.Step.{Step}
-use Rattle.socket.specs.Pair.{isOne, own, peer}
-use Rattle.socket.specs.Tests.{soundTest, Lent, lentOf, slicesTest}
+use Rattle.socket.specs.Pair.{isOne, endsOf, own}
+use Rattle.socket.specs.Tests.{Lent, lentOf}
 use Rattle.socket.specs.Read.{pairRead}
-use Rattle.user_memory.specs.Memory.{fits, countFits, isNull, countLanded}
-use Rattle.syscall.specs.Lookup.{RIGHT-READ, lookup}
+use Rattle.user_memory.specs.Memory.{countLanded}
+use Rattle.user_answers.specs.Read as A
+pub use Rattle.user_answers.specs.Read.{isPeek}
 
--- 01 "Calls over user memory", read: option 8 is a peek
-abbrev pub isPeek : (options : ℕ) → Bool
-isPeek options = eqb options 8
-
--- 01 "Calls over user memory", read: the tests in their order. The range of the full count is tested, also where less is queued
-unfoldable pub userReadAnswer : Pair → Lent → (h base size options address n countAt : ℕ) → Answer
-userReadAnswer p z h base size options address n countAt =
-    soundTest p
-    then slicesTest (p .datagram) (p .capacity) h (own (isOne h) p .queue) z
-    then refuseIf (isNull address n) InvalidArgs
-    then refuseUnless (eqb options 0 or isPeek options) InvalidArgs
-    then lookup p h RIGHT-READ
-    then refuseUnless (fits base size address n) InvalidArgs
-    then refuseUnless (countFits base size countAt) InvalidArgs
-    then readSize (p .datagram) (own (isOne h) p) (peer (isOne h) p) (z .first) n
+-- 01 "Calls over user memory", read: the answer; a read is lent the slices of its own end
+abbrev pub userReadAnswer : Pair → Lent → (h base size options address n countAt : ℕ) → Answer
+userReadAnswer p z h base size options address n countAt = A.userReadAnswer (endsOf p) z h base size options address n countAt
 
 -- 01 "Calls over user memory", read: memory once the k delivered bytes have landed, before the count does
 unfoldable pub bytesLanded : Pair → (h base address k : ℕ) → (ring memory : List ℕ) → List ℕ

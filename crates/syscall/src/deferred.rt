@@ -1,11 +1,10 @@
 // The calls over user memory that change the two ends and leave the visit of the waits for later.
-use crate::tests;
-use crate::tests::Buffer;
-use crate::tests::SOCKET_PEEK;
 use ends::Ends;
 use ends::Outcome;
 use ends::unchanged;
 use status::Answer;
+use user_answers::Buffer;
+use user_answers::SOCKET_PEEK;
 use user_memory::land_count;
 ghost use mathlib.Core.Path.{_≡_};
 ghost use Prim.Native.Nat.{_-_};
@@ -68,7 +67,7 @@ pub fn write_ends(
         count,
         count_at,
     };
-    let a = tests::write_answer(p, handle, options, b, ring, table);
+    let a = user_answers::write_answer(p, handle, options, b, ring, table);
     if !status::is_done(a) {
         return unchanged(p, a);
     }
@@ -99,7 +98,7 @@ pub fn bytes_ends(
         count,
         count_at,
     };
-    let a = tests::read_answer(p, handle, options, b, ring, table);
+    let a = user_answers::read_answer(p, handle, options, b, ring, table);
     if status::count_of(a) == 0 {
         return unchanged(p, a);
     }
@@ -154,23 +153,24 @@ pub fn read_ends(
 pub fn dispose_ends(e: Ends, handle: u32, disposition: u32, peer_disposition: u32) -> Outcome
     ensures { λ r. ⌜ r ≡ userDisposeEnds e handle disposition «peer_disposition» ⌝ }
 {
-    let a = tests::dispose_answer(e, handle, disposition, peer_disposition);
+    let a = user_answers::dispose_answer(e, handle, disposition, peer_disposition);
     if !status::is_done(a) {
         return unchanged(e, a);
     }
     control::dispose_ends(
         e,
         handle,
-        tests::disposition_of(disposition),
-        tests::disposition_of(peer_disposition),
+        user_answers::disposition_of(disposition),
+        user_answers::disposition_of(peer_disposition),
     )
 }
 
-// Prevents reading or writing by the end of a handle, by bits, but leaves the visit of the waits for later.
+// Prevents reading or writing by the end of a handle, by bits, with the negated flags for an open peer, but leaves the visit of the waits for
+// later.
 pub fn shutdown_ends(e: Ends, handle: u32, options: u32) -> Outcome
     ensures { λ r. ⌜ r ≡ userShutEnds e handle options ⌝ }
 {
-    let a = tests::shutdown_answer(e, handle);
+    let a = user_answers::shutdown_answer(e, handle);
     if !status::is_done(a) {
         return unchanged(e, a);
     }

@@ -11,7 +11,6 @@ ghost use Rattle.syscall.specs.Read.{BytesRead, UserRead};
 ghost use Rattle.syscall.specs.Control.{dispositionOf, userDisposeAnswer, userShutdownAnswer, shutsRead, shutsWrite};
 
 mod deferred;
-mod tests;
 
 pub use deferred::dispose_ends;
 pub use deferred::read_ends;
@@ -116,7 +115,7 @@ pub fn set_disposition(p: Pair, handle: u32, disposition: u32, peer_disposition:
     settle(p, r)
 }
 
-// Prevents reading or writing by the end of a handle, by bits.
+// Prevents reading or writing by the end of a handle, by bits; an open peer gets the negated flags.
 pub fn shutdown(p: Pair, handle: u32, options: u32) -> Step
     ensures { λ r. ⌜ Steps p (userShutdownAnswer p handle) (shut (isOne handle) (shutsRead options) (shutsWrite options) p) r ⌝ }
 {

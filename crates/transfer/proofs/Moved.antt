@@ -20,8 +20,10 @@ use Rattle.sizes.specs.Read.{emptyAnswer, availableIn, readSize}
 use Rattle.ends.specs.declared.Ends.{Ends}
 use Rattle.ends.specs.Ends.{isOne, own, peer}
 use Rattle.ends.specs.Tests.{lentOf}
-use Rattle.transfer.specs.Write.{writeAnswer, Feed}
-use Rattle.transfer.specs.Read.{readAnswer, leaving, Drain}
+use Rattle.transfer_answers.specs.Write.{writeAnswer}
+use Rattle.transfer.specs.Write.{Feed}
+use Rattle.transfer_answers.specs.Read.{readAnswer}
+use Rattle.transfer.specs.Read.{leaving, Drain}
 use Rattle.ends.proofs.Sound.{sound-own, sound-peer, passed}
 
 min-left : (a b : ℕ) → min a b ≤ a

@@ -21,8 +21,10 @@ use Rattle.ends.specs.Ends.{isOne, own, peer}
 use Rattle.ends.specs.Tests.{lentOf}
 use Rattle.ends.specs.Outcome.{noVisits, keepsWord, canFire, anyFires, outcomeOf, keptEnds, unchangedEnds}
 use Rattle.signal.specs.Signal.{changedWord}
-use Rattle.transfer.specs.Write.{writeAnswer, ringFed, ringWritten, tableFed, tableWritten, fedEnds, wroteEnds, EndsWrote}
-use Rattle.transfer.specs.Read.{readAnswer, leaving, bufferRead, drainedEnds, readEnds, EndsRead}
+use Rattle.transfer_answers.specs.Write.{writeAnswer}
+use Rattle.transfer.specs.Write.{ringFed, ringWritten, tableFed, tableWritten, fedEnds, wroteEnds, EndsWrote}
+use Rattle.transfer_answers.specs.Read.{readAnswer}
+use Rattle.transfer.specs.Read.{leaving, bufferRead, drainedEnds, readEnds, EndsRead}
 
 pub ends-wrote : (e : Ends) (h : ℕ) (src ring ring′ table table′ : List ℕ) (x : Answer) (m : ℕ) (o t : Endpoint) (d : Moved) (r : Outcome)
     → x ≡ writeAnswer e (lentOf (e .datagram) (peer (isOne h) e .queue) ring table) h (length src) → m ≡ countOf x

@@ -1,4 +1,4 @@
--- 01 "Delivered bytes": what a write and a read answer and do to the ends, to the rings and tables and to the buffer, but for the visit of the
--- waits.
+-- 01 "Delivered bytes": what a write and a read do to the ends, to the rings and tables and to the buffer, but for the visit of the waits. Their answers are
+-- in the crate transfer_answers.
 pub mod Write
 pub mod Read

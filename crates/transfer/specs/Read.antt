@@ -8,7 +8,7 @@ use lib.Dec.{eqb}
 use lib.Seq.{paste}
 use Rattle.status.specs.declared.Answer.{Answer}
 use Rattle.status.specs.Choice.{pick, _or_}
-use Rattle.status.specs.Answer.{_then_, countOf}
+use Rattle.status.specs.Answer.{countOf}
 use Rattle.ring.specs.Ring.{place, front}
 use Rattle.signal.specs.Signal.{changedWord}
 use Rattle.endpoint.specs.declared.Queue.{Queue}
@@ -16,22 +16,14 @@ use Rattle.endpoint.specs.declared.Endpoint.{Endpoint}
 use Rattle.endpoint.specs.Queue.{firstLength}
 use Rattle.endpoint.specs.Endpoint.{withQueue, withSignals}
 use Rattle.bits.specs.Bits.{lostByReader, gainedByWriter}
-use Rattle.sizes.specs.Read.{readSize}
 use Rattle.ends.specs.declared.Ends.{Ends}
 use Rattle.ends.specs.declared.Pending.{Pending}
 use Rattle.ends.specs.declared.Outcome.{Outcome}
 use Rattle.ends.specs.declared.Moved.{Moved}
 use Rattle.ends.specs.Ends.{isOne, own, peer}
-use Rattle.ends.specs.Tests.{soundTest, Lent, lentOf, slicesTest, handleTest}
+use Rattle.ends.specs.Tests.{lentOf}
 use Rattle.ends.specs.Outcome.{noVisit, noVisits, outcomeOf, keptEnds}
-
--- the answer; a read is lent the slices of its own end
-unfoldable pub readAnswer : Ends → Lent → (h n : ℕ) → Answer
-readAnswer e z h n =
-    soundTest e
-    then slicesTest (e .datagram) (e .capacity) h (own (isOne h) e .queue) z
-    then handleTest e h
-    then readSize (e .datagram) (own (isOne h) e) (peer (isOne h) e) (z .first) n
+use Rattle.transfer_answers.specs.Read.{readAnswer}
 
 -- the bytes that leave the queue where k are delivered: on datagram pairs the whole first datagram, its tail with it
 unfoldable pub leaving : Bool → (first k : ℕ) → ℕ

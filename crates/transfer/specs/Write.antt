@@ -7,28 +7,20 @@ use lib.ListN.{length, set}
 use lib.Dec.{eqb}
 use Rattle.status.specs.declared.Answer.{Answer}
 use Rattle.status.specs.Choice.{pick}
-use Rattle.status.specs.Answer.{_then_, countOf}
+use Rattle.status.specs.Answer.{countOf}
 use Rattle.ring.specs.Ring.{place, put}
 use Rattle.signal.specs.Signal.{changedWord}
 use Rattle.endpoint.specs.declared.Queue.{Queue}
 use Rattle.endpoint.specs.declared.Endpoint.{Endpoint}
 use Rattle.endpoint.specs.Endpoint.{withQueue, withSignals}
 use Rattle.bits.specs.Bits.{gainedByPeer, lostByWriter}
-use Rattle.sizes.specs.Write.{writeSize}
 use Rattle.ends.specs.declared.Ends.{Ends}
 use Rattle.ends.specs.declared.Outcome.{Outcome}
 use Rattle.ends.specs.declared.Moved.{Moved}
 use Rattle.ends.specs.Ends.{isOne, own, peer}
-use Rattle.ends.specs.Tests.{soundTest, Lent, lentOf, slicesTest, handleTest}
+use Rattle.ends.specs.Tests.{lentOf}
 use Rattle.ends.specs.Outcome.{noVisits, outcomeOf, keptEnds}
-
--- the answer; a write is lent the slices of the peer
-unfoldable pub writeAnswer : Ends → Lent → (h n : ℕ) → Answer
-writeAnswer e z h n =
-    soundTest e
-    then slicesTest (e .datagram) (e .capacity) h (peer (isOne h) e .queue) z
-    then handleTest e h
-    then writeSize (e .datagram) (e .capacity) (own (isOne h) e) (peer (isOne h) e) n
+use Rattle.transfer_answers.specs.Write.{writeAnswer}
 
 -- the queue that m bytes went into, on datagram pairs as one more length
 unfoldable pub fedQueue : Bool → (m : ℕ) → Queue → Queue

@@ -11,8 +11,7 @@ use ends::Outcome;
 use ends::Pending;
 use ends::Visits;
 use signal::changed;
-use sizes::read_size;
-use status::Answer;
+use transfer_answers::read_answer;
 ghost use mathlib.Core.Path.{_≡_};
 ghost use Prim.Native.Nat.{_≤_, _<_};
 ghost use lib.ListN.{length};
@@ -23,29 +22,7 @@ ghost use Rattle.ring.specs.Ring.{front};
 ghost use Rattle.ends.specs.Ends.{isOne, own};
 ghost use Rattle.ends.specs.Tests.{lentOf};
 ghost use Rattle.ends.specs.Outcome.{keptEnds};
-ghost use Rattle.transfer.specs.Read.{readAnswer, leaving, Drain, drainedQueue, drainedEnds, EndsRead};
-
-// The tests of a read or peek, then its size.
-fn read_answer(p: Ends, handle: u32, ring: &[u8], table: &[u32], n: usize) -> Answer
-    ensures { λ r. ⌜ r ≡ readAnswer p (lentOf (p .datagram) (own (isOne handle) p .queue) (now (ring .entry)) (now (table .entry))) handle n ⌝ }
-{
-    let sound = ends::sound_test(p);
-    if !status::is_done(sound) {
-        return sound;
-    }
-    let from = p.own(handle == 1);
-    let q = from.queue;
-    let lent = ends::slices_test(p.datagram, p.capacity, handle, q, ring, table);
-    if !status::is_done(lent) {
-        return lent;
-    }
-    let opened = ends::handle_test(p, handle);
-    if !status::is_done(opened) {
-        return opened;
-    }
-    let first = q.first_length(p.datagram, table);
-    read_size(p.datagram, from, p.peer(handle == 1), first, n)
-}
+ghost use Rattle.transfer.specs.Read.{leaving, Drain, drainedQueue, drainedEnds, EndsRead};
 
 // The bytes that leave the queue: a datagram leaves whole.
 fn leaving_of(datagram: bool, first: u32, k: u32) -> u32

@@ -10,8 +10,7 @@ use ends::Outcome;
 use ends::Pending;
 use ends::Visits;
 use signal::changed;
-use sizes::write_size;
-use status::Answer;
+use transfer_answers::write_answer;
 ghost use mathlib.Core.Path.{_≡_};
 ghost use mathlib.Core.Bool.{true};
 ghost use Prim.Native.Nat.{_+_, _≤_, _<_, _^_};
@@ -20,28 +19,7 @@ ghost use Rattle.status.specs.Choice.{pick};
 ghost use Rattle.ends.specs.Ends.{isOne, peer};
 ghost use Rattle.ends.specs.Tests.{lentOf};
 ghost use Rattle.ends.specs.Outcome.{keptEnds};
-ghost use Rattle.transfer.specs.Write.{writeAnswer, fedQueue, ringFed, tableFed, Feed, fedEnds, EndsWrote};
-
-// The tests of a write, then its size.
-fn write_answer(p: Ends, handle: u32, ring: &[u8], table: &[u32], n: usize) -> Answer
-    ensures { λ r. ⌜ r ≡ writeAnswer p (lentOf (p .datagram) (peer (isOne handle) p .queue) (now (ring .entry)) (now (table .entry))) handle n ⌝ }
-{
-    let sound = ends::sound_test(p);
-    if !status::is_done(sound) {
-        return sound;
-    }
-    let to = p.peer(handle == 1);
-    let q = to.queue;
-    let lent = ends::slices_test(p.datagram, p.capacity, handle, q, ring, table);
-    if !status::is_done(lent) {
-        return lent;
-    }
-    let opened = ends::handle_test(p, handle);
-    if !status::is_done(opened) {
-        return opened;
-    }
-    write_size(p.datagram, p.capacity, p.own(handle == 1), to, n)
-}
+ghost use Rattle.transfer.specs.Write.{fedQueue, ringFed, tableFed, Feed, fedEnds, EndsWrote};
 
 // The queue that m bytes went into.
 fn fed_queue(datagram: bool, m: u32, q: Queue) -> Queue

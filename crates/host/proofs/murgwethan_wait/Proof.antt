@@ -51,7 +51,7 @@ use Rattle.ends.proofs.Ends.Laws as E′
 use Rattle.status.proofs.Answer as N
 use Rattle.status.proofs.Answer.Laws as N′
 use Rattle.host.proofs.Callees.{ends-contract, to-ends, goes-ends, ends-told, wait-answer-contract, to-wait-answer, goes-wait-answer, wait-answer-told, wait-contract, to-wait, goes-wait}
-use Rattle.ends.specs.Wait.{waitAnswer as waitAnswerOf}
+use Rattle.answers.specs.Wait.{waitAnswer as waitAnswerOf}
 use Rattle.socket.specs.Pair.{isOne, own, endsOf}
 use Rattle.socket.specs.Deferred.{registeredPair}
 use Rattle.host.specs.Host.{Answered}
@@ -62,10 +62,10 @@ use Rattle.socket.proofs.ends_of as ends
 use Rattle.socket.proofs.ends_of.Symbol as ends-def
 use Rattle.socket.proofs.ends_of.Symbol.{name as #ends}
 use Rattle.socket.proofs.ends_of.Met as ends-thm
-use Rattle.ends.proofs.wait_answer as wait-answer
-use Rattle.ends.proofs.wait_answer.Symbol as wait-answer-def
-use Rattle.ends.proofs.wait_answer.Symbol.{name as #wait-answer}
-use Rattle.ends.proofs.wait_answer.Met as wait-answer-thm
+use Rattle.answers.proofs.wait_answer as wait-answer
+use Rattle.answers.proofs.wait_answer.Symbol as wait-answer-def
+use Rattle.answers.proofs.wait_answer.Symbol.{name as #wait-answer}
+use Rattle.answers.proofs.wait_answer.Met as wait-answer-thm
 use Rattle.kept_pair.proofs.wait as wait
 use Rattle.kept_pair.proofs.wait.Symbol as wait-def
 use Rattle.kept_pair.proofs.wait.Symbol.{name as #wait}

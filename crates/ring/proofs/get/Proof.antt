@@ -1,9 +1,4 @@
-use Prim.Native.Nat.{ℕ, _-_}
-use mathlib.Core.Path.{ap, _∙_}
-use mathlib.Core.List.{List}
 use native.Mathlib.Omega.{arith}
-use lib.ListN.{length, take, drop}
-use lib.Seq.{paste}
 use denote.Ref.{now}
 use Rattle.ring.proofs.Parts.{get-parts}
 use borrow.Author.Needs.{needs}
@@ -14,37 +9,46 @@ sub-least : tie.Need-sub-least
 sub-least c = search needs
 
 least-requires : tie.Need-least-requires
-least-requires c κs = tt
+least-requires c κs = search needs
 
-add-copy-at : tie.Need-add-copy-at
-add-copy-at c = search needs
+add-copy : tie.Need-add-copy
+add-copy c = search needs
 
-sub-copy-at : tie.Need-sub-copy-at
-sub-copy-at c = search needs
+sub-copy : tie.Need-sub-copy
+sub-copy c = search needs
 
-part-copy-at-start : tie.Need-part-copy-at-start
-part-copy-at-start c = search needs
+part-copy-start : tie.Need-part-copy-start
+part-copy-start c = search needs
 
-part-copy-at-end : tie.Need-part-copy-at-end
-part-copy-at-end c = search needs
+part-copy-end : tie.Need-part-copy-end
+part-copy-end c = search needs
 
-copy-at-requires : tie.Need-copy-at-requires
-copy-at-requires c κs = search needs
+copy-requires : tie.Need-copy-requires
+copy-requires c κs = search needs
 
-sub-copy-at-2 : tie.Need-sub-copy-at-2
-sub-copy-at-2 c = search needs
+sub-copy-2 : tie.Need-sub-copy-2
+sub-copy-2 c = search needs
 
-sub-copy-at-3 : tie.Need-sub-copy-at-3
-sub-copy-at-3 c = search needs
+part-copy-start-2 : tie.Need-part-copy-start-2
+part-copy-start-2 c = search needs
 
-part-copy-at-start-2 : tie.Need-part-copy-at-start-2
-part-copy-at-start-2 c = search needs
+part-copy-end-2 : tie.Need-part-copy-end-2
+part-copy-end-2 c = search needs
 
-part-copy-at-end-2 : tie.Need-part-copy-at-end-2
-part-copy-at-end-2 c = search needs
+sub-copy-3 : tie.Need-sub-copy-3
+sub-copy-3 c = search needs
 
-copy-at-requires-2 : tie.Need-copy-at-requires-2
-copy-at-requires-2 c κs = search needs
+sub-copy-4 : tie.Need-sub-copy-4
+sub-copy-4 c = search needs
+
+part-copy-start-3 : tie.Need-part-copy-start-3
+part-copy-start-3 c = search needs
+
+part-copy-end-3 : tie.Need-part-copy-end-3
+part-copy-end-3 c = search needs
+
+copy-requires-2 : tie.Need-copy-requires-2
+copy-requires-2 c κs = search needs
 
 same-length : tie.Need-same-length
 same-length c = search needs
@@ -52,11 +56,8 @@ same-length c = search needs
 returns : tie.Need-returns
 returns c =
     let a = c .before .before .before .before .before .before .before .before .before .before .before .before .before .args in
-    let k = c .before .before .before .before .before .before .before .before .before .before .least .result in
-    let rest = take (a .n - k - 0) (drop 0 (now (a .ring))) in
-    c .before .before .copy-at2 .ensures
-    ∙ ap (λ (r : List ℕ). paste r k rest (length rest)) (c .before .before .before .before .before .before .before .copy-at .ensures)
-    ∙ get-parts (a .capacity) (a .start) (a .n) k (now (a .ring)) (now (a .dst)) (omega arith) (omega arith) (omega arith) (c .before .before .before .before .before .before .before .before .before .before .least .ensures)
+    get-parts (a .capacity) (a .start) (a .n) _ (now (a .ring)) (now (a .dst)) (omega arith) (omega arith) (omega arith) _ _ (omega arith)
+    (c .before .before .before .before .before .before .before .before .before .before .least .ensures) (c .before .before .before .before .before .before .before .copy .ensures) (c .before .before .copy2 .ensures)
 
 pub get-spec : {M : Type 1} → statement M
 get-spec =
@@ -64,15 +65,18 @@ get-spec =
     (tie.spec
     sub-least
     least-requires
-    add-copy-at
-    sub-copy-at
-    part-copy-at-start
-    part-copy-at-end
-    copy-at-requires
-    sub-copy-at-2
-    sub-copy-at-3
-    part-copy-at-start-2
-    part-copy-at-end-2
-    copy-at-requires-2
+    add-copy
+    sub-copy
+    part-copy-start
+    part-copy-end
+    copy-requires
+    sub-copy-2
+    part-copy-start-2
+    part-copy-end-2
+    sub-copy-3
+    sub-copy-4
+    part-copy-start-3
+    part-copy-end-3
+    copy-requires-2
     same-length
     returns)

@@ -3,7 +3,7 @@ use mathlib.Core.Bool.{false}
 use mathlib.Core.Path.{ap}
 use Rattle.status.specs.Answer.{isDone, refuseIf, _then_}
 use Rattle.status.specs.Choice.{pick}
-use Rattle.ends.specs.Create.{numbersAnswer, createAnswer}
+use Rattle.answers.specs.Create.{numbersAnswer, createAnswer}
 use Rattle.socket.specs.declared.Pair.{Pair}
 use Rattle.script.proofs.Turns.{mkState}
 use Rattle.script.specs.Machine.{startState}

@@ -1,0 +1,54 @@
+// The answers of write and read: their tests in their order, over both ends of a pair, then the size. After `Socket::write_size` and `Socket::read`
+// of ipc/socket.rs.
+use ends::Ends;
+use sizes::read_size;
+use sizes::write_size;
+use status::Answer;
+ghost use mathlib.Core.Path.{_≡_};
+ghost use Rattle.ends.specs.Ends.{isOne, own, peer};
+ghost use Rattle.ends.specs.Tests.{lentOf};
+ghost use Rattle.transfer_answers.specs.Write.{writeAnswer};
+ghost use Rattle.transfer_answers.specs.Read.{readAnswer};
+
+// The tests of a write, then its size.
+pub fn write_answer(p: Ends, handle: u32, ring: &[u8], table: &[u32], n: usize) -> Answer
+    ensures { λ r. ⌜ r ≡ writeAnswer p (lentOf (p .datagram) (peer (isOne handle) p .queue) (now (ring .entry)) (now (table .entry))) handle n ⌝ }
+{
+    let sound = ends::sound_test(p);
+    if !status::is_done(sound) {
+        return sound;
+    }
+    let to = p.peer(handle == 1);
+    let q = to.queue;
+    let lent = ends::slices_test(p.datagram, p.capacity, handle, q, ring, table);
+    if !status::is_done(lent) {
+        return lent;
+    }
+    let opened = ends::handle_test(p, handle);
+    if !status::is_done(opened) {
+        return opened;
+    }
+    write_size(p.datagram, p.capacity, p.own(handle == 1), to, n)
+}
+
+// The tests of a read or peek, then its size.
+pub fn read_answer(p: Ends, handle: u32, ring: &[u8], table: &[u32], n: usize) -> Answer
+    ensures { λ r. ⌜ r ≡ readAnswer p (lentOf (p .datagram) (own (isOne handle) p .queue) (now (ring .entry)) (now (table .entry))) handle n ⌝ }
+{
+    let sound = ends::sound_test(p);
+    if !status::is_done(sound) {
+        return sound;
+    }
+    let from = p.own(handle == 1);
+    let q = from.queue;
+    let lent = ends::slices_test(p.datagram, p.capacity, handle, q, ring, table);
+    if !status::is_done(lent) {
+        return lent;
+    }
+    let opened = ends::handle_test(p, handle);
+    if !status::is_done(opened) {
+        return opened;
+    }
+    let first = q.first_length(p.datagram, table);
+    read_size(p.datagram, from, p.peer(handle == 1), first, n)
+}
