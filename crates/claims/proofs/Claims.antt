@@ -8,7 +8,7 @@ use Rattle.claims.proofs.Example.{differ}
 use Rattle.claims.proofs.Refused.{refused-changes-nothing}
 use Rattle.claims.proofs.RunsSound.{runs-are-sound}
 use Rattle.claims.proofs.Edges.{at-the-edges, in-order, packets-in-order}
-use Rattle.claims.proofs.Damaged.{damaged-records, lent-slices}
+use Rattle.claims.proofs.Damaged.{damaged-records, lent-slices, first-lengths, create-arguments}
 
 pub claims : Claims
 claims =
@@ -26,4 +26,6 @@ claims =
       packets = packets-in-order;
       damaged = damaged-records;
       lent = lent-slices;
+      firsts = first-lengths;
+      create = create-arguments;
     }

@@ -1,12 +1,23 @@
--- The tables of damaged records, of slices lent and of create's arguments, by computation. Assumes nothing.
+-- The tables of single calls: damaged records, slices lent, create's arguments. By computation. Assumes nothing.
 use mathlib.Core.Path.{refl}
-use Rattle.claims.specs.Damaged.{recordRows, everyCall, rowWord, damagedWord, DamagedRecords}
-use Rattle.claims.specs.Lends.{sliceRows, creates, LentSlices}
+use Rattle.claims.specs.States.{rowWord}
+use Rattle.claims.specs.Damaged.{edges, streamStates, everyCall, internal, unlistedRows, DamagedRecords}
+use Rattle.claims.specs.Lends.{shortRows, untestedRows, LentSlices}
+use Rattle.claims.specs.FirstLengths.{firstRows, untestedFirsts, FirstLengths}
+use Rattle.claims.specs.Creates.{doneWords, refusedWords, CreateArguments}
 
 pub damaged-records : DamagedRecords
-unfolding recordRows everyCall rowWord damagedWord
-damaged-records = record { rows = refl; calls = refl }
+unfolding edges streamStates everyCall internal rowWord unlistedRows
+damaged-records = record { fine = refl; damaged = refl; streams = refl; unlisted = refl }
 
 pub lent-slices : LentSlices
-unfolding sliceRows rowWord creates
-lent-slices = record { rows = refl; create = refl }
+unfolding shortRows untestedRows rowWord
+lent-slices = record { short = refl; untested = refl }
+
+pub first-lengths : FirstLengths
+unfolding firstRows untestedFirsts rowWord
+first-lengths = record { rows = refl; untested = refl }
+
+pub create-arguments : CreateArguments
+unfolding doneWords refusedWords
+create-arguments = record { done = refl; refused = refl }

@@ -9,6 +9,8 @@ use Rattle.claims.specs.Packets.{Packets}
 use Rattle.claims.specs.Example.{Differ}
 use Rattle.claims.specs.Damaged.{DamagedRecords}
 use Rattle.claims.specs.Lends.{LentSlices}
+use Rattle.claims.specs.FirstLengths.{FirstLengths}
+use Rattle.claims.specs.Creates.{CreateArguments}
 
 pub record Claims : Type 0 where
   -- 01 "Two runs": any list of calls, run twice
@@ -31,3 +33,5 @@ pub record Claims : Type 0 where
   -- 01 "Status and answer word": damaged records, short slices and first lengths, create's arguments
   pub damaged : DamagedRecords
   pub lent : LentSlices
+  pub firsts : FirstLengths
+  pub create : CreateArguments

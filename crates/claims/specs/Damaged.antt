@@ -1,120 +1,117 @@
--- Records that no run leaves: single calls on a pair with C = 8, at each edge and beside it. 01 "Status and answer word".
+-- Records that no run leaves: each condition of INTERNAL at its edge and beside it, at either end, on stream and datagram pairs, by every call.
+-- 01 "Status and answer word".
 use Prim.Native.Nat.{ℕ}
 use mathlib.Core.Path.{_≡_}
 use mathlib.Core.Bool.{Bool, true, false}
 use mathlib.Core.List.{List, [], _∷_, _++_, map}
-use lib.ListN.{replicate}
-use lib.IntN.{ℤ, pos, negℤ}
-use Rattle.places.specs.Table.{free}
+use lib.ListN.{length, replicate}
+use lib.Dec.{eqb}
+use Rattle.status.specs.declared.Answer.{Answer}
+use Rattle.status.specs.declared.Answer.the-variants.{Done, Refused}
+use Rattle.status.specs.Answer.{statusNumber}
 use Rattle.endpoint.specs.declared.Queue.{Queue}
-use Rattle.endpoint.specs.declared.Endpoint.{Endpoint}
-use Rattle.endpoint.specs.declared.Disposition.the-variants.{Enable}
-use Rattle.socket.specs.declared.Pair.{Pair}
-use Rattle.claims.specs.Calls.{setDisposition, shutdown, plainDisposition, plainShutdown, setReadThreshold, setWriteThreshold, getThresholds, getInfo, wait, takePacket, Call, write, read, plainWrite, plainRead, close, control, input, Slices, State, state}
+use Rattle.endpoint.specs.declared.Disposition.the-variants.{Unchanged, Enable}
+use Rattle.claims.specs.Calls.{setDisposition, shutdown, plainDisposition, plainShutdown, setReadThreshold, setWriteThreshold, getThresholds, getInfo, wait, takePacket, Call, write, read, plainWrite, plainRead, close, control, State, state}
+use Rattle.claims.specs.Step.{answerOf}
 use Rattle.claims.specs.Lines.{wordOf}
+use Rattle.claims.specs.States.{stream, datagram, queue, empty, queued, end, opened, pair, eight, slices, long, finding, Row, is, no, rowWord}
 
--- ---- states
+-- ---- the edges
 
--- ring start and bytes, table start and lengths
-abbrev pub queue : (start count first lengths : ℕ) → Queue
-queue start count first lengths = record { bytes = record { start = start; count = count }; lengths = record { start = first; count = lengths } }
+-- a record on which no call is INTERNAL, and beside it one on which every call is
+pub record Edge : Type 0 where
+  pub fine : State
+  pub damaged : State
 
-abbrev pub end : (closed : Bool) → (signals : ℕ) → Queue → Endpoint
-end closed signals q =
-    record { closed = closed; «read_disabled» = false; rights = 7; signals = signals; thresholds = record { read = 0; write = 0 }; queue = q }
+abbrev pub edge : (fine damaged : State) → Edge
+edge s s′ = record { fine = s; damaged = s′ }
 
-abbrev pub pair : (datagram : Bool) → (C packets waits : ℕ) → (one two : Endpoint) → Pair
-pair dg C packets waits one two =
-    record { datagram = dg; capacity = C; one = one; two = two; places = record { packets = packets; waits = waits; table = replicate 128 free } }
+-- a pair with this C; with so many packets and waits; with these queues
+abbrev pub capacity : (datagram : Bool) → ℕ → State
+capacity dg C = state (pair dg C 0 0 (opened empty) (opened empty)) long long
 
--- a ring of so many bytes, and a table
-abbrev pub slices : (ring : ℕ) → (table : List ℕ) → Slices
-slices ring table = record { ring = replicate ring 0; table = table }
+abbrev pub places : (datagram : Bool) → (packets waits : ℕ) → State
+places dg packets waits = state (pair dg 8 packets waits (opened (queued dg)) (opened (queued dg))) long long
 
--- a table whose entry 7 is the first length where it starts at 7
-abbrev pub first : ℕ → List ℕ
-first n = 5 ∷ 5 ∷ 5 ∷ 5 ∷ 5 ∷ 5 ∷ 5 ∷ n ∷ []
+abbrev pub queues : (datagram : Bool) → (one two : Queue) → State
+queues dg q1 q2 = state (eight dg (opened q1) (opened q2)) long long
 
--- one datagram of 3 bytes at place 7
-abbrev pub fine : Queue
-fine = queue 7 3 7 1
+-- a queue at either end; on either kind of pair
+abbrev pub either : (datagram : Bool) → (fine damaged : Queue) → List Edge
+either dg q q′ = edge (queues dg q (queued dg)) (queues dg q′ (queued dg)) ∷ edge (queues dg (queued dg) q) (queues dg (queued dg) q′) ∷ []
 
-abbrev pub long : Slices
-long = slices 8 (first 3)
+abbrev pub both : (fine damaged : Queue) → List Edge
+both q q′ = either stream q q′ ++ either datagram q q′
 
-abbrev pub empty : Queue
-empty = queue 0 0 0 0
-
--- a datagram pair with these queues, with this C, with so many packets and waits, with these slices; a stream pair
-abbrev pub queues : (one two : Queue) → State
-queues q1 q2 = state (pair true 8 0 0 (end false 2 q1) (end false 2 q2)) long long
-
-abbrev pub capacity : ℕ → State
-capacity C = state (pair false C 0 0 (end false 2 empty) (end false 2 empty)) long long
-
-abbrev pub places : (packets waits : ℕ) → State
-places packets waits = state (pair true 8 packets waits (end false 2 fine) (end false 2 fine)) long long
-
-abbrev pub stream : (one two : Queue) → State
-stream q1 q2 = state (pair false 8 0 0 (end false 2 q1) (end false 2 q2)) (slices 8 []) (slices 8 [])
-
--- ---- the rows
-
-pub record Row : Type 0 where
-  pub at : State
-  pub call : Call
-  pub word : ℤ
-
--- done with n; refused with −n; the same for a queue at either end
-abbrev pub is : State → Call → (n : ℕ) → Row
-is s c n = record { at = s; call = c; word = pos n }
-
-abbrev pub no : State → Call → (n : ℕ) → Row
-no s c n = record { at = s; call = c; word = negℤ (pos n) }
-
-abbrev pub either : Queue → Call → ℤ → List Row
-either q c n = record { at = queues q fine; call = c; word = n } ∷ record { at = queues fine q; call = c; word = n } ∷ []
-
-unfoldable pub recordRows : List Row
-recordRows =
+unfoldable pub edges : List Edge
+edges =
     -- C
-    no (capacity 0) (control takePacket) 1 ∷ no (capacity 1) (control takePacket) 22 ∷ no (capacity 262144) (control takePacket) 22 ∷ no (capacity 262145) (control takePacket) 1
-    -- places
-    ∷ is (places 128 0) (control (getInfo 1)) 0 ∷ is (places 60 68) (control (getInfo 1)) 0 ∷ no (places 129 0) (control (getInfo 1)) 1 ∷ no (places 60 69) (control (getInfo 1)) 1
-    -- starts: the ring's and the table's, on stream pairs too
-    ∷ either fine (control (getThresholds 1)) (pos 0)
-    ++ either (queue 8 3 7 1) (control (getThresholds 1)) (negℤ (pos 1))
-    ++ either (queue 7 3 8 1) (control (getThresholds 1)) (negℤ (pos 1))
-    ++ (is (stream (queue 7 0 7 0) empty) (close 1) 0 ∷ no (stream (queue 0 0 8 0) empty) (close 1) 1 ∷ no (stream empty (queue 0 0 8 0)) (close 1) 1 ∷ [])
+    edge (capacity stream 1) (capacity stream 0)
+    ∷ edge (capacity datagram 1) (capacity datagram 0)
+    ∷ edge (capacity stream 262144) (capacity stream 262145)
+    ∷ edge (capacity datagram 262144) (capacity datagram 262145)
+    -- places: packets, waits, both
+    ∷ edge (places stream 128 0) (places stream 129 0)
+    ∷ edge (places datagram 128 0) (places datagram 129 0)
+    ∷ edge (places stream 0 128) (places stream 0 129)
+    ∷ edge (places datagram 0 128) (places datagram 0 129)
+    ∷ edge (places stream 60 68) (places stream 60 69)
+    ∷ edge (places datagram 60 68) (places datagram 60 69)
+    -- the ring's start, the table's start, on stream pairs too
+    ∷ both (queue 7 3 7 1) (queue 8 3 7 1)
+    ++ both (queue 7 3 7 1) (queue 7 3 8 1)
     -- queued bytes
-    ++ either (queue 7 8 7 1) (control (setReadThreshold 1 8)) (pos 0)
-    ++ either (queue 7 9 7 1) (control (setReadThreshold 1 8)) (negℤ (pos 1))
-    -- lengths: more than the bytes, none with bytes, some without bytes, neither; streams have none
-    ++ either (queue 7 3 7 3) (control (shutdown 1 0)) (pos 0)
-    ++ either (queue 7 3 7 4) (control (shutdown 1 0)) (negℤ (pos 1))
-    ++ either (queue 7 3 7 0) (control (shutdown 1 0)) (negℤ (pos 1))
-    ++ either (queue 7 0 7 1) (control (shutdown 1 0)) (negℤ (pos 1))
-    ++ either (queue 7 0 7 0) (control (shutdown 1 0)) (pos 0)
-    ++ (is (stream (queue 7 3 0 0) empty) (control (getInfo 1)) 0 ∷ is (stream (queue 0 3 0 4) empty) (control (getInfo 1)) 0 ∷ [])
+    ++ both (queue 7 8 7 1) (queue 7 9 7 1)
+    -- lengths, on datagram pairs: more than the bytes, none with bytes, some without bytes
+    ++ either datagram (queue 7 3 7 3) (queue 7 3 7 4)
+    ++ either datagram (queue 7 3 7 1) (queue 7 3 7 0)
+    ++ either datagram (queue 7 0 7 0) (queue 7 0 7 1)
 
--- every call is INTERNAL on a damaged record, whatever else is wrong with it
-unfoldable pub everyCall : List Call
-everyCall =
-    write 3 1 0 1 1 ∷ read 3 1 0 1 1 ∷ plainWrite 3 ∷ plainRead 3 false ∷ close 3
+-- stream pairs have no lengths, so that none of these is INTERNAL there
+unfoldable pub streamStates : List State
+streamStates =
+    queues stream (queue 7 3 0 4) empty ∷ queues stream empty (queue 7 3 0 4)
+    ∷ queues stream (queue 7 3 0 0) empty ∷ queues stream empty (queue 7 3 0 0)
+    ∷ queues stream (queue 7 0 0 1) empty ∷ queues stream empty (queue 7 0 0 1)
+    ∷ []
+
+-- ---- every call
+
+-- by one handle; most have more wrong with them, which is tested later
+abbrev pub callsBy : (h : ℕ) → List Call
+callsBy h =
+    write h 1 0 1 1 ∷ write h 0 4096 3 0 ∷ read h 1 0 1 1 ∷ read h 0 4096 3 0 ∷ plainWrite h ∷ plainRead h false ∷ plainRead h true ∷ close h
     ∷ map control
-    (setDisposition 3 3 3 ∷ shutdown 3 0 ∷ plainDisposition 3 Enable Enable ∷ plainShutdown 3 true true ∷ setReadThreshold 3 9
-    ∷ setWriteThreshold 3 9 ∷ getThresholds 3 ∷ getInfo 3 ∷ wait 3 0 0 2 ∷ takePacket ∷ [])
+    (setDisposition h 3 3 ∷ shutdown h 0 ∷ plainDisposition h Enable Enable ∷ plainShutdown h true true ∷ setReadThreshold h 9
+    ∷ setWriteThreshold h 9 ∷ getThresholds h ∷ getInfo h ∷ wait h 0 0 2 ∷ [])
 
--- ---- the claim: 3 bytes of user memory at 4096, or a plain slice of 3
+unfoldable pub everyCall : List Call
+everyCall = callsBy 1 ++ callsBy 2 ++ callsBy 3 ++ (control takePacket ∷ [])
 
-unfoldable pub rowWord : Row → ℤ
-unfolding wordOf
-rowWord r = wordOf (r .at) (input (r .call) 4096 (1 ∷ 2 ∷ 3 ∷ []))
+-- ---- the claim
 
-unfoldable pub damagedWord : Call → ℤ
-unfolding wordOf
-damagedWord c = wordOf (queues (queue 8 3 7 1) fine) (input c 4096 (1 ∷ 2 ∷ 3 ∷ []))
+abbrev pub isInternal : Answer → Bool
+isInternal (Done d) = false
+isInternal (Refused e) = eqb (statusNumber e) 1
+
+-- whether each call on a state is INTERNAL
+unfoldable pub internal : State → List Bool
+unfolding wordOf everyCall
+internal s = map (λ (c : Call). isInternal (answerOf s (finding c))) everyCall
+
+-- Damage that 01 does not list is not INTERNAL. End 2, open or closed, has a byte to read and PEER_WRITE_DISABLED, as no closed end has in a
+-- run: own enable looks at an open peer only.
+abbrev pub backlog : (closed : Bool) → State
+backlog closed = state (eight stream (opened empty) (end closed 16 (queue 0 1 0 0))) (slices 8 []) (slices 8 [])
+
+unfoldable pub unlistedRows : List Row
+unlistedRows =
+    no (backlog false) (control (plainDisposition 1 Enable Unchanged)) 20
+    ∷ is (backlog true) (control (plainDisposition 1 Enable Unchanged)) 0
+    ∷ []
 
 pub record DamagedRecords : Type 0 where
-  pub rows : map rowWord recordRows ≡ map (λ (r : Row). r .word) recordRows
-  pub calls : map damagedWord everyCall ≡ replicate 15 (negℤ (pos 1))
+  pub fine : map (λ (e : Edge). internal (e .fine)) edges ≡ map (λ (e : Edge). replicate (length everyCall) false) edges
+  pub damaged : map (λ (e : Edge). internal (e .damaged)) edges ≡ map (λ (e : Edge). replicate (length everyCall) true) edges
+  pub streams : map internal streamStates ≡ map (λ (s : State). replicate (length everyCall) false) streamStates
+  pub unlisted : map rowWord unlistedRows ≡ map (λ (r : Row). r .word) unlistedRows

@@ -1,83 +1,104 @@
--- Slices that are lent too short and first lengths that no run leaves: single calls on a datagram pair with C = 8, at each edge and beside it;
--- and create at the edges of its arguments. 01 "Status and answer word".
+-- Slices that are lent too short: single calls with C = 8, on stream and datagram pairs, with slices of C entries and of C − 1, by each call that
+-- is lent a slice, with either handle. 01 "Status and answer word".
+use Prim.Native.Nat.{ℕ}
 use mathlib.Core.Path.{_≡_}
 use mathlib.Core.Bool.{Bool, true, false}
 use mathlib.Core.List.{List, [], _∷_, _++_, map}
 use lib.ListN.{replicate}
 use lib.IntN.{ℤ, pos, negℤ}
-use Rattle.status.specs.Answer.{answerWord}
-use Rattle.endpoint.specs.declared.Disposition.the-variants.{Unchanged, Enable}
-use Rattle.ends.specs.Create.{createAnswer}
-use Rattle.claims.specs.Calls.{plainDisposition, setReadThreshold, getInfo, takePacket, write, read, plainWrite, plainRead, control, Slices, State, state}
-use Rattle.claims.specs.Lines.{linesOf}
-use Rattle.claims.specs.Damaged.{queue, end, pair, slices, first, fine, long, empty, stream, Row, is, no, rowWord}
+use Rattle.endpoint.specs.declared.Queue.{Queue}
+use Rattle.endpoint.specs.declared.Endpoint.{Endpoint}
+use Rattle.endpoint.specs.declared.Disposition.the-variants.{Unchanged}
+use Rattle.claims.specs.Calls.{setDisposition, shutdown, plainDisposition, plainShutdown, setReadThreshold, setWriteThreshold, getThresholds, getInfo, wait, Call, write, read, plainWrite, plainRead, close, control, Slices, State, state}
+use Rattle.claims.specs.States.{stream, datagram, queue, queued, opened, closed, eight, slices, none, first, Row, row, is, no, rowWord}
 
-abbrev pub none : Slices
-none = slices 0 []
+-- ---- calls and rows
 
-abbrev pub lent : (one two : Slices) → State
-lent l1 l2 = state (pair true 8 0 0 (end false 2 fine) (end false 2 fine)) l1 l2
-
--- end 1 closed
-abbrev pub closedOne : (two : Slices) → State
-closedOne l2 = state (pair true 8 0 0 (end true 2 empty) (end false 2 fine)) long l2
-
--- end 2, open or closed, with bytes to read and PEER_WRITE_DISABLED
-abbrev pub backlog : (closed : Bool) → State
-backlog closed = state (pair false 8 0 0 (end false 2 empty) (end closed 16 (queue 0 1 0 0))) (slices 8 []) (slices 8 [])
-
-unfoldable pub sliceRows : List Row
-sliceRows =
-    -- write is lent the peer's ring and table, read its own, info its own table
-    is (lent none long) (plainWrite 1) 3
-    ∷ no (lent long (slices 7 (first 3))) (plainWrite 1) 10
-    ∷ no (lent long (slices 8 (replicate 7 3))) (write 1 0 4096 1 0) 10
-    ∷ is (lent long none) (plainRead 1 true) 3
-    ∷ no (lent (slices 7 (first 3)) long) (plainRead 1 true) 10
-    ∷ no (lent (slices 8 (replicate 7 3)) long) (read 1 0 4096 1 0) 10
-    ∷ is (lent (slices 0 (first 3)) none) (control (getInfo 1)) 0
-    ∷ no (lent (slices 8 (replicate 7 3)) long) (control (getInfo 1)) 10
-    -- streams use no table; other calls use no slice
-    ∷ is (stream (queue 0 3 0 0) empty) (plainRead 1 false) 3
-    ∷ is (stream empty empty) (write 1 0 4096 3 0) 3
-    ∷ is (lent none none) (control (setReadThreshold 1 8)) 0
-    -- the end goes by the handle, open or closed; with another handle no slice is tested, and arguments come before the handle
-    ∷ no (closedOne (slices 7 (first 3))) (plainWrite 1) 10
-    ∷ no (closedOne long) (plainWrite 1) 11
-    ∷ no (lent none none) (plainWrite 3) 11
-    ∷ no (lent none none) (read 0 0 4096 1 0) 11
-    ∷ no (lent none none) (write 3 1 4096 1 0) 10
-    ∷ no (lent (slices 8 (first 0)) (slices 8 (first 0))) (control (getInfo 3)) 11
-    -- the first length: of the peer's table by write, of the own by read and info
-    ∷ is (lent (slices 8 (first 0)) (slices 8 (first 1))) (plainWrite 1) 3
-    ∷ no (lent long (slices 8 (first 0))) (plainWrite 1) 1
-    ∷ no (lent long (slices 8 (first 4))) (write 1 1 0 1 0) 1
-    ∷ is (lent (slices 8 (first 1)) (slices 8 (first 0))) (plainRead 1 true) 1
-    ∷ no (lent (slices 8 (first 0)) long) (plainRead 1 true) 1
-    ∷ no (lent (slices 8 (first 4)) long) (read 1 5 0 1 0) 1
-    ∷ is (lent (slices 8 (first 1)) (slices 8 (first 0))) (control (getInfo 1)) 0
-    ∷ no (lent (slices 8 (first 0)) long) (control (getInfo 1)) 1
-    ∷ no (lent (slices 8 (first 4)) long) (control (getInfo 1)) 1
-    ∷ no (closedOne (slices 8 (first 0))) (plainWrite 1) 1
-    ∷ no (lent (slices 8 (first 0)) (slices 8 (first 0))) (control takePacket) 22
-    -- the record before the slices, the slices before the first length
-    ∷ no (state (pair true 8 0 0 (end false 2 (queue 8 3 7 1)) (end false 2 fine)) none none) (plainWrite 1) 1
-    ∷ no (lent (slices 7 (first 0)) long) (plainRead 1 true) 10
-    -- own enable looks at an open peer only
-    ∷ no (backlog false) (control (plainDisposition 1 Enable Unchanged)) 20
-    ∷ is (backlog true) (control (plainDisposition 1 Enable Unchanged)) 0
+-- a call by handle 1 and by handle 2, on a pair with bytes queued at both ends: the caller's end, open or closed, its slices, and the peer's
+abbrev pub each : (Queue → Endpoint) → (datagram : Bool) → (own peer : Slices) → ℤ → (ℕ → Call) → List Row
+each caller dg l l′ n call =
+    row (state (eight dg (caller (queued dg)) (opened (queued dg))) l l′) (call 1) n
+    ∷ row (state (eight dg (opened (queued dg)) (caller (queued dg))) l′ l) (call 2) n
     ∷ []
 
--- create: kind, C, the rights, then the lengths of the rings and tables of end 1 and of end 2
-unfoldable pub creates : List ℤ
-unfolding linesOf
-creates =
-    map answerWord
-    (createAnswer 0 1 0 7 1 0 1 0 ∷ createAnswer 1 1 7 0 1 1 1 1 ∷ createAnswer 0 262144 7 7 262144 0 262144 0
-    ∷ createAnswer 2 8 7 7 8 8 8 8 ∷ createAnswer 0 0 7 7 8 8 8 8 ∷ createAnswer 0 262145 7 7 262145 0 262145 0
-    ∷ createAnswer 0 8 8 7 8 8 8 8 ∷ createAnswer 0 8 7 8 8 8 8 8
-    ∷ createAnswer 0 8 7 7 7 8 8 8 ∷ createAnswer 0 8 7 7 8 8 7 8 ∷ createAnswer 1 8 7 7 8 7 8 8 ∷ createAnswer 1 8 7 7 8 8 8 7 ∷ [])
+-- a write of 3 bytes, plain and over user memory, which is lent slices of the peer and none of its own
+abbrev pub writes : (Queue → Endpoint) → (datagram : Bool) → Slices → ℤ → List Row
+writes caller dg l n = each caller dg none l n plainWrite ++ each caller dg none l n (λ h. write h 0 4096 3 0)
+
+-- a read or peek into 3 bytes, which is lent its own slices and none of the peer's
+abbrev pub reads : (Queue → Endpoint) → (datagram : Bool) → Slices → ℤ → List Row
+reads caller dg l n =
+    each caller dg l none n (λ h. plainRead h false) ++ each caller dg l none n (λ h. plainRead h true)
+    ++ each caller dg l none n (λ h. read h 0 4096 3 0) ++ each caller dg l none n (λ h. read h 8 4096 3 0)
+
+-- an info, which is lent its own table
+abbrev pub infos : (Queue → Endpoint) → (datagram : Bool) → (table : List ℕ) → ℤ → List Row
+infos caller dg t n = each caller dg (slices 0 t) none n (λ h. control (getInfo h))
+
+-- done with n; refused with −n
+abbrev pub done : ℕ → ℤ
+done n = pos n
+
+abbrev pub refused : ℕ → ℤ
+refused n = negℤ (pos n)
+
+-- a table of 7 entries
+abbrev seven : List ℕ
+seven = replicate 7 3
+
+-- ---- short slices
+
+unfoldable pub shortRows : List Row
+shortRows =
+    -- write: the peer's ring, on datagram pairs its table
+    writes opened stream (slices 8 []) (done 3) ++ writes opened stream (slices 7 []) (refused 10)
+    ++ writes opened datagram (slices 8 (first 3)) (done 3) ++ writes opened datagram (slices 7 (first 3)) (refused 10)
+    ++ writes opened datagram (slices 8 seven) (refused 10)
+    -- read: its own
+    ++ reads opened stream (slices 8 []) (done 3) ++ reads opened stream (slices 7 []) (refused 10)
+    ++ reads opened datagram (slices 8 (first 3)) (done 3) ++ reads opened datagram (slices 7 (first 3)) (refused 10)
+    ++ reads opened datagram (slices 8 seven) (refused 10)
+    -- info: its own table on datagram pairs
+    ++ infos opened stream [] (done 0) ++ infos opened datagram (first 3) (done 0) ++ infos opened datagram seven (refused 10)
+    -- longer slices are as good
+    ++ writes opened datagram (slices 9 (first 3 ++ (0 ∷ []))) (done 3) ++ reads opened datagram (slices 9 (first 3 ++ (0 ∷ []))) (done 3)
+    -- a closed handle: the slices first
+    ++ writes closed stream (slices 8 []) (refused 11) ++ writes closed stream (slices 7 []) (refused 10)
+    ++ writes closed datagram (slices 8 (first 3)) (refused 11) ++ writes closed datagram (slices 8 seven) (refused 10)
+    ++ reads closed stream (slices 8 []) (refused 11) ++ reads closed stream (slices 7 []) (refused 10)
+    ++ reads closed datagram (slices 8 (first 3)) (refused 11) ++ reads closed datagram (slices 8 seven) (refused 10)
+    ++ infos closed datagram (first 3) (refused 11) ++ infos closed datagram seven (refused 10)
+
+-- ---- where no slice is tested
+
+-- the same slices at either end, with these queues
+abbrev pub lent : (datagram : Bool) → Queue → Slices → State
+lent dg q l = state (eight dg (opened q) (opened q)) l l
+
+-- a handle other than 1 or 2 names no end, so that no slice is tested; the arguments over user memory come before the handle
+abbrev pub noEnd : State → List Row
+noEnd s =
+    no s (plainWrite 3) 11 ∷ no s (write 0 0 4096 3 0) 11 ∷ no s (write 3 1 4096 3 0) 10 ∷ no s (plainRead 0 false) 11 ∷ no s (read 3 0 4096 3 0) 11
+    ∷ no s (read 3 1 4096 3 0) 10 ∷ no s (control (getInfo 3)) 11
+    ∷ []
+
+-- the calls that are lent no slice
+abbrev pub others : (h : ℕ) → List Call
+others h =
+    close h
+    ∷ map control
+    (setDisposition h 0 0 ∷ shutdown h 3 ∷ plainDisposition h Unchanged Unchanged ∷ plainShutdown h true true ∷ setReadThreshold h 8
+    ∷ setWriteThreshold h 8 ∷ getThresholds h ∷ wait h 1 1 1 ∷ [])
+
+unfoldable pub untestedRows : List Row
+untestedRows =
+    noEnd (lent stream (queued stream) none) ++ noEnd (lent datagram (queued datagram) none)
+    ++ map (λ (c : Call). is (lent stream (queued stream) none) c 0) (others 1 ++ others 2)
+    ++ map (λ (c : Call). is (lent datagram (queued datagram) none) c 0) (others 1 ++ others 2)
+    -- the record comes before the slices
+    ++ (no (lent stream (queue 8 3 0 0) none) (plainWrite 1) 1 ∷ no (lent datagram (queue 8 3 7 1) none) (plainRead 2 false) 1
+    ∷ no (lent datagram (queue 8 3 7 1) none) (control (getInfo 1)) 1 ∷ [])
 
 pub record LentSlices : Type 0 where
-  pub rows : map rowWord sliceRows ≡ map (λ (r : Row). r .word) sliceRows
-  pub create : creates ≡ replicate 3 (pos 0) ++ replicate 9 (negℤ (pos 10))
+  pub short : map rowWord shortRows ≡ map (λ (r : Row). r .word) shortRows
+  pub untested : map rowWord untestedRows ≡ map (λ (r : Row). r .word) untestedRows

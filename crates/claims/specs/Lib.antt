@@ -7,7 +7,8 @@
 --   Match      a run of the code is the computed one. Answers, Step: one call, computed
 --   Edges      01 "At the edges": P1 to P14. Lines: what a line of the listing shows
 --   Orders     cases beside them; Packets: those of waits and packets
---   Damaged    01 "Status and answer word": damaged records. Lends: short slices, first lengths, create's arguments
+--   Damaged    01 "Status and answer word": damaged records. Lends: short slices; FirstLengths: first lengths; Creates: create's arguments.
+--              States: the states that these call on
 pub mod Calls
 pub mod Run
 pub mod Code
@@ -22,6 +23,9 @@ pub mod Edges
 pub mod Orders
 pub mod Packets
 pub mod Example
+pub mod States
 pub mod Damaged
 pub mod Lends
+pub mod FirstLengths
+pub mod Creates
 pub mod Claims
