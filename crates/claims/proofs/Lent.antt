@@ -1,13 +1,14 @@
--- What the proofs of src/code.rt share: the slices of a state that are lent, and a read's memory between its bytes and its count.
+-- What the proofs of src/code.rt share: the slices of a state that are lent, and a read over user memory. Assumes nothing.
 use Prim.Native.Nat.{ℕ}
-use mathlib.Core.Path.{_≡_, ap, sym, _∙_}
+use mathlib.Core.Path.{_≡_, refl, ap}
 use mathlib.Core.List.{List}
-use Rattle.status.specs.declared.Answer.{Answer}
 use Rattle.status.specs.Answer.{countOf}
 use Rattle.socket.specs.declared.Pair.{Pair}
 use Rattle.socket.specs.declared.Step.{Step}
 use Rattle.syscall.specs.Read.{bytesLanded, BytesRead, UserRead}
 use Rattle.claims.specs.Calls.{Slices}
+use Rattle.claims.specs.Run.{did-read}
+use Rattle.claims.specs.Code.{slicesOf, ReadLent}
 
 pub rings : {l l′ : Slices} → l ≡ l′ → l .ring ≡ l′ .ring
 rings e = ap (λ (l : Slices). l .ring) e
@@ -15,16 +16,20 @@ rings e = ap (λ (l : Slices). l .ring) e
 pub tables : {l l′ : Slices} → l ≡ l′ → l .table ≡ l′ .table
 tables e = ap (λ (l : Slices). l .table) e
 
--- `read_bytes` on the same memory as `read` leaves the memory that is between the bytes of the read and its count
-pub bytes-read : {p : Pair} {h base o a n at : ℕ} {ring table start landed memory memory′ : List ℕ} {r r′ : Step}
-    → start ≡ memory
-    → BytesRead p h base o a n at ring table start landed r
-    → UserRead p h base o a n at ring table memory memory′ r′
-    → BytesRead p h base o a n at ring table memory landed r′
-bytes-read {p} {h} {base} {o} {a} {n} {at} {ring} {table} {start} {landed} {memory} {memory′} {r} {r′} same b u =
-    let b′ = rw same at b in
-    record {
-      answer = u .answer;
-      pair = u .pair;
-      user = b′ .user ∙ ap (λ (x : Answer). bytesLanded p h base a (countOf x) ring memory) (b′ .answer ∙ sym (u .answer));
-    }
+module _ {p : Pair} {h o a n at base : ℕ} {ring table memory memory′ : List ℕ} {r : Step} where
+  -- from what its two parts ensure
+  pub in-parts : {landed : List ℕ}
+      → BytesRead p h base o a n at ring table memory landed r
+      → UserRead p h base o a n at ring table memory memory′ r
+      → ReadLent p h o a n at (slicesOf ring table) base memory memory′ r
+  in-parts {landed} b u =
+      record {
+        landed = landed;
+        bytes = b;
+        step = λ one two e. did-read (rw (← rings e, ← tables e) at b) (rw (← rings e, ← tables e) at u);
+      }
+
+  -- from what the whole ensures: the memory before its count is the one that its contract computes with
+  pub in-whole : UserRead p h base o a n at ring table memory memory′ r → ReadLent p h o a n at (slicesOf ring table) base memory memory′ r
+  in-whole u =
+      in-parts {landed = bytesLanded p h base a (countOf (r .answer)) ring memory} (record { answer = u .answer; pair = u .pair; user = refl }) u

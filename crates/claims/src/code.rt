@@ -1,16 +1,16 @@
-// The calls that a run is made of: one function here for create and for each case of `Does`. Each makes the call, and ensures that what the call
-// gave is a step of `Does`. This shows that each case of `Does` asks for no more than its call ensures. No program calls these functions.
+// The calls that a run is made of: a function here for create and for each case of `Does`, two for a read over user memory. Each makes the call, and
+// ensures that what the call gave is a step of `Does`. This shows that each case of `Does` asks for no more than its call ensures. No program calls
+// these functions.
 use endpoint::Disposition;
 use socket::Pair;
 use socket::Step;
-ghost use mathlib.Core.Path.{_≡_};
 ghost use mathlib.Core.List.{List, []};
-ghost use Prim.Native.Nat.{ℕ, _-_};
-ghost use lib.ListN.{take, drop};
+ghost use Prim.Native.Nat.{ℕ};
+ghost use lib.ListN.{take};
 ghost use Rattle.status.specs.Answer.{countOf};
 ghost use Rattle.claims.specs.Calls.{input, control};
 ghost use Rattle.claims.specs.Calls;
-ghost use Rattle.claims.specs.Code.{slicesOf, StepOf, OwnLent, PeerLent, Starts};
+ghost use Rattle.claims.specs.Code.{slicesOf, StepOf, OwnLent, ReadLent, PeerLent, Starts};
 
 pub fn create(
     kind: u32,
@@ -64,34 +64,20 @@ pub fn write(
     )
 }
 
-// Where `landed` holds the same as `memory` at first, `read_bytes` leaves in it what the read has landed before its count.
 pub fn read(
     p: Pair,
     handle: u32,
     options: u32,
     base: u64,
     memory: &mut [u8],
-    landed: &mut [u8],
     address: u64,
     count: u64,
     count_at: u64,
     ring: &[u8],
     table: &[u32],
 ) -> Step
-    ensures { λ r. ⌜ (now (landed .entry) ≡ now (memory .entry) → OwnLent p handle (slicesOf (now (ring .entry)) (now (table .entry))) (input (Calls.read handle options address count «count_at») base (now (memory .entry))) r (take (countOf (r .answer)) (drop (address - base) (now (landed .exit)))) (now (memory .exit))) ⌝ }
+    ensures { λ r. ⌜ ReadLent p handle options address count «count_at» (slicesOf (now (ring .entry)) (now (table .entry))) base (now (memory .entry)) (now (memory .exit)) r ⌝ }
 {
-    syscall::read_bytes(
-        p,
-        handle,
-        options,
-        base,
-        landed,
-        address,
-        count,
-        count_at,
-        ring,
-        table,
-    );
     syscall::read(
         p,
         handle,
@@ -104,6 +90,41 @@ pub fn read(
         ring,
         table,
     )
+}
+
+// The same read in its two parts: the bytes land, then the count of a done read over them. The script program makes it so.
+pub fn read_in_parts(
+    p: Pair,
+    handle: u32,
+    options: u32,
+    base: u64,
+    memory: &mut [u8],
+    address: u64,
+    count: u64,
+    count_at: u64,
+    ring: &[u8],
+    table: &[u32],
+) -> Step
+    ensures { λ r. ⌜ ReadLent p handle options address count «count_at» (slicesOf (now (ring .entry)) (now (table .entry))) base (now (memory .entry)) (now (memory .exit)) r ⌝ }
+{
+    let r = syscall::read_bytes(
+        p,
+        handle,
+        options,
+        base,
+        memory,
+        address,
+        count,
+        count_at,
+        ring,
+        table,
+    );
+    let a = r.answer;
+    if status::is_done(a) {
+        user_memory::land_count(memory, base, count_at, status::count_of(a));
+        return r;
+    }
+    r
 }
 
 pub fn set_disposition(p: Pair, handle: u32, disposition: u32, peer_disposition: u32) -> Step
