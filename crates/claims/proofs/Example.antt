@@ -1,9 +1,9 @@
 -- The run with two memories, by the claim and by computation. Assumes nothing.
 use mathlib.Core.Path.{refl}
-use Rattle.claims.specs.Edges.{datagram, eight}
+use Rattle.cases.specs.Edges.{datagram, eight}
 use Rattle.claims.specs.Example.{salary, filler, empty, used, outcomesOf, createOf, sourcesOf, Differ}
-use Rattle.claims.specs.Run.{Run}
-use Rattle.claims.proofs.Exists.{runs-exist}
+use Rattle.runs.specs.Run.{Run}
+use Rattle.runs.proofs.Exists.{runs-exist}
 use Rattle.claims.proofs.TwoRuns.{two-runs}
 
 run-salary : Run (eight datagram) empty empty salary (createOf empty) (outcomesOf empty salary)

@@ -5,13 +5,13 @@ use mathlib.Core.Path.{_≡_}
 use mathlib.Core.Bool.{true, false}
 use mathlib.Core.List.{List, [], _∷_}
 use lib.ListN.{replicate}
-use Rattle.claims.specs.Calls.{write, read, plainWrite, plainRead, close, Input, input, Slices, Seen, seenOf, Outcome}
-use Rattle.claims.specs.Run.{Run, createdBy}
-use Rattle.claims.specs.Step.{outcomes, pairCreated, start}
+use Rattle.runs.specs.Calls.{write, read, plainWrite, plainRead, close, Input, input, Slices, Seen, seenOf, Outcome}
+use Rattle.runs.specs.Run.{Run, createdBy}
+use Rattle.runs.specs.Step.{outcomes, pairCreated, start}
 use Rattle.claims.specs.Origins.{Origin, origins, flat, added, shrunk, removed, linesAfter, sourceOf, sourcesFrom, sources}
 use Rattle.claims.specs.TwoRuns.{answers, delivered, calls, Alike}
-use Rattle.claims.specs.Lines.{linesOf}
-use Rattle.claims.specs.Edges.{datagram, eight}
+use Rattle.cases.specs.Lines.{linesOf}
+use Rattle.cases.specs.Edges.{datagram, eight}
 
 -- A row of 3 bytes and one of 2 are written. The first is peeked at, and read into 2 bytes, so that its tail is dropped. The second is read
 -- with its count put over it. Then a plain row goes the other way, and an end closes with a row queued.
