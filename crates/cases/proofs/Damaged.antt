@@ -1,14 +1,15 @@
 -- The tables of single calls: damaged records, slices lent, create's arguments. By computation. Assumes nothing.
 use mathlib.Core.Path.{refl}
 use Rattle.cases.specs.States.{rowWord}
-use Rattle.cases.specs.Damaged.{edges, streamStates, everyCall, internal, unlistedRows, DamagedRecords}
+use Rattle.cases.specs.EveryCall.{everyCall, internal}
+use Rattle.cases.specs.Damaged.{edges, unlisted, backlogRows, DamagedRecords}
 use Rattle.cases.specs.Lends.{shortRows, untestedRows, LentSlices}
 use Rattle.cases.specs.FirstLengths.{firstRows, untestedFirsts, FirstLengths}
 use Rattle.cases.specs.Creates.{doneWords, refusedWords, CreateArguments}
 
 pub damaged-records : DamagedRecords
-unfolding edges streamStates everyCall internal rowWord unlistedRows
-damaged-records = record { fine = refl; damaged = refl; streams = refl; unlisted = refl }
+unfolding edges unlisted everyCall internal rowWord backlogRows
+damaged-records = record { fine = refl; damaged = refl; others = refl; backlogs = refl }
 
 pub lent-slices : LentSlices
 unfolding shortRows untestedRows rowWord

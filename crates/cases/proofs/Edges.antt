@@ -1,11 +1,12 @@
--- The tables of cases, by computation. Assumes nothing.
+-- The tables of scripts, by computation. Assumes nothing.
 use mathlib.Core.Path.{refl}
-use Rattle.cases.specs.Edges.{AtTheEdges, table, caseLines}
-use Rattle.cases.specs.Orders.{Orders, orderScripts, scriptLines, memories}
+use Rattle.cases.specs.Scripts.{scriptLines}
+use Rattle.cases.specs.Edges.{AtTheEdges, table}
+use Rattle.cases.specs.Orders.{Orders, orderScripts, memories}
 use Rattle.cases.specs.Packets.{Packets, packetScripts}
 
 pub at-the-edges : AtTheEdges
-unfolding table caseLines
+unfolding table scriptLines
 at-the-edges = refl
 
 pub in-order : Orders

@@ -5,16 +5,12 @@ use mathlib.Core.Path.{_≡_}
 use mathlib.Core.Bool.{Bool, true, false}
 use mathlib.Core.List.{List, [], _∷_, _++_, map}
 use lib.ListN.{length, replicate}
-use lib.Dec.{eqb}
-use Rattle.status.specs.declared.Answer.{Answer}
-use Rattle.status.specs.declared.Answer.the-variants.{Done, Refused}
-use Rattle.status.specs.Answer.{statusNumber}
 use Rattle.endpoint.specs.declared.Queue.{Queue}
+use Rattle.endpoint.specs.declared.Endpoint.{Endpoint}
 use Rattle.endpoint.specs.declared.Disposition.the-variants.{Unchanged, Enable}
-use Rattle.runs.specs.Calls.{setDisposition, shutdown, plainDisposition, plainShutdown, setReadThreshold, setWriteThreshold, getThresholds, getInfo, wait, takePacket, Call, write, read, plainWrite, plainRead, close, control, State, state}
-use Rattle.runs.specs.Step.{answerOf}
-use Rattle.cases.specs.Lines.{wordOf}
-use Rattle.cases.specs.States.{stream, datagram, queue, empty, queued, end, opened, pair, eight, slices, long, finding, Row, is, no, rowWord}
+use Rattle.runs.specs.Calls.{plainDisposition, control, State, state}
+use Rattle.cases.specs.States.{stream, datagram, queue, empty, queued, end, opened, closed, pair, eight, slices, long, Row, is, no, rowWord}
+use Rattle.cases.specs.EveryCall.{everyCall, internal}
 
 -- ---- the edges
 
@@ -67,51 +63,43 @@ edges =
     ++ either datagram (queue 7 3 7 1) (queue 7 3 7 0)
     ++ either datagram (queue 7 0 7 0) (queue 7 0 7 1)
 
--- stream pairs have no lengths, so that none of these is INTERNAL there
-unfoldable pub streamStates : List State
-streamStates =
-    queues stream (queue 7 3 0 4) empty ∷ queues stream empty (queue 7 3 0 4)
-    ∷ queues stream (queue 7 3 0 0) empty ∷ queues stream empty (queue 7 3 0 0)
-    ∷ queues stream (queue 7 0 0 1) empty ∷ queues stream empty (queue 7 0 0 1)
+-- an end whose rights and thresholds no run leaves
+abbrev odd : Queue → Endpoint
+odd q = record { closed = false; «read_disabled» = false; rights = 8; signals = 2; thresholds = record { read = 9; write = 9 }; queue = q }
+
+-- damage that 01 does not list, on which no call is INTERNAL
+unfoldable pub unlisted : List State
+unlisted =
+    -- stream pairs have no lengths
+    queues stream (queue 7 3 0 4) empty
+    ∷ queues stream empty (queue 7 3 0 4)
+    ∷ queues stream (queue 7 3 0 0) empty
+    ∷ queues stream empty (queue 7 3 0 0)
+    ∷ queues stream (queue 7 0 0 1) empty
+    ∷ queues stream empty (queue 7 0 0 1)
+    -- a closed end with bytes; rights above 7 and thresholds above C
+    ∷ state (eight stream (closed (queued stream)) (opened empty)) long long
+    ∷ state (eight datagram (opened empty) (closed (queued datagram))) long long
+    ∷ state (eight stream (odd (queued stream)) (opened empty)) long long
+    ∷ state (eight datagram (opened empty) (odd (queued datagram))) long long
     ∷ []
 
--- ---- every call
+-- ---- own enable
 
--- by one handle; most have more wrong with them, which is tested later
-abbrev pub callsBy : (h : ℕ) → List Call
-callsBy h =
-    write h 1 0 1 1 ∷ write h 0 4096 3 0 ∷ read h 1 0 1 1 ∷ read h 0 4096 3 0 ∷ plainWrite h ∷ plainRead h false ∷ plainRead h true ∷ close h
-    ∷ map control
-    (setDisposition h 3 3 ∷ shutdown h 0 ∷ plainDisposition h Enable Enable ∷ plainShutdown h true true ∷ setReadThreshold h 9
-    ∷ setWriteThreshold h 9 ∷ getThresholds h ∷ getInfo h ∷ wait h 0 0 2 ∷ [])
-
-unfoldable pub everyCall : List Call
-everyCall = callsBy 1 ++ callsBy 2 ++ callsBy 3 ++ (control takePacket ∷ [])
-
--- ---- the claim
-
-abbrev pub isInternal : Answer → Bool
-isInternal (Done d) = false
-isInternal (Refused e) = eqb (statusNumber e) 1
-
--- whether each call on a state is INTERNAL
-unfoldable pub internal : State → List Bool
-unfolding wordOf everyCall
-internal s = map (λ (c : Call). isInternal (answerOf s (finding c))) everyCall
-
--- Damage that 01 does not list is not INTERNAL. End 2, open or closed, has a byte to read and PEER_WRITE_DISABLED, as no closed end has in a
--- run: own enable looks at an open peer only.
-abbrev pub backlog : (closed : Bool) → State
+-- End 2, open or closed, has a byte to read and PEER_WRITE_DISABLED, as no closed end has in a run: own enable looks at an open peer only.
+abbrev backlog : (closed : Bool) → State
 backlog closed = state (eight stream (opened empty) (end closed 16 (queue 0 1 0 0))) (slices 8 []) (slices 8 [])
 
-unfoldable pub unlistedRows : List Row
-unlistedRows =
+unfoldable pub backlogRows : List Row
+backlogRows =
     no (backlog false) (control (plainDisposition 1 Enable Unchanged)) 20
     ∷ is (backlog true) (control (plainDisposition 1 Enable Unchanged)) 0
     ∷ []
 
+-- ---- the claim
+
 pub record DamagedRecords : Type 0 where
   pub fine : map (λ (e : Edge). internal (e .fine)) edges ≡ map (λ (e : Edge). replicate (length everyCall) false) edges
   pub damaged : map (λ (e : Edge). internal (e .damaged)) edges ≡ map (λ (e : Edge). replicate (length everyCall) true) edges
-  pub streams : map internal streamStates ≡ map (λ (s : State). replicate (length everyCall) false) streamStates
-  pub unlisted : map rowWord unlistedRows ≡ map (λ (r : Row). r .word) unlistedRows
+  pub others : map internal unlisted ≡ map (λ (s : State). replicate (length everyCall) false) unlisted
+  pub backlogs : map rowWord backlogRows ≡ map (λ (r : Row). r .word) backlogRows

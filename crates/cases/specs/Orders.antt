@@ -7,20 +7,10 @@ use mathlib.Core.Option.{some}
 use lib.IntN.{pos}
 use Rattle.status.specs.declared.Record.the-variants.{Info, Limits}
 use Rattle.endpoint.specs.declared.SignalWord.the-variants.{Closed, Word}
-use Rattle.runs.specs.Calls.{Create, setDisposition, shutdown, setReadThreshold, setWriteThreshold, getThresholds, getInfo, write, read, close, Input, Outcome}
+use Rattle.runs.specs.Calls.{setDisposition, shutdown, setReadThreshold, setWriteThreshold, getThresholds, getInfo, write, read, close, Outcome}
 use Rattle.runs.specs.Step.{outcomes, start}
 use Rattle.cases.specs.Lines.{Line, linesOf}
-use Rattle.cases.specs.Edges.{stream, datagram, letters, on, c, w, r, wp, rp, line, ok, no, got, ok1, no1, slices}
-
--- a create with C = 8 and one rights word for both ends, the calls, and what their lines show
-pub record Script : Type 0 where
-  pub kind : ℕ
-  pub rights : ℕ
-  pub calls : List Input
-  pub lines : List Line
-
-abbrev pub script : (kind rights : ℕ) → List Input → List Line → Script
-script kind rights is ls = record { kind = kind; rights = rights; calls = is; lines = ls }
+use Rattle.cases.specs.Scripts.{stream, datagram, letters, on, c, w, r, wp, rp, line, ok, no, got, ok1, no1, Script, script, create, slices, Show}
 
 -- done with two thresholds; with the six numbers of info
 abbrev limits : (reading writing u v : ℕ) → Line
@@ -78,24 +68,17 @@ orderScripts =
     (ok 8 0x0 0x3 ∷ got 4 0x0 0x3 (97 ∷ 98 ∷ 99 ∷ 100 ∷ []) ∷ got 4 0x2 0x3 (97 ∷ 98 ∷ 99 ∷ 100 ∷ []) ∷ [])
     ∷ []
 
-abbrev pub createOf : Script → Create
-createOf s = record { kind = s .kind; capacity = 8; rights1 = s .rights; rights2 = s .rights }
-
-unfoldable pub scriptLines : Script → List Line
-unfolding linesOf
-scriptLines s = linesOf (createOf s) slices slices (s .calls)
-
 -- memory at exit: a write's count, a read's bytes and over them its count; of a refused call what it found; a plain read's buffer
 unfoldable pub memories : List (List ℕ)
 unfolding linesOf
 memories =
     map (λ (o : Outcome). o .memory)
-    (outcomes (start (createOf (script stream 7 [] [])) slices slices)
+    (outcomes (start (create stream 7) slices slices)
     (on (write 1 0 4096 3 4104) ∷ on (read 2 0 4106 3 4104) ∷ on (read 2 0 4106 3 4104) ∷ wp 1 (1 ∷ 2 ∷ []) ∷ rp 2 4 ∷ []))
 
 abbrev counted3 : List ℕ
 counted3 = 97 ∷ 98 ∷ 99 ∷ 100 ∷ 101 ∷ 102 ∷ 103 ∷ 104 ∷ 3 ∷ 0 ∷ 0 ∷ 0 ∷ 0 ∷ 0 ∷ 0 ∷ 0 ∷ []
 
 pub record Orders : Type 0 where
-  pub lines : map scriptLines orderScripts ≡ map (λ (s : Script). ok 0 0x2 0x2 ∷ s .lines) orderScripts
+  pub lines : Show orderScripts
   pub memory : memories ≡ counted3 ∷ counted3 ∷ letters ∷ (1 ∷ 2 ∷ []) ∷ (1 ∷ 2 ∷ 0 ∷ 0 ∷ []) ∷ []

@@ -9,8 +9,7 @@ use Rattle.status.specs.declared.Record.the-variants.{Packet}
 use Rattle.endpoint.specs.declared.SignalWord.the-variants.{Closed, Word}
 use Rattle.runs.specs.Calls.{setDisposition, setReadThreshold, wait, takePacket, close}
 use Rattle.cases.specs.Lines.{Line}
-use Rattle.cases.specs.Edges.{stream, on, c, w, line, ok, no, ok1, no1, took}
-use Rattle.cases.specs.Orders.{Script, script, scriptLines}
+use Rattle.cases.specs.Scripts.{stream, on, c, w, line, ok, no, ok1, no1, took, Script, script, Show}
 
 -- a packet taken with end 2 closed
 abbrev took1 : (key trigger observed u : ℕ) → Line
@@ -45,4 +44,4 @@ packetScripts =
     ∷ []
 
 abbrev pub Packets : Type 0
-Packets = map scriptLines packetScripts ≡ map (λ (s : Script). ok 0 0x2 0x2 ∷ s .lines) packetScripts
+Packets = Show packetScripts
