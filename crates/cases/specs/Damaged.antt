@@ -1,4 +1,5 @@
--- Records that no run leaves: each condition of INTERNAL at its edge and beside it, at either end, on stream and datagram pairs, by every call.
+-- Records that no run leaves: each condition of INTERNAL at its edge and beside it, at either end, open or closed, on stream and datagram pairs, by
+-- every call. C = 8 where C is not the condition.
 -- 01 "Status and answer word".
 use Prim.Native.Nat.{ℕ}
 use mathlib.Core.Path.{_≡_}
@@ -22,19 +23,28 @@ pub record Edge : Type 0 where
 abbrev pub edge : (fine damaged : State) → Edge
 edge s s′ = record { fine = s; damaged = s′ }
 
--- a pair with this C; with so many packets and waits; with these queues
+-- a pair with this C; with so many packets and waits
 abbrev pub capacity : (datagram : Bool) → ℕ → State
 capacity dg C = state (pair dg C 0 0 (opened empty) (opened empty)) long long
 
 abbrev pub places : (datagram : Bool) → (packets waits : ℕ) → State
 places dg packets waits = state (pair dg 8 packets waits (opened (queued dg)) (opened (queued dg))) long long
 
-abbrev pub queues : (datagram : Bool) → (one two : Queue) → State
-queues dg q1 q2 = state (eight dg (opened q1) (opened q2)) long long
+-- a queue at end 1, and at end 2, which is open or closed
+abbrev pub atOne : (Queue → Endpoint) → (datagram : Bool) → Queue → State
+atOne made dg q = state (eight dg (made q) (opened (queued dg))) long long
 
--- a queue at either end; on either kind of pair
+abbrev pub atTwo : (Queue → Endpoint) → (datagram : Bool) → Queue → State
+atTwo made dg q = state (eight dg (opened (queued dg)) (made q)) long long
+
+-- at either end, open and closed; on either kind of pair
 abbrev pub either : (datagram : Bool) → (fine damaged : Queue) → List Edge
-either dg q q′ = edge (queues dg q (queued dg)) (queues dg q′ (queued dg)) ∷ edge (queues dg (queued dg) q) (queues dg (queued dg) q′) ∷ []
+either dg q q′ =
+    edge (atOne opened dg q) (atOne opened dg q′)
+    ∷ edge (atTwo opened dg q) (atTwo opened dg q′)
+    ∷ edge (atOne closed dg q) (atOne closed dg q′)
+    ∷ edge (atTwo closed dg q) (atTwo closed dg q′)
+    ∷ []
 
 abbrev pub both : (fine damaged : Queue) → List Edge
 both q q′ = either stream q q′ ++ either datagram q q′
@@ -71,17 +81,15 @@ odd q = record { closed = false; «read_disabled» = false; rights = 8; signals 
 unfoldable pub unlisted : List State
 unlisted =
     -- stream pairs have no lengths
-    queues stream (queue 7 3 0 4) empty
-    ∷ queues stream empty (queue 7 3 0 4)
-    ∷ queues stream (queue 7 3 0 0) empty
-    ∷ queues stream empty (queue 7 3 0 0)
-    ∷ queues stream (queue 7 0 0 1) empty
-    ∷ queues stream empty (queue 7 0 0 1)
-    -- a closed end with bytes; rights above 7 and thresholds above C
-    ∷ state (eight stream (closed (queued stream)) (opened empty)) long long
-    ∷ state (eight datagram (opened empty) (closed (queued datagram))) long long
-    ∷ state (eight stream (odd (queued stream)) (opened empty)) long long
-    ∷ state (eight datagram (opened empty) (odd (queued datagram))) long long
+    atOne opened stream (queue 7 3 0 4)
+    ∷ atTwo opened stream (queue 7 3 0 4)
+    ∷ atOne opened stream (queue 7 3 0 0)
+    ∷ atTwo opened stream (queue 7 3 0 0)
+    ∷ atOne opened stream (queue 7 0 0 1)
+    ∷ atTwo opened stream (queue 7 0 0 1)
+    -- rights above 7 and thresholds above C
+    ∷ atOne odd stream (queued stream)
+    ∷ atTwo odd datagram (queued datagram)
     ∷ []
 
 -- ---- own enable

@@ -6,7 +6,7 @@ use mathlib.Core.List.{List, [], _∷_, _++_, map}
 use lib.ListN.{replicate}
 use Rattle.runs.specs.Calls.{getInfo, Call, write, read, plainWrite, plainRead, control, State}
 use Rattle.cases.specs.States.{stream, datagram, empty, queued, opened, closed, slices, none, first, Row, is, no, rowWord}
-use Rattle.cases.specs.Lends.{each, writes, reads, infos, done, refused, lent, noEnd, others}
+use Rattle.cases.specs.LentCalls.{each, writesTo, writes, reads, infos, done, refused, lent, noEnd, others}
 
 unfoldable pub firstRows : List Row
 firstRows =
@@ -16,12 +16,13 @@ firstRows =
     ++ reads opened datagram (slices 8 (first 3)) (done 3) ++ reads opened datagram (slices 8 (first 4)) (refused 1)
     ++ infos opened datagram (first 0) (refused 1) ++ infos opened datagram (first 1) (done 0)
     ++ infos opened datagram (first 3) (done 0) ++ infos opened datagram (first 4) (refused 1)
-    -- before the handle, and before the arguments
+    -- before the handle, a closed peer and the arguments
     ++ writes closed datagram (slices 8 (first 0)) (refused 1) ++ writes closed datagram (slices 8 (first 4)) (refused 1)
     ++ reads closed datagram (slices 8 (first 0)) (refused 1) ++ reads closed datagram (slices 8 (first 4)) (refused 1)
     ++ infos closed datagram (first 0) (refused 1) ++ infos closed datagram (first 4) (refused 1)
-    ++ each opened datagram none (slices 8 (first 4)) (refused 1) (λ h. write h 1 0 1 0)
-    ++ each opened datagram (slices 8 (first 4)) none (refused 1) (λ h. read h 5 0 1 0)
+    ++ writesTo opened closed datagram (slices 8 (first 0)) (refused 1) ++ writesTo opened closed datagram (slices 8 (first 4)) (refused 1)
+    ++ each opened opened datagram none (slices 8 (first 4)) (refused 1) (λ h. write h 1 0 1 0)
+    ++ each opened opened datagram (slices 8 (first 4)) none (refused 1) (λ h. read h 5 0 1 0)
     -- after the slices
     ++ writes opened datagram (slices 7 (first 0)) (refused 10) ++ reads opened datagram (slices 7 (first 4)) (refused 10)
     -- not on stream pairs
