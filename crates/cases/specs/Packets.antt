@@ -1,7 +1,6 @@
 -- Cases of waits and packets: the order of tests, of changes and of packets, and the 128 places. 01 "Signal word and packets".
 use Prim.Native.Nat.{ℕ}
-use mathlib.Core.Path.{_≡_}
-use mathlib.Core.List.{List, [], _∷_, _++_, map}
+use mathlib.Core.List.{List, [], _∷_, _++_}
 use mathlib.Core.Option.{some}
 use lib.ListN.{replicate}
 use lib.IntN.{pos}

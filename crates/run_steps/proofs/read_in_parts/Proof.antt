@@ -1,5 +1,4 @@
 use mathlib.Core.Path.{refl}
-use denote.Ref.{now}
 use Rattle.status.proofs.Rules.{pick-on, pick-off, via}
 use Rattle.syscall.proofs.Calls.{count-after}
 use borrow.Author.Needs.{needs}
