@@ -26,7 +26,9 @@ use Rattle.socket.specs.Write.{writeAnswer}
 use Rattle.socket.specs.Read.{readAnswer}
 use Rattle.socket.specs.Wait.{waitAnswer, takeAnswer}
 use Rattle.user_memory.specs.Memory.{fits}
-use Rattle.syscall.specs.Write.{writeRanges, userWriteAnswer}
+use Rattle.user_answers.specs.Write.{writeRanges, userWriteAnswer as endsUserWriteAnswer}
+use Rattle.syscall.specs.Write.{userWriteAnswer}
+use Rattle.user_answers.specs.Read.{userReadAnswer as endsUserReadAnswer}
 use Rattle.syscall.specs.Read.{userReadAnswer}
 use Rattle.claims.proofs.Moves.{Taken}
 
@@ -113,7 +115,7 @@ ranges Q base size address countAt a f =
 pub user-room : (p : Pair) (z : Lent) (h base size o a n at : ℕ) → 0 < countOf (userWriteAnswer p z h base size o a n at)
     → Room (p .capacity) (peer (isOne h) p .queue .bytes .count) n (countOf (userWriteAnswer p z h base size o a n at))
     × (a - base + countOf (userWriteAnswer p z h base size o a n at) ≤ size)
-unfolding userWriteAnswer
+unfolding endsUserWriteAnswer
 user-room p z h base size o a n at =
     let Q : ℕ → Type 0 = λ m. Room (p .capacity) (peer (isOne h) p .queue .bytes .count) n m in
     let P : Answer → Type 0 = λ x. Q (countOf x) × (a - base + countOf x ≤ size) in
@@ -153,7 +155,7 @@ plain-taken p z h n =
 pub user-taken : (p : Pair) (z : Lent) (h base size o a n at : ℕ) → 0 < countOf (userReadAnswer p z h base size o a n at)
     → Taken (p .datagram) (own (isOne h) p .queue .bytes .count) (z .first) (countOf (userReadAnswer p z h base size o a n at))
     × (a - base + countOf (userReadAnswer p z h base size o a n at) ≤ size)
-unfolding userReadAnswer
+unfolding endsUserReadAnswer
 user-taken p z h base size o a n at =
     let P : Answer → Type 0 = λ x. Taken (p .datagram) (own (isOne h) p .queue .bytes .count) (z .first) (countOf x) × (a - base + countOf x ≤ size) in
     peel P _ _ (λ _. peel P _ _ (λ _. peel P _ _ (λ _. peel P _ _ (λ _. peel P _ _ (λ _. peel P _ _ (λ e. peel P _ _ (λ _ k.

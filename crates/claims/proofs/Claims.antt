@@ -1,14 +1,15 @@
 -- Each claim by its proof. Assumes nothing.
 use Rattle.claims.specs.Claims.{Claims}
-use Rattle.claims.proofs.Match.{calls-match}
-use Rattle.claims.proofs.Whole.{runs-match, lines-match}
-use Rattle.claims.proofs.Exists.{runs-exist}
+use Rattle.runs.proofs.Match.{calls-match}
+use Rattle.runs.proofs.Whole.{runs-match}
+use Rattle.runs.proofs.Exists.{runs-exist}
 use Rattle.claims.proofs.TwoRuns.{two-runs}
 use Rattle.claims.proofs.Example.{differ}
 use Rattle.claims.proofs.Refused.{refused-changes-nothing}
 use Rattle.claims.proofs.RunsSound.{runs-are-sound}
-use Rattle.claims.proofs.Edges.{at-the-edges, in-order, packets-in-order}
-use Rattle.claims.proofs.Damaged.{damaged-records, lent-slices}
+use Rattle.cases.proofs.Lines.{lines-match}
+use Rattle.cases.proofs.Edges.{at-the-edges, in-order, packets-in-order}
+use Rattle.cases.proofs.Damaged.{damaged-records, lent-slices, first-lengths, create-arguments}
 
 pub claims : Claims
 claims =
@@ -26,4 +27,6 @@ claims =
       packets = packets-in-order;
       damaged = damaged-records;
       lent = lent-slices;
+      firsts = first-lengths;
+      create = create-arguments;
     }

@@ -1,18 +1,18 @@
 -- The run with two memories, by the claim and by computation. Assumes nothing.
 use mathlib.Core.Path.{refl}
-use Rattle.claims.specs.Edges.{datagram, eight}
+use Rattle.cases.specs.Scripts.{datagram, create}
 use Rattle.claims.specs.Example.{salary, filler, empty, used, outcomesOf, createOf, sourcesOf, Differ}
-use Rattle.claims.specs.Run.{Run}
-use Rattle.claims.proofs.Exists.{runs-exist}
+use Rattle.runs.specs.Run.{Run}
+use Rattle.runs.proofs.Exists.{runs-exist}
 use Rattle.claims.proofs.TwoRuns.{two-runs}
 
-run-salary : Run (eight datagram) empty empty salary (createOf empty) (outcomesOf empty salary)
+run-salary : Run (create datagram 7) empty empty salary (createOf empty) (outcomesOf empty salary)
 unfolding createOf outcomesOf
-run-salary = runs-exist (eight datagram) empty empty salary
+run-salary = runs-exist (create datagram 7) empty empty salary
 
-run-filler : Run (eight datagram) used used filler (createOf used) (outcomesOf used filler)
+run-filler : Run (create datagram 7) used used filler (createOf used) (outcomesOf used filler)
 unfolding createOf outcomesOf
-run-filler = runs-exist (eight datagram) used used filler
+run-filler = runs-exist (create datagram 7) used used filler
 
 pub differ : Differ
 unfolding outcomesOf sourcesOf
@@ -21,7 +21,7 @@ differ =
       run1 = run-salary;
       run2 = run-filler;
       alike =
-          two-runs (eight datagram) empty empty used used (record { ring = refl; table = refl }) (record { ring = refl; table = refl }) salary filler refl
+          two-runs (create datagram 7) empty empty used used (record { ring = refl; table = refl }) (record { ring = refl; table = refl }) salary filler refl
           _ _ _ _ run-salary run-filler;
       first = refl;
       second = refl;

@@ -26,9 +26,9 @@ use Rattle.socket.specs.Read.{consumed, pairRead}
 use Rattle.socket.specs.Wait.{closed}
 use Rattle.syscall.specs.Read.{isPeek}
 use Rattle.syscall.specs.Control.{dispositionOf, shutsRead, shutsWrite}
-use Rattle.claims.specs.Calls.{Control, setDisposition, shutdown, plainDisposition, plainShutdown, setReadThreshold, setWriteThreshold, getThresholds, getInfo, wait, takePacket, Call, write, read, plainWrite, plainRead, close, control, Input, bytesOf, offsetOf, Slices, State, peerSlices, withPair, withPeer}
-use Rattle.claims.specs.Answers.{view, ownLent, peerLent, controlAnswer, answerTo, controlled, pairAfter}
-use Rattle.claims.specs.Step.{written, stateAfter, answerOf, after}
+use Rattle.runs.specs.Calls.{Control, setDisposition, shutdown, plainDisposition, plainShutdown, setReadThreshold, setWriteThreshold, getThresholds, getInfo, wait, takePacket, Call, write, read, plainWrite, plainRead, close, control, Input, bytesOf, offsetOf, Slices, State, peerSlices, withPair, withPeer}
+use Rattle.runs.specs.Answers.{view, ownLent, peerLent, controlAnswer, answerTo, controlled, pairAfter}
+use Rattle.runs.specs.Step.{written, stateAfter, answerOf, after}
 use Rattle.claims.specs.Origins.{Origin, origins, Line, Lines, ownLine, peerLine, withOwn, withPeerLine, added, shrunk, removed, linesAfter}
 use Rattle.claims.proofs.Holds.{Size, Holds, firstOf, first-is}
 use Rattle.claims.proofs.Moves.{fed-holds, Taken, drained-holds, no-holds}

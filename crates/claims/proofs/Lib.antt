@@ -1,6 +1,3 @@
-pub mod Lent
-pub mod Edges
-pub mod Match
 pub mod Lists
 pub mod Holds
 pub mod Moves
@@ -9,12 +6,9 @@ pub mod Answers
 pub mod Invariant
 pub mod Delivers
 pub mod Refused
-pub mod Whole
 pub mod NoPair
 pub mod Start
 pub mod TwoRuns
 pub mod RunsSound
-pub mod Exists
 pub mod Example
-pub mod Damaged
 pub mod Claims

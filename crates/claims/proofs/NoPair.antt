@@ -21,12 +21,12 @@ use Rattle.socket.specs.Pair.{noPair}
 use Rattle.socket.specs.Tests.{Lent}
 use Rattle.socket.specs.Disposition.{shutdownAnswer}
 use Rattle.socket.specs.Wait.{takeAnswer, closeAnswer}
-use Rattle.syscall.specs.Write.{userWriteAnswer}
-use Rattle.syscall.specs.Read.{userReadAnswer}
-use Rattle.syscall.specs.Control.{userDisposeAnswer, userShutdownAnswer}
-use Rattle.claims.specs.Calls.{Control, setDisposition, shutdown, plainDisposition, plainShutdown, setReadThreshold, setWriteThreshold, getThresholds, getInfo, wait, takePacket, Call, write, read, plainWrite, plainRead, close, control, Input, Public, public, Slices, State, state, seenOf}
-use Rattle.claims.specs.Answers.{View, view, controlAnswer, answerTo, pairAfter}
-use Rattle.claims.specs.Step.{answerOf, outcome, outcomes}
+use Rattle.user_answers.specs.Write.{userWriteAnswer}
+use Rattle.user_answers.specs.Read.{userReadAnswer}
+use Rattle.user_answers.specs.Control.{userDisposeAnswer, userShutdownAnswer}
+use Rattle.runs.specs.Calls.{Control, setDisposition, shutdown, plainDisposition, plainShutdown, setReadThreshold, setWriteThreshold, getThresholds, getInfo, wait, takePacket, Call, write, read, plainWrite, plainRead, close, control, Input, Public, public, Slices, State, state, seenOf}
+use Rattle.runs.specs.Answers.{View, view, controlAnswer, answerTo, pairAfter}
+use Rattle.runs.specs.Step.{answerOf, outcome, outcomes}
 use Rattle.claims.specs.Origins.{Origin, Lines, noLines, linesAfter, sourceOf, sourcesFrom}
 use Rattle.claims.specs.TwoRuns.{seen, answers, delivered, calls}
 use Rattle.claims.proofs.Lists.{cons-path}

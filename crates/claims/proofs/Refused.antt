@@ -15,12 +15,12 @@ use Rattle.socket.specs.Pair.{isOne}
 use Rattle.socket.specs.Write.{pairWritten}
 use Rattle.socket.specs.Read.{pairRead}
 use Rattle.syscall.specs.Read.{isPeek, bytesLanded}
-use Rattle.claims.specs.Calls.{Call, write, read, plainWrite, plainRead, close, control, Input, State, peerSlices, withPeer, Outcome}
-use Rattle.claims.specs.Answers.{View, view, pairAfter}
-use Rattle.claims.specs.Step.{written, stateAfter, landed, counted, deliveredIn, answerOf, after, outcome}
+use Rattle.runs.specs.Calls.{Call, write, read, plainWrite, plainRead, close, control, Input, State, peerSlices, withPeer, Outcome}
+use Rattle.runs.specs.Answers.{View, view, pairAfter}
+use Rattle.runs.specs.Step.{written, stateAfter, landed, counted, deliveredIn, answerOf, after, outcome}
 use Rattle.claims.specs.Origins.{Lines, added, removed, linesAfter, sourceOf}
 use Rattle.claims.specs.Laws.{RefusedChangesNothing}
-use Rattle.claims.proofs.Match.{calls-match}
+use Rattle.runs.proofs.Match.{calls-match}
 
 none-written : (s : State) (h : ℕ) (src : List ℕ) → written s h 0 src ≡ s
 unfolding written pairWritten ringWritten tableWritten pick

@@ -34,20 +34,20 @@ use Rattle.socket.specs.Pair.{isOne, endsOf, own, peer}
 use Rattle.socket.specs.Tests.{soundPair, soundTest, Lent, lentOf, slicesTest, tableTest, handleTest, openingTest}
 use Rattle.socket.specs.Disposition.{shutdownAnswer}
 use Rattle.socket.specs.Wait.{takeAnswer, closeAnswer}
-use Rattle.syscall.specs.Lookup.{lookup}
-use Rattle.syscall.specs.Write.{writeRanges, userWriteAnswer}
-use Rattle.syscall.specs.Read.{userReadAnswer}
-use Rattle.syscall.specs.Control.{userDisposeAnswer, userShutdownAnswer}
-use Rattle.claims.specs.Calls.{Control, setDisposition, shutdown, plainDisposition, plainShutdown, setReadThreshold, setWriteThreshold, getThresholds, getInfo, wait, takePacket, Call, write, read, plainWrite, plainRead, close, control, Input, State, state, ownSlices, Outcome}
-use Rattle.claims.specs.Run.{createdBy}
-use Rattle.claims.specs.Answers.{View, view, ownLent, peerLent, tableOnly, controlAnswer, answerTo}
-use Rattle.claims.specs.Step.{answerOf, outcome, pairCreated}
+use Rattle.user_answers.specs.Lookup.{lookup}
+use Rattle.user_answers.specs.Write.{writeRanges, userWriteAnswer}
+use Rattle.user_answers.specs.Read.{userReadAnswer}
+use Rattle.user_answers.specs.Control.{userDisposeAnswer, userShutdownAnswer}
+use Rattle.runs.specs.Calls.{Control, setDisposition, shutdown, plainDisposition, plainShutdown, setReadThreshold, setWriteThreshold, getThresholds, getInfo, wait, takePacket, Call, write, read, plainWrite, plainRead, close, control, Input, State, state, ownSlices, Outcome}
+use Rattle.runs.specs.Run.{createdBy}
+use Rattle.runs.specs.Answers.{View, view, ownLent, peerLent, tableOnly, controlAnswer, answerTo}
+use Rattle.runs.specs.Step.{answerOf, outcome, pairCreated}
 use Rattle.claims.specs.Origins.{Origin, Lines, noLines, found, linesAfter}
 use Rattle.claims.specs.Laws.{Reaches, here, by, Sound, RunsAreSound}
 use Rattle.claims.proofs.Holds.{Size, first-is, sound-queue, slices-long, first-good}
 use Rattle.claims.proofs.Invariant.{Inv}
 use Rattle.claims.proofs.Start.{sizeOf, created-fits, new-inv}
-use Rattle.claims.proofs.Match.{calls-match}
+use Rattle.runs.proofs.Match.{calls-match}
 use Rattle.claims.proofs.TwoRuns.{next-inv, here-in, after-in}
 
 -- ---- answers that are not INTERNAL
@@ -101,7 +101,7 @@ handle-not : (p : Pair) (h : ℕ) → Not (handleTest p h)
 unfolding Not internal endsHandleTest
 handle-not p h = unless-not (isOpen (endsOf p) h) BadHandle refl
 
-lookup-not : (p : Pair) (h right : ℕ) → Not (lookup p h right)
+lookup-not : (p : Pair) (h right : ℕ) → Not (lookup (endsOf p) h right)
 unfolding Not internal lookup
 lookup-not p h right = then-not _ _ (handle-not p h) (if-not _ AccessDenied refl)
 

@@ -17,10 +17,10 @@ use Rattle.answers.specs.Create.{createAnswer}
 use Rattle.socket.specs.declared.Pair.{Pair}
 use Rattle.socket.specs.Pair.{isOne, newPair, noPair}
 use Rattle.socket.specs.Tests.{Lent}
-use Rattle.claims.specs.Calls.{Create, Call, write, read, plainWrite, plainRead, close, control, Input, Public, public, Slices, State, state, withPeer, Seen, seenOf, Outcome}
-use Rattle.claims.specs.Run.{createdBy}
-use Rattle.claims.specs.Answers.{View, view, answerTo, pairAfter}
-use Rattle.claims.specs.Step.{written, stateAfter, answerOf, after, outcome, outcomes, pairCreated, start}
+use Rattle.runs.specs.Calls.{Create, Call, write, read, plainWrite, plainRead, close, control, Input, Public, public, Slices, State, state, withPeer, Seen, seenOf, Outcome}
+use Rattle.runs.specs.Run.{createdBy}
+use Rattle.runs.specs.Answers.{View, view, answerTo, pairAfter}
+use Rattle.runs.specs.Step.{written, stateAfter, answerOf, after, outcome, outcomes, pairCreated, start}
 use Rattle.claims.specs.Origins.{Origin, Line, Lines, noLines, linesAfter, sourcesFrom, sources, byteAt, found}
 use Rattle.claims.specs.TwoRuns.{seen, answers, delivered, calls, Alike, SameLengths, TwoRuns}
 use Rattle.claims.proofs.Lists.{cons-path}
@@ -29,7 +29,7 @@ use Rattle.claims.proofs.Invariant.{Inv, after-inv}
 use Rattle.claims.proofs.Delivers.{delivers}
 use Rattle.claims.proofs.Start.{sizeOf, Fit, created-fits, new-inv}
 use Rattle.claims.proofs.NoPair.{seen-all, origins-all}
-use Rattle.claims.proofs.Whole.{runs-match}
+use Rattle.runs.proofs.Whole.{runs-match}
 
 -- ---- what is public of a state, from its pair and the lines
 

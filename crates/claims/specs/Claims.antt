@@ -1,14 +1,16 @@
 -- All that is claimed of runs of calls, as one record. proofs/Claims has its proof.
-use Rattle.claims.specs.Match.{CallsMatch, RunsMatch, RunsExist}
+use Rattle.runs.specs.Match.{CallsMatch, RunsMatch, RunsExist}
 use Rattle.claims.specs.TwoRuns.{TwoRuns}
 use Rattle.claims.specs.Laws.{RefusedChangesNothing, RunsAreSound}
-use Rattle.claims.specs.Lines.{LinesMatch}
-use Rattle.claims.specs.Edges.{AtTheEdges}
-use Rattle.claims.specs.Orders.{Orders}
-use Rattle.claims.specs.Packets.{Packets}
+use Rattle.cases.specs.Lines.{LinesMatch}
+use Rattle.cases.specs.Edges.{AtTheEdges}
+use Rattle.cases.specs.Orders.{Orders}
+use Rattle.cases.specs.Packets.{Packets}
 use Rattle.claims.specs.Example.{Differ}
-use Rattle.claims.specs.Damaged.{DamagedRecords}
-use Rattle.claims.specs.Lends.{LentSlices}
+use Rattle.cases.specs.Damaged.{DamagedRecords}
+use Rattle.cases.specs.Lends.{LentSlices}
+use Rattle.cases.specs.FirstLengths.{FirstLengths}
+use Rattle.cases.specs.Creates.{CreateArguments}
 
 pub record Claims : Type 0 where
   -- 01 "Two runs": any list of calls, run twice
@@ -31,3 +33,5 @@ pub record Claims : Type 0 where
   -- 01 "Status and answer word": damaged records, short slices and first lengths, create's arguments
   pub damaged : DamagedRecords
   pub lent : LentSlices
+  pub firsts : FirstLengths
+  pub create : CreateArguments

@@ -5,13 +5,13 @@ use mathlib.Core.Path.{_≡_}
 use mathlib.Core.Bool.{true, false}
 use mathlib.Core.List.{List, [], _∷_}
 use lib.ListN.{replicate}
-use Rattle.claims.specs.Calls.{write, read, plainWrite, plainRead, close, Input, input, Slices, Seen, seenOf, Outcome}
-use Rattle.claims.specs.Run.{Run, createdBy}
-use Rattle.claims.specs.Step.{outcomes, pairCreated, start}
+use Rattle.runs.specs.Calls.{write, read, plainWrite, plainRead, close, Input, input, Slices, Seen, seenOf, Outcome}
+use Rattle.runs.specs.Run.{Run, createdBy}
+use Rattle.runs.specs.Step.{outcomes, pairCreated, start}
 use Rattle.claims.specs.Origins.{Origin, origins, flat, added, shrunk, removed, linesAfter, sourceOf, sourcesFrom, sources}
 use Rattle.claims.specs.TwoRuns.{answers, delivered, calls, Alike}
-use Rattle.claims.specs.Lines.{linesOf}
-use Rattle.claims.specs.Edges.{datagram, eight}
+use Rattle.cases.specs.Lines.{linesOf}
+use Rattle.cases.specs.Scripts.{datagram, create}
 
 -- A row of 3 bytes and one of 2 are written. The first is peeked at, and read into 2 bytes, so that its tail is dropped. The second is read
 -- with its count put over it. Then a plain row goes the other way, and an end closes with a row queued.
@@ -44,11 +44,11 @@ used = record { ring = replicate 8 7; table = replicate 8 9 }
 
 unfoldable pub outcomesOf : Slices → List Input → List Outcome
 unfolding linesOf
-outcomesOf l is = outcomes (start (eight datagram) l l) is
+outcomesOf l is = outcomes (start (create datagram 7) l l) is
 
 unfoldable pub createOf : Slices → Seen
 unfolding linesOf
-createOf l = seenOf (createdBy (eight datagram) l l) (pairCreated (eight datagram) (createdBy (eight datagram) l l))
+createOf l = seenOf (createdBy (create datagram 7) l l) (pairCreated (create datagram 7) (createdBy (create datagram 7) l l))
 
 unfoldable pub sourcesOf : List Input → List Outcome → List (List Origin)
 unfolding linesOf origins flat added shrunk removed linesAfter sourceOf sourcesFrom sources
@@ -59,8 +59,8 @@ from call offset = record { call = call; offset = offset }
 
 pub record Differ : Type 0 where
   -- both are runs of the code, and alike
-  pub run1 : Run (eight datagram) empty empty salary (createOf empty) (outcomesOf empty salary)
-  pub run2 : Run (eight datagram) used used filler (createOf used) (outcomesOf used filler)
+  pub run1 : Run (create datagram 7) empty empty salary (createOf empty) (outcomesOf empty salary)
+  pub run2 : Run (create datagram 7) used used filler (createOf used) (outcomesOf used filler)
   pub alike : Alike true salary filler (createOf empty) (createOf used) (outcomesOf empty salary) (outcomesOf used filler)
   -- what each delivers
   pub first :

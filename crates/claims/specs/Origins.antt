@@ -10,7 +10,7 @@ use Rattle.status.specs.Choice.{pick}
 use Rattle.status.specs.Answer.{countOf, isDone}
 use Rattle.socket.specs.Pair.{isOne}
 use Rattle.syscall.specs.Read.{isPeek}
-use Rattle.claims.specs.Calls.{Call, write, read, plainWrite, plainRead, close, control, Input, bytesOf}
+use Rattle.runs.specs.Calls.{Call, write, read, plainWrite, plainRead, close, control, Input, bytesOf}
 
 -- the origin of a byte: the call that wrote it, by its number in the list from 0, and the byte's offset in that write
 pub record Origin : Type 0 where

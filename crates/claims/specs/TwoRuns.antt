@@ -8,8 +8,8 @@ use mathlib.Core.Option.{some}
 use lib.ListN.{length}
 use lib.Dec.{eqb}
 use Rattle.status.specs.declared.Answer.{Answer}
-use Rattle.claims.specs.Calls.{Create, Call, Input, public, Slices, Seen, Outcome}
-use Rattle.claims.specs.Run.{Run}
+use Rattle.runs.specs.Calls.{Create, Call, Input, public, Slices, Seen, Outcome}
+use Rattle.runs.specs.Run.{Run}
 use Rattle.claims.specs.Origins.{sources, found}
 
 abbrev pub seen : List Outcome → List Seen

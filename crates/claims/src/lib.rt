@@ -2,8 +2,6 @@
 
 ghost use Rattle.claims.specs.Claims.{Claims};
 
-mod code;
-
 // Its contract is all that is claimed, so that to prove this crate is to prove every claim. It does nothing.
 pub fn hold()
     ensures { λ _. ⌜ Claims ⌝ }

@@ -1,0 +1,23 @@
+use borrow.Author.Needs.{needs}
+use Rattle.runs.specs.Run.{did-write}
+use Rattle.run_steps.proofs.Lent.{rings, tables}
+use Rattle.run_steps.proofs.write.Statement.{statement}
+use Rattle.run_steps.proofs.write.Tie as tie
+
+write-requires : tie.Need-write-requires
+write-requires c κs = search needs
+
+same-length : tie.Need-same-length
+same-length c = search needs
+
+same-length-2 : tie.Need-same-length-2
+same-length-2 c = search needs
+
+same-length-3 : tie.Need-same-length-3
+same-length-3 c = search needs
+
+returns : tie.Need-returns
+returns c = λ one two e. did-write (rw (← rings e, ← tables e) at (c .before .before .before .before .before .before .write .ensures))
+
+pub write-spec : {M : Type 1} → statement M
+write-spec = tie.close (tie.spec write-requires same-length same-length-2 same-length-3 returns)

@@ -1,0 +1,167 @@
+-- What the functions ensure is what the definitions compute. Assumes nothing.
+use Prim.Native.Nat.{ℕ, _-_}
+use mathlib.Core.Path.{_≡_, refl, sym, ap, _∙_}
+use mathlib.Core.Bool.{Bool, true, false}
+use mathlib.Core.List.{List, []}
+use lib.ListN.{length, take, drop}
+use Rattle.status.specs.declared.Answer.{Answer}
+use Rattle.status.specs.declared.Answer.the-variants.{Done, Refused}
+use Rattle.status.specs.Choice.{pick}
+use Rattle.status.specs.Answer.{countOf, isDone}
+use Rattle.endpoint.specs.Queue.{firstLength}
+use Rattle.socket.specs.declared.Pair.{Pair}
+use Rattle.socket.specs.declared.Step.{Step}
+use Rattle.socket.specs.Pair.{isOne, own, peer}
+use Rattle.socket.specs.Tests.{Lent, lentOf, Steps}
+use Rattle.socket.specs.Write.{writeAnswer, pairWritten, ringWritten, tableWritten}
+use Rattle.socket.specs.Read.{readAnswer, pairRead}
+use Rattle.user_memory.specs.Memory.{countLanded}
+use Rattle.syscall.specs.Write.{userWriteAnswer}
+use Rattle.syscall.specs.Read.{isPeek, userReadAnswer, bytesLanded}
+use Rattle.runs.specs.Calls.{Input, State, state, ownSlices, peerSlices, withPair, withPeer, seenOf, gives}
+use Rattle.runs.specs.Run.{did-write, did-read, did-dispose, did-shutdown, did-plain-write, did-plain-read, did-plain-dispose, did-plain-shutdown, did-read-threshold, did-write-threshold, did-thresholds, did-info, did-wait, did-take, did-close}
+use Rattle.runs.specs.Answers.{view, ownLent, peerLent, controlAnswer, answerTo, controlled, pairAfter}
+use Rattle.runs.specs.Step.{written, stateAfter, landed, counted, deliveredIn, answerOf, after, outcome}
+use Rattle.runs.specs.Match.{Matches, CallsMatch}
+
+-- ---- what is lent
+
+own-lent : (t : Bool) (s : State) → lentOf (s .pair .datagram) (own t (s .pair) .queue) (ownSlices t s .ring) (ownSlices t s .table) ≡ ownLent t (view s)
+own-lent true s = refl
+own-lent false s = refl
+
+peer-lent : (t : Bool) (s : State) → lentOf (s .pair .datagram) (peer t (s .pair) .queue) (peerSlices t s .ring) (peerSlices t s .table) ≡ peerLent t (view s)
+peer-lent true s = refl
+peer-lent false s = refl
+
+own-table : (t : Bool) (s : State) → lentOf (s .pair .datagram) (own t (s .pair) .queue) [] (ownSlices t s .table) ≡ record { ring = 0; table = ownLent t (view s) .table; first = ownLent t (view s) .first }
+unfolding lentOf
+own-table true s = refl
+own-table false s = refl
+
+own-first : (t : Bool) (s : State) → firstLength (s .pair .datagram) (own t (s .pair) .queue) (ownSlices t s .table) ≡ ownLent t (view s) .first
+unfolding lentOf
+own-first true s = refl
+own-first false s = refl
+
+-- ---- from the parts of a call to the whole
+
+module _ (s : State) (i : Input) where
+  -- a call that changes no slice
+  same-slices : (r : Answer) (p : Pair) (d m : List ℕ)
+      → r ≡ answerOf s i
+      → p ≡ pairAfter (view s) (i .call) r
+      → stateAfter s i (i .call) r p ≡ withPair p s
+      → d ≡ deliveredIn (i .base) (landed s (i .base) (i .memory) (i .call) r) (i .call) r
+      → m ≡ counted (i .base) (landed s (i .base) (i .memory) (i .call) r) (i .call) r
+      → Matches s i (withPair p s) (record { seen = seenOf r p; delivered = d; memory = m })
+  unfolding after outcome
+  same-slices r p d m er ep es ed em =
+      record {
+        state = sym es ∙ ap (stateAfter s i (i .call) r) ep ∙ ap (λ (x : Answer). stateAfter s i (i .call) x (pairAfter (view s) (i .call) x)) er;
+        out =
+            (λ k. record { seen = seenOf r (ep k); delivered = ed k; memory = em k })
+            ∙ ap (λ (x : Answer).
+            record {
+              seen = seenOf x (pairAfter (view s) (i .call) x);
+              delivered = deliveredIn (i .base) (landed s (i .base) (i .memory) (i .call) x) (i .call) x;
+              memory = counted (i .base) (landed s (i .base) (i .memory) (i .call) x) (i .call) x;
+            })
+            er;
+      }
+
+  -- a call that is lent nothing
+  steps : (q : Pair) (r : Step)
+      → Steps (s .pair) (answerOf s i) q r
+      → ((x : Answer) → pairAfter (view s) (i .call) x ≡ pick (isDone x) q (s .pair))
+      → ((x : Answer) (p : Pair) → stateAfter s i (i .call) x p ≡ withPair p s)
+      → ((x : Answer) → [] ≡ deliveredIn (i .base) (landed s (i .base) (i .memory) (i .call) x) (i .call) x)
+      → ((x : Answer) → i .memory ≡ counted (i .base) (landed s (i .base) (i .memory) (i .call) x) (i .call) x)
+      → Matches s i (withPair (r .pair) s) (gives r [] (i .memory))
+  steps q r e fp fs fd fm =
+      same-slices (r .answer) (r .pair) [] (i .memory) (e .answer)
+      (e .pair ∙ sym (ap (λ (x : Answer). pick (isDone x) q (s .pair)) (e .answer)) ∙ sym (fp (r .answer)))
+      (fs (r .answer) (r .pair))
+      (fd (r .answer))
+      (fm (r .answer))
+
+-- a write: the peer's slices
+wrote : (t : Bool) (s : State) (p p′ : Pair) (ring ring′ table table′ : List ℕ) → p ≡ p′ → ring ≡ ring′ → table ≡ table′
+    → withPeer t p (record { ring = ring; table = table }) s ≡ withPeer t p′ (record { ring = ring′; table = table′ }) s
+wrote true s p p′ ring ring′ table table′ a b c = λ k. record { pair = a k; one = s .one; two = record { ring = b k; table = c k } }
+wrote false s p p′ ring ring′ table table′ a b c = λ k. record { pair = a k; one = record { ring = b k; table = c k }; two = s .two }
+
+does-write : (s : State) (i : Input) (h : ℕ) (src ring′ table′ m : List ℕ) (r : Step)
+    → r .answer ≡ answerOf s i
+    → r .pair ≡ pairWritten (s .pair) h (countOf (r .answer))
+    → ring′ ≡ ringWritten (s .pair) h (countOf (r .answer)) src (peerSlices (isOne h) s .ring)
+    → table′ ≡ tableWritten (s .pair) h (countOf (r .answer)) (peerSlices (isOne h) s .table)
+    → ((x : Answer) → pairAfter (view s) (i .call) x ≡ pairWritten (s .pair) h (countOf x))
+    → ((x : Answer) (p : Pair) → stateAfter s i (i .call) x p ≡ written s h (countOf x) src)
+    → ((x : Answer) → [] ≡ deliveredIn (i .base) (landed s (i .base) (i .memory) (i .call) x) (i .call) x)
+    → m ≡ counted (i .base) (landed s (i .base) (i .memory) (i .call) (r .answer)) (i .call) (r .answer)
+    → Matches s i (withPeer (isOne h) (r .pair) (record { ring = ring′; table = table′ }) s) (gives r [] m)
+unfolding after outcome written
+does-write s i h src ring′ table′ m r er ep eb el fp fs fd em =
+    record {
+      state =
+          wrote (isOne h) s (r .pair) _ ring′ _ table′ _ ep eb el
+          ∙ ap (λ (x : Answer). written s h (countOf x) src) er
+          ∙ sym (fs (answerOf s i) (pairAfter (view s) (i .call) (answerOf s i)));
+      out =
+          (λ k. record { seen = seenOf (r .answer) ((ep ∙ sym (fp (r .answer))) k); delivered = fd (r .answer) k; memory = em k })
+          ∙ ap (λ (x : Answer).
+          record {
+            seen = seenOf x (pairAfter (view s) (i .call) x);
+            delivered = deliveredIn (i .base) (landed s (i .base) (i .memory) (i .call) x) (i .call) x;
+            memory = counted (i .base) (landed s (i .base) (i .memory) (i .call) x) (i .call) x;
+          })
+          er;
+    }
+
+-- the count lands where a call is done; a refused call has landed nothing
+user-memory : (s : State) (h base a at : ℕ) (ring memory memory′ : List ℕ) (r : Answer)
+    → memory′ ≡ pick (isDone r) (countLanded base at (countOf r) (bytesLanded (s .pair) h base a (countOf r) ring memory)) memory
+    → memory′ ≡ pick (isDone r) (countLanded base at (countOf r) (bytesLanded (s .pair) h base a (countOf r) ring memory)) (bytesLanded (s .pair) h base a (countOf r) ring memory)
+unfolding pick isDone bytesLanded countOf
+user-memory s h base a at ring memory memory′ (Done d) e = e
+user-memory s h base a at ring memory memory′ (Refused x) e = e
+
+-- ---- each call
+
+pub calls-match : CallsMatch
+unfolding controlAnswer answerTo controlled pairAfter stateAfter landed counted deliveredIn
+calls-match s i s′ o (did-write {h} {o = o′} {a} {n} {at} {base} {memory} {memory′} {ring′} {table′} {r} w) =
+    does-write s i h (drop (a - base) memory) ring′ table′ memory′ r
+    (w .answer ∙ ap (λ (z : Lent). userWriteAnswer (s .pair) z h base (length memory) o′ a n at) (peer-lent (isOne h) s))
+    (w .pair) (w .bytes) (w .lengths) (λ x. refl) (λ x p. refl) (λ x. refl) (w .user)
+calls-match s i s′ o (did-read {h} {o = o′} {a} {n} {at} {base} {memory} {landed} {memory′} {r} b w) =
+    same-slices s i (r .answer) (r .pair) _ memory′
+    (w .answer ∙ ap (λ (z : Lent). userReadAnswer (s .pair) z h base (length memory) o′ a n at) (own-lent (isOne h) s))
+    (w .pair ∙ ap (λ (x : ℕ). pairRead (s .pair) h (isPeek o′) x (countOf (r .answer))) (own-first (isOne h) s))
+    refl
+    (ap (λ (x : List ℕ). take (countOf (r .answer)) (drop (a - base) x)) (b .user))
+    (user-memory s h base a at (ownSlices (isOne h) s .ring) memory memory′ (r .answer) (w .user))
+calls-match s i s′ o (did-dispose {r = r} e) = steps s i _ r e (λ x. refl) (λ x p. refl) (λ x. refl) (λ x. refl)
+calls-match s i s′ o (did-shutdown {r = r} e) = steps s i _ r e (λ x. refl) (λ x p. refl) (λ x. refl) (λ x. refl)
+calls-match s i s′ o (did-plain-write {h} {base} {src} {ring′} {table′} {r} w) =
+    does-write s i h src ring′ table′ src r
+    (w .answer ∙ ap (λ (z : Lent). writeAnswer (s .pair) z h (length src)) (peer-lent (isOne h) s))
+    (w .pair) (w .bytes) (w .lengths) (λ x. refl) (λ x p. refl) (λ x. refl) refl
+calls-match s i s′ o (did-plain-read {h} {base} {peek} {buffer} {buffer′} {r} w) =
+    same-slices s i (r .answer) (r .pair) _ buffer′
+    (w .answer ∙ ap (λ (z : Lent). readAnswer (s .pair) z h (length buffer)) (own-lent (isOne h) s))
+    (w .pair ∙ ap (λ (x : ℕ). pairRead (s .pair) h peek x (countOf (r .answer))) (own-first (isOne h) s))
+    refl
+    (ap (take (countOf (r .answer))) (w .bytes))
+    (w .bytes)
+calls-match s i s′ o (did-plain-dispose {r = r} e) = steps s i _ r e (λ x. refl) (λ x p. refl) (λ x. refl) (λ x. refl)
+calls-match s i s′ o (did-plain-shutdown {r = r} e) = steps s i _ r e (λ x. refl) (λ x p. refl) (λ x. refl) (λ x. refl)
+calls-match s i s′ o (did-read-threshold {r = r} e) = steps s i _ r e (λ x. refl) (λ x p. refl) (λ x. refl) (λ x. refl)
+calls-match s i s′ o (did-write-threshold {r = r} e) = steps s i _ r e (λ x. refl) (λ x p. refl) (λ x. refl) (λ x. refl)
+calls-match s i s′ o (did-thresholds {r = r} e) = steps s i _ r e (λ x. refl) (λ x p. refl) (λ x. refl) (λ x. refl)
+calls-match s i s′ o (did-info {h} {base} {memory} {r} e) =
+    steps s i (s .pair) r (rw (← own-table (isOne h) s) e) (λ x. refl) (λ x p. refl) (λ x. refl) (λ x. refl)
+calls-match s i s′ o (did-wait {r = r} e) = steps s i _ r e (λ x. refl) (λ x p. refl) (λ x. refl) (λ x. refl)
+calls-match s i s′ o (did-take {r = r} e) = steps s i _ r e (λ x. refl) (λ x p. refl) (λ x. refl) (λ x. refl)
+calls-match s i s′ o (did-close {r = r} e) = steps s i _ r e (λ x. refl) (λ x p. refl) (λ x. refl) (λ x. refl)

@@ -1,0 +1,34 @@
+-- A whole run of the code is the computed one. Assumes nothing.
+use mathlib.Core.Path.{_≡_, refl, ap, ap₂, _∙_}
+use mathlib.Core.List.{List, _∷_}
+use lib.Dec.{eqb}
+use Rattle.socket.specs.declared.Pair.{Pair}
+use Rattle.socket.specs.declared.Step.{Step}
+use Rattle.socket.specs.Pair.{newPair, noPair}
+use Rattle.socket.specs.Tests.{Steps}
+use Rattle.runs.specs.Calls.{Create, Input, Slices, State, state, seenOf, Outcome}
+use Rattle.runs.specs.Run.{Calls, none, next, createdBy, run}
+use Rattle.runs.specs.Step.{outcomes, pairCreated}
+use Rattle.runs.specs.Match.{RunsMatch}
+use Rattle.runs.proofs.Match.{calls-match}
+
+pub calls-computed : {s : State} {is : List Input} {os : List Outcome} → Calls s is os → os ≡ outcomes s is
+unfolding outcomes
+calls-computed none = refl
+calls-computed (next {s} {s′} {i} {o} {is} {os} d c) =
+    let m = calls-match s i s′ o d in
+    ap₂ (λ (x : Outcome) (xs : List Outcome). x ∷ xs) (m .out) (calls-computed c ∙ ap (λ (x : State). outcomes x is) (m .state))
+
+pub created-pair : (c : Create) (one two : Slices) (r : Step)
+    → Steps noPair (createdBy c one two) (newPair (eqb (c .kind) 1) (c .capacity) (c .rights1) (c .rights2)) r
+    → r .pair ≡ pairCreated c (createdBy c one two)
+unfolding pairCreated
+created-pair c one two r e = e .pair
+
+pub runs-match : RunsMatch
+runs-match c one two is x os (run {r} e k) =
+    let p = created-pair c one two r e in
+    record {
+      create = λ i. seenOf (e .answer i) (p i);
+      calls = calls-computed k ∙ ap (λ (q : Pair). outcomes (state q one two) is) p;
+    }

@@ -1,0 +1,10 @@
+-- What a run of calls on one pair is. 01 "Two runs":
+--   Calls      the calls, what each finds and gives
+--   Run        a run of the code, by the functions' contracts
+--   Answers    the answer and the next pair of a call, computed from what is public; Step: the slices and the memory
+--   Match      a run of the code is the computed one
+pub mod Calls
+pub mod Run
+pub mod Answers
+pub mod Step
+pub mod Match
