@@ -25,7 +25,7 @@ fn shape_of(number: u64, numbers: &mut Numbers) -> Shape {
 fn main() {
     let seed = std::env::args().nth(1).and_then(|text| text.parse().ok()).unwrap_or(1);
     let (mut sum, mut calls) = (0, 0u64);
-    for number in 0..200 {
+    for number in 0..support::sequences(200) {
         let mut numbers = Numbers::new(number);
         let shape = shape_of(number, &mut numbers);
         let mut sides = Sides::new(shape, seed);
