@@ -51,8 +51,8 @@ const MEMORY_USE: &[(Call, u64)] = &[(Write, 38), (Read, 36), (Fill, 16), (Info,
 
 struct Generator {
     draw: Draw,
-    /// Where most addresses of this script lie.
-    hot: u64,
+    /// Where the memory begins that most calls of this script use.
+    usual: u64,
 }
 
 /// The script with a number in the run of a seed.
@@ -62,8 +62,8 @@ pub fn script(seed: u64, number: u64) -> Vec<u8> {
         return Vec::new();
     }
     let capacity = capacity(&mut random);
-    let hot = BASE + random.pick(&[0, 0, 0, 100, 4096 - 64, 4096 - 24]);
-    let mut generator = Generator { draw: Draw::new(random, capacity), hot };
+    let usual = BASE + random.pick(&[0, 0, 0, 100, 4096 - 64, 4096 - 24]);
+    let mut generator = Generator { draw: Draw::new(random, capacity), usual };
     let records = generator.records();
     let bytes = script_of(&records);
     generator.perhaps_damaged(bytes)
@@ -86,8 +86,8 @@ impl Generator {
             0 => {}
             1..5 => records.push(Record::Fill { address: BASE, bytes: self.draw.random.bytes(MOST_FILL) }),
             _ => {
-                let number = (END - self.hot).min(64) as usize;
-                records.push(Record::Fill { address: self.hot, bytes: self.draw.random.bytes(number) });
+                let number = (END - self.usual).min(64) as usize;
+                records.push(Record::Fill { address: self.usual, bytes: self.draw.random.bytes(number) });
             }
         }
         let weights = self.draw.random.pick(&[TRAFFIC, TRAFFIC, WAITS, ENDINGS, MEMORY_USE]);
@@ -149,15 +149,15 @@ impl Generator {
         });
     }
 
-    /// Shows what is left: sizes, packets, and the bytes of the hot memory.
+    /// Shows what is left: sizes, packets, and the bytes of the memory that most calls used.
     fn put_last_look(&mut self, records: &mut Vec<Record>) {
         records.extend([Record::Info { handle: 1 }, Record::Info { handle: 2 }]);
         records.extend(vec![Record::Take; self.draw.random.below(5) as usize]);
         let chunk = self.draw.capacity.min(64);
-        let far = if self.hot > BASE + 2048 { BASE } else { BASE + 3000 };
+        let far = if self.usual > BASE + 2048 { BASE } else { BASE + 3000 };
         for at in (0..64.min(chunk * 6)).step_by(chunk as usize) {
             let (handle, options, count_at) = (1, 0, 0);
-            let address = (self.hot + at).min(END - chunk);
+            let address = (self.usual + at).min(END - chunk);
             records.push(Record::Read(Transfer {
                 handle: 2,
                 options,
@@ -204,7 +204,7 @@ impl Generator {
             return 0;
         }
         if !self.draw.is_odd() {
-            return self.hot + self.draw.random.below(24);
+            return self.usual + self.draw.random.below(24);
         }
         match self.draw.random.below(8) {
             0 => 0,
@@ -230,7 +230,7 @@ impl Generator {
         match self.draw.random.below(10) {
             0..6 => 0,
             6..9 => address.wrapping_add(self.draw.random.below(16)).wrapping_sub(8),
-            _ => self.hot + self.draw.random.below(16),
+            _ => self.usual + self.draw.random.below(16),
         }
     }
 

@@ -6,6 +6,7 @@ use crate::enumerate::{Sequences, Start};
 use crate::generate;
 use crate::oracle::listing;
 use crate::record::{script_of, Record, FILL, HEAD, MOST_FILL, SHAPES};
+use crate::stream;
 use crate::waits::PLACES;
 
 /// A random script is stored if it and its listing are at most this long.
@@ -24,6 +25,25 @@ pub fn scripts() -> Vec<(String, Vec<u8>)> {
     let short = random.filter(|(_, script)| script.len() + listing(script).len() <= SHORT);
     scripts.extend(short.take(RANDOM).map(|(number, script)| (format!("random {number}"), script)));
     scripts
+}
+
+/// What is stored: each script and its listing in turn, each after its length.
+pub struct Stored {
+    pub scripts: Vec<u8>,
+    /// One name a line, in the same order.
+    pub names: String,
+}
+
+/// The scripts with the oracle's listings.
+pub fn stored() -> Stored {
+    let mut stored = Stored { scripts: Vec::new(), names: String::new() };
+    for (name, script) in scripts() {
+        stream::put(&mut stored.scripts, &script);
+        stream::put(&mut stored.scripts, listing(&script).as_bytes());
+        stored.names += &name;
+        stored.names.push('\n');
+    }
+    stored
 }
 
 fn create(kind: u32, capacity: u32, rights: [u8; 2]) -> Record {

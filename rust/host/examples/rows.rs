@@ -1,7 +1,7 @@
 //! A writer passes rows to a reader, each as one datagram. The reader waits for them; the writer waits
 //! for space. Nothing blocks: a wait leaves a packet, and a loop takes packets.
 
-use murgwethan::{Disposition, End, Kind, Packet, Rights, Signals, SocketPair, Status, Storage};
+use murgwethan::{Disposition, End, Packet, Rights, Signals, SocketPair, Status};
 use std::io::{self, Write};
 
 const CAPACITY: usize = 32;
@@ -92,10 +92,9 @@ fn show(pair: &mut SocketPair<'_>, out: &mut impl Write) -> io::Result<()> {
 pub fn run(out: &mut impl Write) -> io::Result<()> {
     let (mut ring_one, mut ring_two) = ([0; CAPACITY], [0; CAPACITY]);
     let (mut table_one, mut table_two) = ([0; CAPACITY], [0; CAPACITY]);
-    let one = Storage::datagram(&mut ring_one, &mut table_one);
-    let two = Storage::datagram(&mut ring_two, &mut table_two);
+    let (rings, tables) = ([&mut ring_one[..], &mut ring_two], [&mut table_one[..], &mut table_two]);
     let rights = [Rights::WRITE | Rights::MANAGE, Rights::READ];
-    let mut pair = match SocketPair::create(Kind::Datagram, CAPACITY as u32, rights, one, two) {
+    let mut pair = match SocketPair::datagram(CAPACITY as u32, rights, rings, tables) {
         Ok(pair) => pair,
         Err(status) => return writeln!(out, "no pair: {status}"),
     };

@@ -4,7 +4,7 @@
 #[path = "../tests/support/mod.rs"]
 mod support;
 
-use support::calls::{Call, Shape, Theme};
+use support::calls::{Call, Most, Shape};
 use support::numbers::Numbers;
 use support::sides::Sides;
 
@@ -25,12 +25,12 @@ fn shape_of(number: u64, numbers: &mut Numbers) -> Shape {
 fn main() {
     let seed = std::env::args().nth(1).and_then(|text| text.parse().ok()).unwrap_or(1);
     let (mut sum, mut calls) = (0, 0u64);
-    for number in 0..200 {
+    for number in 0..support::sequences(200) {
         let mut numbers = Numbers::new(number);
         let shape = shape_of(number, &mut numbers);
         let mut sides = Sides::new(shape, seed);
         for _ in 0..200 {
-            let word = sides.call(&Call::random(&mut numbers, &shape, Theme::Mixed));
+            let word = sides.call(&Call::random(&mut numbers, &shape, Most::Neither));
             sum = sides.signals().iter().fold(mixed(sum, word as u64), |sum, word| mixed(sum, *word as u64));
             sum = sides.out().iter().fold(sum, |sum, number| mixed(sum, *number));
             calls += 1;

@@ -14,7 +14,7 @@ pub mod raw;
 mod signals;
 mod status;
 
-pub use pair::{Disposition, End, Info, Kind, Packet, Rights, SocketPair, Storage, Thresholds, UserMemory};
+pub use pair::{Disposition, End, Info, Packet, Rights, SocketPair, Thresholds, UserMemory};
 pub use raw::{Transfer, PLACES};
 pub use signals::Signals;
 pub use status::Status;

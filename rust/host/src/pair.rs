@@ -8,15 +8,9 @@ use core::ops::BitOr;
 
 pub use crate::raw::Thresholds;
 
-/// What a pair carries.
-#[derive(Clone, Copy, Debug, Eq, PartialEq)]
-#[repr(u32)]
-pub enum Kind {
-    /// Bytes without borders.
-    Stream = 0,
-    /// Datagrams: a write is one, and a read takes one, whole or cut off at the buffer's end.
-    Datagram = 1,
-}
+/// The kinds of pairs, as the numbers of create.
+const STREAM: u32 = 0;
+const DATAGRAM: u32 = 1;
 
 /// One end of a pair. Its number is its handle.
 #[derive(Clone, Copy, Debug, Eq, PartialEq)]
@@ -135,25 +129,11 @@ pub struct Packet {
     pub timestamp: u64,
 }
 
-/// What one end's queue is kept in. Bytes that are not queued keep their values.
-#[derive(Debug)]
-pub struct Storage<'a> {
-    /// The queued bytes, in the first entries up to the capacity.
-    pub ring: &'a mut [u8],
-    /// The lengths of the queued datagrams, in the first entries up to the capacity.
-    pub table: &'a mut [u32],
-}
-
-impl<'a> Storage<'a> {
-    /// For a stream, which keeps no lengths.
-    pub fn stream(ring: &'a mut [u8]) -> Self {
-        Storage { ring, table: &mut [] }
-    }
-
-    /// For datagrams.
-    pub fn datagram(ring: &'a mut [u8], table: &'a mut [u32]) -> Self {
-        Storage { ring, table }
-    }
+/// What one end's queue is kept in.
+struct Storage<'a> {
+    ring: &'a mut [u8],
+    /// Empty on stream pairs.
+    table: &'a mut [u32],
 }
 
 /// User memory: one slice at an address.
@@ -176,12 +156,11 @@ pub struct UserMemory<'m> {
 /// processors puts a lock around the pair.
 ///
 /// ```
-/// use murgwethan::{End, Kind, Rights, Signals, SocketPair, Status, Storage};
+/// use murgwethan::{End, Rights, Signals, SocketPair, Status};
 ///
 /// # fn main() -> Result<(), Status> {
 /// let (mut ring_one, mut ring_two) = ([0; 16], [0; 16]);
-/// let (one, two) = (Storage::stream(&mut ring_one), Storage::stream(&mut ring_two));
-/// let mut pair = SocketPair::create(Kind::Stream, 16, [Rights::ALL; 2], one, two)?;
+/// let mut pair = SocketPair::stream(16, [Rights::ALL; 2], [&mut ring_one, &mut ring_two])?;
 /// pair.wait(End::Two, 7, Signals::READABLE, false)?;
 /// assert_eq!(pair.take(), Err(Status::ShouldWait));
 /// assert_eq!(pair.write(End::One, b"abc"), Ok(3));
@@ -199,28 +178,44 @@ pub struct SocketPair<'a> {
 }
 
 impl<'a> SocketPair<'a> {
-    /// A new pair with two empty queues of `capacity` bytes; both ends are writable.
+    /// A new pair for bytes without borders, with two empty queues of `capacity` bytes; both ends are
+    /// writable. The rights and the rings are those of end 1 and of end 2. A queue is kept in the first
+    /// `capacity` entries of its end's ring; entries that hold no queued byte keep their values.
     ///
     /// [`Status::InvalidArgs`] if the capacity is 0 or above [`MOST_CAPACITY`](crate::MOST_CAPACITY), or
-    /// if a ring, or on datagram pairs a table, has fewer entries than that.
-    pub fn create(
-        kind: Kind,
+    /// if a ring has fewer entries than that. Other kinds and other bits of a rights word cannot be given
+    /// here; [`raw::create`] refuses them with the same status.
+    pub fn stream(capacity: u32, rights: [Rights; 2], rings: [&'a mut [u8]; 2]) -> Result<Self, Status> {
+        SocketPair::create(STREAM, capacity, rights, rings, [&mut [], &mut []])
+    }
+
+    /// A new pair for datagrams: a write is one, and a read takes one, whole or cut off at the buffer's
+    /// end. Each end has a table beside its ring, in which the lengths of its queued datagrams are kept.
+    ///
+    /// The rest, and when it is refused, is as with [`stream`](SocketPair::stream); a table needs as many
+    /// entries as a ring.
+    pub fn datagram(
         capacity: u32,
         rights: [Rights; 2],
-        one: Storage<'a>,
-        two: Storage<'a>,
+        rings: [&'a mut [u8]; 2],
+        tables: [&'a mut [u32]; 2],
     ) -> Result<Self, Status> {
-        let mut pair = SocketPair { record: raw::Pair::UNMADE, one, two };
-        let (one, two) = (&pair.one, &pair.two);
-        done(raw::create(
-            &mut pair.record,
-            kind as u32,
-            capacity,
-            rights.map(Rights::bits),
-            [one.ring, two.ring],
-            [one.table, two.table],
-        ))?;
-        Ok(pair)
+        SocketPair::create(DATAGRAM, capacity, rights, rings, tables)
+    }
+
+    fn create(
+        kind: u32,
+        capacity: u32,
+        rights: [Rights; 2],
+        [ring_one, ring_two]: [&'a mut [u8]; 2],
+        [table_one, table_two]: [&'a mut [u32]; 2],
+    ) -> Result<Self, Status> {
+        let mut record = raw::Pair::UNMADE;
+        let (rings, tables) = ([&*ring_one, &*ring_two], [&*table_one, &*table_two]);
+        done(raw::create(&mut record, kind, capacity, rights.map(Rights::bits), rings, tables))?;
+        let one = Storage { ring: ring_one, table: table_one };
+        let two = Storage { ring: ring_two, table: table_two };
+        Ok(SocketPair { record, one, two })
     }
 
     /// Writes bytes to the peer's queue and answers how many were taken: of a stream as many as there is

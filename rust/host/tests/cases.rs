@@ -4,26 +4,27 @@ use murgwethan::Status::{
     AccessDenied, BadHandle, BadState, InvalidArgs, NoResources, OutOfRange, PeerClosed, ShouldWait,
 };
 use murgwethan::{
-    Disposition, End, Kind, Rights, Signals, SocketPair, Status, Storage, Transfer, UserMemory,
+    Disposition, End, Rights, Signals, SocketPair, Status, Transfer, UserMemory, MOST_CAPACITY,
 };
 
 const C: usize = 8;
 
 /// Runs a case on a new pair.
-fn with_pair(kind: Kind, rights: Rights, case: impl FnOnce(&mut SocketPair<'_>)) {
-    let (mut ring_one, mut ring_two) = ([0; C], [0; C]);
-    let (mut table_one, mut table_two) = ([0; C], [0; C]);
-    let one = Storage::datagram(&mut ring_one, &mut table_one);
-    let two = Storage::datagram(&mut ring_two, &mut table_two);
-    case(&mut SocketPair::create(kind, C as u32, [rights; 2], one, two).expect("a new pair"));
+fn stream_with(rights: Rights, case: impl FnOnce(&mut SocketPair<'_>)) {
+    let (mut one, mut two) = ([0; C], [0; C]);
+    let pair = SocketPair::stream(C as u32, [rights; 2], [&mut one, &mut two]);
+    case(&mut pair.expect("a new pair"));
 }
 
 fn stream(case: impl FnOnce(&mut SocketPair<'_>)) {
-    with_pair(Kind::Stream, Rights::ALL, case);
+    stream_with(Rights::ALL, case);
 }
 
 fn datagram(case: impl FnOnce(&mut SocketPair<'_>)) {
-    with_pair(Kind::Datagram, Rights::ALL, case);
+    let (mut ring_one, mut ring_two) = ([0; C], [0; C]);
+    let (mut table_one, mut table_two) = ([0; C], [0; C]);
+    let (rings, tables) = ([&mut ring_one[..], &mut ring_two], [&mut table_one[..], &mut table_two]);
+    case(&mut SocketPair::datagram(C as u32, [Rights::ALL; 2], rings, tables).expect("a new pair"));
 }
 
 fn words(pair: &mut SocketPair<'_>) -> [Option<u32>; 2] {
@@ -141,7 +142,7 @@ fn p14_range_of_what_a_write_takes() {
 
 #[test]
 fn rights_are_asked_of_system_calls_only() {
-    with_pair(Kind::Stream, Rights::NONE, |pair| {
+    stream_with(Rights::NONE, |pair| {
         let asked = Transfer { options: 0, address: 4096, count: 4, count_at: 0 };
         let bytes = &mut [0; 16];
         assert_eq!(pair.user_write(1, UserMemory { base: 4096, bytes }, asked), Err(AccessDenied));
@@ -180,21 +181,33 @@ fn all_places_used() {
     });
 }
 
+/// Creates a stream pair over rings of these lengths.
+fn create_stream(capacity: u32, rings: [usize; 2]) -> Result<(), Status> {
+    let [mut one, mut two] = rings.map(|len| vec![0; len]);
+    SocketPair::stream(capacity, [Rights::ALL; 2], [&mut one, &mut two]).map(|_| ())
+}
+
+/// Creates a datagram pair over rings and tables of these lengths.
+fn create_datagram(capacity: u32, rings: [usize; 2], tables: [usize; 2]) -> Result<(), Status> {
+    let [mut ring_one, mut ring_two] = rings.map(|len| vec![0; len]);
+    let [mut table_one, mut table_two] = tables.map(|len| vec![0; len]);
+    let (rings, tables) = ([&mut ring_one[..], &mut ring_two], [&mut table_one[..], &mut table_two]);
+    SocketPair::datagram(capacity, [Rights::ALL; 2], rings, tables).map(|_| ())
+}
+
 #[test]
 fn create_refuses_what_it_cannot_keep() {
-    let create = |kind, capacity, ring: usize, table: usize| {
-        let (mut ring_one, mut ring_two) = (vec![0; ring], vec![0; C]);
-        let (mut table_one, mut table_two) = (vec![0; table], vec![0; C]);
-        let one = Storage::datagram(&mut ring_one, &mut table_one);
-        let two = Storage::datagram(&mut ring_two, &mut table_two);
-        SocketPair::create(kind, capacity, [Rights::ALL; 2], one, two).map(|_| ())
-    };
-    assert_eq!(create(Kind::Stream, 8, 8, 0), Ok(()));
-    assert_eq!(create(Kind::Datagram, 8, 8, 8), Ok(()));
-    assert_eq!(create(Kind::Datagram, 8, 8, 7), Err(InvalidArgs));
-    assert_eq!(create(Kind::Stream, 8, 7, 8), Err(InvalidArgs));
-    assert_eq!(create(Kind::Stream, 0, 8, 8), Err(InvalidArgs));
-    assert_eq!(create(Kind::Stream, murgwethan::MOST_CAPACITY + 1, 8, 8), Err(InvalidArgs));
+    assert_eq!(create_stream(8, [8, 9]), Ok(()));
+    assert_eq!(create_datagram(8, [8, 9], [9, 8]), Ok(()));
+    for capacity in [0, MOST_CAPACITY + 1, u32::MAX] {
+        assert_eq!(create_stream(capacity, [8, 8]), Err(InvalidArgs));
+        assert_eq!(create_datagram(capacity, [8, 8], [8, 8]), Err(InvalidArgs));
+    }
+    for short in [[7, 8], [8, 7]] {
+        assert_eq!(create_stream(8, short), Err(InvalidArgs));
+        assert_eq!(create_datagram(8, short, [8, 8]), Err(InvalidArgs));
+        assert_eq!(create_datagram(8, [8, 8], short), Err(InvalidArgs));
+    }
 }
 
 #[test]

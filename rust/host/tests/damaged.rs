@@ -4,7 +4,7 @@
 mod support;
 
 use murgwethan::raw::{self, Endpoint, Pair};
-use support::calls::{Call, Lend, Shape, Theme, What};
+use support::calls::{Call, Lend, Most, Shape, What};
 use support::numbers::Numbers;
 use support::sides::Sides;
 
@@ -14,7 +14,7 @@ fn sides_after(number: u64, kind: u32, calls: u64) -> (Sides, Numbers) {
     let shape = Shape { kind, ..Shape::random(&mut numbers) };
     let mut sides = Sides::new(shape, !number);
     for _ in 0..calls {
-        sides.call(&Call::random(&mut numbers, &shape, Theme::Mixed));
+        sides.call(&Call::random(&mut numbers, &shape, Most::Neither));
     }
     (sides, numbers)
 }
@@ -23,7 +23,7 @@ fn sides_after(number: u64, kind: u32, calls: u64) -> (Sides, Numbers) {
 fn all_internal(sides: &mut Sides, numbers: &mut Numbers, what: &str) {
     let shape = sides.shape;
     for _ in 0..60 {
-        let call = Call::random(numbers, &shape, Theme::Mixed);
+        let call = Call::random(numbers, &shape, Most::Neither);
         assert_eq!(sides.call(&call), -1, "{what}: {call:?}");
     }
     assert_eq!(sides.call(&Call { handle: 1, lend: Lend::Whole, what: What::Close }), -1, "{what}");
@@ -206,7 +206,7 @@ fn strange_records_go_on_by_the_ordinary_rules() {
             sides.set_length(end, at, length);
         }
         for _ in 0..30 {
-            sides.call(&Call::random(&mut numbers, &shape, Theme::Mixed));
+            sides.call(&Call::random(&mut numbers, &shape, Most::Neither));
         }
     }
 }

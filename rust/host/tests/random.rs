@@ -3,7 +3,7 @@
 mod support;
 
 use std::collections::BTreeMap;
-use support::calls::{Call, Shape, Theme};
+use support::calls::{Call, Most, Shape};
 use support::numbers::Numbers;
 use support::sequences;
 use support::sides::Sides;
@@ -37,10 +37,10 @@ const SEQUENCES: u64 = 3000;
 fn run_sequence(number: u64, seen: &mut Seen) {
     let mut numbers = Numbers::new(number);
     let shape = Shape::random(&mut numbers);
-    let theme = numbers.pick(&[Theme::Bytes, Theme::Waits, Theme::Mixed]);
+    let most = numbers.pick(&[Most::Bytes, Most::Waits, Most::Neither]);
     let mut sides = Sides::new(shape, !number);
     for _ in 0..400 {
-        let call = Call::random(&mut numbers, &shape, theme);
+        let call = Call::random(&mut numbers, &shape, most);
         let word = sides.call(&call);
         *seen.entry((call.what.name(), word.min(1))).or_default() += 1;
     }
@@ -78,7 +78,7 @@ fn the_largest_pair_answers_as_the_model_does() {
         let mut sides = Sides::new(shape, 7);
         let calls = if sequences(SEQUENCES) == SEQUENCES { 300 } else { 20 };
         for _ in 0..calls {
-            sides.call(&Call::random(&mut numbers, &shape, Theme::Bytes));
+            sides.call(&Call::random(&mut numbers, &shape, Most::Bytes));
         }
     }
 }

@@ -2,7 +2,7 @@
 
 mod support;
 
-use support::calls::{Call, Shape, Theme};
+use support::calls::{Call, Most, Shape};
 use support::numbers::Numbers;
 use support::sides::Sides;
 
@@ -13,7 +13,7 @@ fn what_is_answered_does_not_depend_on_bytes() {
         let shape = Shape::random(&mut numbers);
         let (mut first, mut second) = (Sides::new(shape, 1), Sides::new(shape, 2));
         for _ in 0..200 {
-            let call = Call::random(&mut numbers, &shape, Theme::Mixed);
+            let call = Call::random(&mut numbers, &shape, Most::Neither);
             let words = [first.call(&call), second.call(&call)];
             assert_eq!(words[0], words[1], "{call:?}");
             assert_eq!(first.out(), second.out(), "info, thresholds or packet of {call:?}");

@@ -97,55 +97,58 @@ type Values = Vec<(&'static str, u64)>;
 
 impl Call {
     pub fn name(&self) -> &'static str {
-        self.parts().0
+        match self {
+            Call::Write { .. } => "write",
+            Call::Read { .. } => "read",
+            Call::Peek { .. } => "peek",
+            Call::SetDisposition { .. } => "set_disposition",
+            Call::Shutdown { .. } => "shutdown",
+            Call::SetReadThreshold { .. } => "set_read_threshold",
+            Call::SetWriteThreshold { .. } => "set_write_threshold",
+            Call::Thresholds { .. } => "thresholds",
+            Call::Info { .. } => "info",
+            Call::Wait { .. } => "wait",
+            Call::Take => "take",
+            Call::Close { .. } => "close",
+            Call::UserWrite(_) => "user_write",
+            Call::UserRead(_) => "user_read",
+            Call::UserSetDisposition { .. } => "user_set_disposition",
+            Call::UserShutdown { .. } => "user_shutdown",
+        }
     }
 
     /// The handle, of a call that has one.
     pub fn handle(&self) -> u32 {
-        let (_, values) = self.parts();
-        values.first().map_or(0, |(_, handle)| *handle as u32)
+        self.values().first().map_or(0, |(_, handle)| *handle as u32)
     }
 
-    /// The call's name and its arguments by name.
-    fn parts(&self) -> (&'static str, Values) {
+    /// The arguments by name, the handle first.
+    fn values(&self) -> Values {
         let on = |handle: u32| ("handle", u64::from(handle));
-        let disposition =
-            |handle, own: u32, peer: u32| vec![on(handle), ("own", own.into()), ("peer", peer.into())];
-        let transfer = |t: &Transfer| {
-            let rest = [("address", t.address), ("count", t.count), ("count_at", t.count_at)];
-            [vec![on(t.handle), ("options", t.options.into())], rest.to_vec()].concat()
-        };
         match *self {
-            Call::UserWrite(ref t) => ("user_write", transfer(t)),
-            Call::UserRead(ref t) => ("user_read", transfer(t)),
-            Call::UserSetDisposition { handle, own, peer } => {
-                ("user_set_disposition", disposition(handle, own, peer))
+            Call::UserWrite(ref t) | Call::UserRead(ref t) => {
+                let rest = [("address", t.address), ("count", t.count), ("count_at", t.count_at)];
+                [vec![on(t.handle), ("options", t.options.into())], rest.to_vec()].concat()
             }
-            Call::UserShutdown { handle, options } => {
-                ("user_shutdown", vec![on(handle), ("options", options.into())])
+            Call::SetDisposition { handle, own, peer } | Call::UserSetDisposition { handle, own, peer } => {
+                vec![on(handle), ("own", own.into()), ("peer", peer.into())]
             }
-            Call::Write { handle, count, seed } => {
-                ("write", vec![on(handle), ("count", count), ("seed", seed)])
+            Call::UserShutdown { handle, options } => vec![on(handle), ("options", options.into())],
+            Call::Write { handle, count, seed } => vec![on(handle), ("count", count), ("seed", seed)],
+            Call::Read { handle, count } | Call::Peek { handle, count } => {
+                vec![on(handle), ("count", count)]
             }
-            Call::Read { handle, count } => ("read", vec![on(handle), ("count", count)]),
-            Call::Peek { handle, count } => ("peek", vec![on(handle), ("count", count)]),
-            Call::SetDisposition { handle, own, peer } => ("set_disposition", disposition(handle, own, peer)),
             Call::Shutdown { handle, read, write } => {
-                ("shutdown", vec![on(handle), ("read", read.into()), ("write", write.into())])
+                vec![on(handle), ("read", read.into()), ("write", write.into())]
             }
-            Call::SetReadThreshold { handle, threshold } => {
-                ("set_read_threshold", vec![on(handle), ("threshold", threshold)])
+            Call::SetReadThreshold { handle, threshold } | Call::SetWriteThreshold { handle, threshold } => {
+                vec![on(handle), ("threshold", threshold)]
             }
-            Call::SetWriteThreshold { handle, threshold } => {
-                ("set_write_threshold", vec![on(handle), ("threshold", threshold)])
-            }
-            Call::Thresholds { handle } => ("thresholds", vec![on(handle)]),
-            Call::Info { handle } => ("info", vec![on(handle)]),
             Call::Wait { handle, key, mask, edge } => {
-                ("wait", vec![on(handle), ("key", key), ("mask", mask.into()), ("edge", edge.into())])
+                vec![on(handle), ("key", key), ("mask", mask.into()), ("edge", edge.into())]
             }
-            Call::Take => ("take", vec![]),
-            Call::Close { handle } => ("close", vec![on(handle)]),
+            Call::Thresholds { handle } | Call::Info { handle } | Call::Close { handle } => vec![on(handle)],
+            Call::Take => vec![],
         }
     }
 
@@ -187,10 +190,10 @@ impl Call {
 
     /// The call with one number made smaller, smallest first.
     pub fn simpler(&self) -> Vec<Call> {
-        let (_, parts) = self.parts();
-        let values: Vec<u64> = parts.iter().map(|(_, value)| *value).collect();
+        let named = self.values();
+        let values: Vec<u64> = named.iter().map(|(_, value)| *value).collect();
         let mut calls = Vec::new();
-        for (place, (name, value)) in parts.iter().enumerate() {
+        for (place, (name, value)) in named.iter().enumerate() {
             for less in smaller(*value, if *name == "handle" { 1 } else { 0 }) {
                 let mut fewer = values.clone();
                 fewer[place] = less;
@@ -208,9 +211,8 @@ pub fn bytes(count: u64, seed: u64) -> Vec<u8> {
 
 impl fmt::Display for Call {
     fn fmt(&self, f: &mut fmt::Formatter<'_>) -> fmt::Result {
-        let (name, values) = self.parts();
-        write!(f, "{name}")?;
-        for (name, value) in values {
+        write!(f, "{}", self.name())?;
+        for (name, value) in self.values() {
             match name {
                 "handle" => write!(f, " {value}")?,
                 _ => write!(f, " {name}={value}")?,

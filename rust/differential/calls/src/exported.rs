@@ -35,11 +35,28 @@ fn own(handle: u32) -> usize {
 }
 
 impl Exported {
+    fn write(&mut self, handle: u32, bytes: &[u8]) -> i64 {
+        let peer = 1 - own(handle);
+        raw::write(&mut self.pair, handle, &mut self.rings[peer], &mut self.tables[peer], bytes)
+    }
+
     fn read(&mut self, handle: u32, peek: bool, count: u64) -> Answer {
         let mut buffer = buffer(count);
         let (ring, table) = (&self.rings[own(handle)], &self.tables[own(handle)]);
         let word = raw::read(&mut self.pair, handle, peek, ring, table, &mut buffer);
         Answer { buffer, ..Answer::word(word) }
+    }
+
+    fn user_write(&mut self, t: &Transfer) -> i64 {
+        let (memory, peer) = (&mut self.memory, 1 - own(t.handle));
+        let (ring, table) = (&mut self.rings[peer], &mut self.tables[peer]);
+        raw::user_write(&mut self.pair, t.handle, self.base, memory, asked(t), ring, table)
+    }
+
+    fn user_read(&mut self, t: &Transfer) -> i64 {
+        let memory = &mut self.memory;
+        let (ring, table) = (&self.rings[own(t.handle)], &self.tables[own(t.handle)]);
+        raw::user_read(&mut self.pair, t.handle, self.base, memory, asked(t), ring, table)
     }
 
     fn info(&mut self, handle: u32) -> (i64, [u64; 6]) {
@@ -51,11 +68,44 @@ impl Exported {
         let mut out = [0; 2];
         (raw::thresholds(&mut self.pair, handle, &mut out), out)
     }
+
+    fn take(&mut self) -> (i64, [u64; 5]) {
+        let mut out = [0; 5];
+        (raw::take(&mut self.pair, &mut out), out)
+    }
+
+    /// The word of a call that puts out nothing else.
+    fn word(&mut self, call: &Call) -> i64 {
+        let pair = &mut self.pair;
+        match *call {
+            Call::Write { handle, count, seed } => self.write(handle, &bytes(count, seed)),
+            Call::SetDisposition { handle, own, peer } => raw::set_disposition(pair, handle, own, peer),
+            Call::Shutdown { handle, read, write } => raw::shutdown(pair, handle, read, write),
+            Call::SetReadThreshold { handle, threshold } => raw::set_read_threshold(pair, handle, threshold),
+            Call::SetWriteThreshold { handle, threshold } => {
+                raw::set_write_threshold(pair, handle, threshold)
+            }
+            Call::Wait { handle, key, mask, edge } => raw::wait(pair, handle, key, mask, edge),
+            Call::Close { handle } => raw::close(pair, handle),
+            Call::UserWrite(ref t) => self.user_write(t),
+            Call::UserRead(ref t) => self.user_read(t),
+            Call::UserSetDisposition { handle, own, peer } => {
+                raw::user_set_disposition(pair, handle, own, peer)
+            }
+            Call::UserShutdown { handle, options } => raw::user_shutdown(pair, handle, options),
+            _ => unreachable!("{call} puts out more than a word"),
+        }
+    }
 }
 
 fn asked(t: &Transfer) -> raw::Transfer {
     let Transfer { options, address, count, count_at, .. } = *t;
     raw::Transfer { options, address, count, count_at }
+}
+
+/// The answer of a call that puts out numbers.
+fn numbers<const N: usize>((word, out): (i64, [u64; N])) -> Answer {
+    Answer::numbers(word, &out)
 }
 
 /// What a call put out, if it is done.
@@ -65,51 +115,14 @@ fn done<T>((word, out): (i64, T)) -> Option<T> {
 
 impl Side for Exported {
     fn call(&mut self, call: &Call) -> Answer {
-        let pair = &mut self.pair;
-        Answer::word(match *call {
-            Call::Write { handle, count, seed } => {
-                let peer = 1 - own(handle);
-                let (ring, table) = (&mut self.rings[peer], &mut self.tables[peer]);
-                raw::write(pair, handle, ring, table, &bytes(count, seed))
-            }
-            Call::Read { handle, count } => return self.read(handle, false, count),
-            Call::Peek { handle, count } => return self.read(handle, true, count),
-            Call::SetDisposition { handle, own, peer } => raw::set_disposition(pair, handle, own, peer),
-            Call::Shutdown { handle, read, write } => raw::shutdown(pair, handle, read, write),
-            Call::SetReadThreshold { handle, threshold } => raw::set_read_threshold(pair, handle, threshold),
-            Call::SetWriteThreshold { handle, threshold } => {
-                raw::set_write_threshold(pair, handle, threshold)
-            }
-            Call::Thresholds { handle } => {
-                let (word, out) = self.thresholds(handle);
-                return Answer::numbers(word, &out);
-            }
-            Call::Info { handle } => {
-                let (word, out) = self.info(handle);
-                return Answer::numbers(word, &out);
-            }
-            Call::Wait { handle, key, mask, edge } => raw::wait(pair, handle, key, mask, edge),
-            Call::Take => {
-                let mut out = [0; 5];
-                let word = raw::take(pair, &mut out);
-                return Answer::numbers(word, &out);
-            }
-            Call::Close { handle } => raw::close(pair, handle),
-            Call::UserWrite(ref t) => {
-                let (memory, peer) = (&mut self.memory, 1 - own(t.handle));
-                let (ring, table) = (&mut self.rings[peer], &mut self.tables[peer]);
-                raw::user_write(pair, t.handle, self.base, memory, asked(t), ring, table)
-            }
-            Call::UserRead(ref t) => {
-                let memory = &mut self.memory;
-                let (ring, table) = (&self.rings[own(t.handle)], &self.tables[own(t.handle)]);
-                raw::user_read(pair, t.handle, self.base, memory, asked(t), ring, table)
-            }
-            Call::UserSetDisposition { handle, own, peer } => {
-                raw::user_set_disposition(pair, handle, own, peer)
-            }
-            Call::UserShutdown { handle, options } => raw::user_shutdown(pair, handle, options),
-        })
+        match *call {
+            Call::Read { handle, count } => self.read(handle, false, count),
+            Call::Peek { handle, count } => self.read(handle, true, count),
+            Call::Thresholds { handle } => numbers(self.thresholds(handle)),
+            Call::Info { handle } => numbers(self.info(handle)),
+            Call::Take => numbers(self.take()),
+            _ => Answer::word(self.word(call)),
+        }
     }
 
     fn look(&mut self) -> Look {

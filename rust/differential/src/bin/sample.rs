@@ -2,7 +2,7 @@
 //! stand in turn, each after its four-byte little-endian length, and `names`,
 //! one name a line in the same order.
 
-use differential::{oracle, sample, stream};
+use differential::sample::{self, Stored};
 use std::path::Path;
 use std::process::ExitCode;
 use std::{env, fs, io};
@@ -12,18 +12,10 @@ fn main() -> io::Result<ExitCode> {
         eprintln!("usage: sample FOLDER");
         return Ok(ExitCode::from(2));
     };
-    let mut file = Vec::new();
-    let mut names = String::new();
-    let scripts = sample::scripts();
-    for (name, script) in &scripts {
-        stream::put(&mut file, script);
-        stream::put(&mut file, oracle::listing(script).as_bytes());
-        names.push_str(name);
-        names.push('\n');
-    }
+    let Stored { scripts, names } = sample::stored();
     fs::create_dir_all(&folder)?;
-    fs::write(Path::new(&folder).join("scripts"), &file)?;
+    fs::write(Path::new(&folder).join("scripts"), &scripts)?;
     fs::write(Path::new(&folder).join("names"), &names)?;
-    println!("{} scripts, {} bytes", scripts.len(), file.len());
+    println!("{} scripts, {} bytes", names.lines().count(), scripts.len());
     Ok(ExitCode::SUCCESS)
 }

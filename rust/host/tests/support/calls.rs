@@ -130,12 +130,12 @@ impl Shape {
     }
 }
 
-/// What a sequence is mostly about.
+/// Which calls a sequence has most of.
 #[derive(Clone, Copy, Debug)]
-pub enum Theme {
+pub enum Most {
     Bytes,
     Waits,
-    Mixed,
+    Neither,
 }
 
 fn bytes(numbers: &mut Numbers, shape: &Shape) -> What {
@@ -170,12 +170,12 @@ fn other(numbers: &mut Numbers, shape: &Shape) -> What {
 }
 
 impl Call {
-    pub fn random(numbers: &mut Numbers, shape: &Shape, theme: Theme) -> Call {
+    pub fn random(numbers: &mut Numbers, shape: &Shape, most: Most) -> Call {
         let draw = numbers.below(100);
-        let (until_bytes, until_waits, until_takes) = match theme {
-            Theme::Bytes => (75, 80, 84),
-            Theme::Waits => (15, 78, 83),
-            Theme::Mixed => (40, 60, 72),
+        let (until_bytes, until_waits, until_takes) = match most {
+            Most::Bytes => (75, 80, 84),
+            Most::Waits => (15, 78, 83),
+            Most::Neither => (40, 60, 72),
         };
         let what = match draw {
             99 if numbers.one_in(3) => What::Close,

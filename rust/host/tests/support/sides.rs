@@ -139,10 +139,6 @@ impl Sides {
         self.theirs.tables[end][at] = length;
     }
 
-    pub fn length_at(&self, end: usize, at: usize) -> u32 {
-        self.theirs.tables[end][at]
-    }
-
     /// The signal word of each end by the host, -11 for a closed one.
     pub fn signals(&mut self) -> [i64; 2] {
         [1, 2].map(|handle| raw::signal(&mut self.kept[1], handle))
