@@ -51,14 +51,14 @@ use Rattle.control.proofs.shutdown_ends as shutdown-ends
 use Rattle.control.proofs.read_threshold_ends as read-threshold-ends
 use Rattle.control.proofs.write_threshold_ends as write-threshold-ends
 use Rattle.control.proofs.close_ends as close-ends
-use Rattle.host.proofs.values.dispose_ends as dispose-ends
+use Rattle.host_values.proofs.dispose_ends as dispose-ends
 use Rattle.syscall.proofs.dispose_ends as user-dispose-ends
 use Rattle.syscall.proofs.shutdown_ends as user-shutdown-ends
 use Rattle.kept_pair.proofs.outcome as outcome
 use Rattle.kept_pair.proofs.close as close
-use Rattle.kept_pair.proofs.create as create
-use Rattle.kept_pair.proofs.wait as wait
-use Rattle.kept_pair.proofs.take as take
+use Rattle.kept_places.proofs.create as create
+use Rattle.kept_places.proofs.wait as wait
+use Rattle.kept_places.proofs.take as take
 
 module _ {M : Type 1} (𝓤 : URA M) (H : Heap 𝓤) (A : Atoms 𝓤) (at-mem : Memory → SProp 𝓤) (run : Routine → Fun 𝓤) where
   abbrev pub ends-contract : Contract 𝓤

@@ -1,12 +1,9 @@
 -- A call on a pair that the host keeps behind a reference: what the by-value call ensures, with the pair at exit in place of the pair returned.
 -- 01 "Status and answer word".
-use Prim.Native.Nat.{ℕ}
 use mathlib.Core.Path.{_≡_}
-use lib.IntN.{ℤ, pos, negℤ}
+use lib.IntN.{ℤ}
 use Rattle.status.specs.declared.Answer.{Answer}
 use Rattle.status.specs.Answer.{answerWord}
-use Rattle.endpoint.specs.declared.SignalWord.{SignalWord}
-use Rattle.endpoint.specs.declared.SignalWord.the-variants.{Closed, Word}
 use Rattle.socket.specs.declared.Pair.{Pair}
 use Rattle.socket.specs.declared.Step.{Step}
 
@@ -16,8 +13,3 @@ pub record Answered (promise : Step → Type 0) (p′ : Pair) (w : ℤ) : Type 0
   pub answer : Answer
   pub word : w ≡ answerWord answer
   pub kept : promise (record { pair = p′; answer = answer })
-
--- 01 "Status and answer word": the word that an end shows; BAD_HANDLE for a closed end and for another handle
-unfoldable pub signalNumber : SignalWord → ℤ
-signalNumber Closed = negℤ (pos 11)
-signalNumber (Word w) = pos w

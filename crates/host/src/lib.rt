@@ -13,11 +13,11 @@ ghost use Rattle.socket.specs.Disposition.{disposeAnswer, disposed, shutdownAns
 ghost use Rattle.socket.specs.Threshold.{readThresholdAnswer, readThresholdSet, writeThresholdAnswer, writeThresholdSet};
 ghost use Rattle.socket.specs.Wait.{waitAnswer, waited, closeAnswer, closed};
 ghost use Rattle.syscall.specs.Control.{dispositionOf};
-ghost use Rattle.host.specs.Host.{Answered, signalNumber};
+ghost use Rattle.host_values.specs.Signal.{signalNumber};
+ghost use Rattle.host.specs.Host.{Answered};
 
 mod memory;
 mod records;
-mod values;
 
 // A new pair over the rings and tables of its two ends, of which it looks at the lengths. Where the call is refused, the record stays as it is.
 #[no_mangle]
@@ -34,7 +34,7 @@ pub extern "C" fn murgwethan_create(
 ) -> i64
     ensures { λ w. ⌜ Answered (Steps (now (p .entry)) (createAnswer kind capacity «rights_one» «rights_two» (length (now («ring_one» .entry))) (length (now («table_one» .entry))) (length (now («ring_two» .entry))) (length (now («table_two» .entry)))) (newPair (eqb kind 1) capacity «rights_one» «rights_two»)) (now (p .exit)) w ⌝ }
 {
-    let a = values::create_answer(
+    let a = host_values::create_answer(
         kind,
         capacity,
         rights_one,
@@ -44,7 +44,7 @@ pub extern "C" fn murgwethan_create(
         ring_two,
         table_two,
     );
-    kept_pair::create(p, a, kind, capacity, rights_one, rights_two)
+    kept_places::create(p, a, kind, capacity, rights_one, rights_two)
 }
 
 // Writes to the peer's queue. The ring and the table are the peer's.
@@ -88,7 +88,7 @@ pub extern "C" fn murgwethan_set_disposition(
 ) -> i64
     ensures { λ w. ⌜ Answered (Steps (now (p .entry)) (disposeAnswer (now (p .entry)) handle (dispositionOf disposition) (dispositionOf «peer_disposition»)) (disposed (isOne handle) (dispositionOf disposition) (dispositionOf «peer_disposition») (now (p .entry)))) (now (p .exit)) w ⌝ }
 {
-    let r = values::dispose_ends(socket::ends_of(*p), handle, disposition, peer_disposition);
+    let r = host_values::dispose_ends(socket::ends_of(*p), handle, disposition, peer_disposition);
     kept_pair::outcome(p, r)
 }
 
@@ -122,7 +122,7 @@ pub extern "C" fn murgwethan_wait(p: &mut Pair, handle: u32, key: u64, mask: u32
     ensures { λ w. ⌜ Answered (Steps (now (p .entry)) (waitAnswer (now (p .entry)) handle edge) (waited (isOne handle) key mask edge (now (p .entry)))) (now (p .exit)) w ⌝ }
 {
     let a = answers::wait_answer(socket::ends_of(*p), handle, edge);
-    kept_pair::wait(p, a, handle, key, mask, edge)
+    kept_places::wait(p, a, handle, key, mask, edge)
 }
 
 #[no_mangle]
@@ -138,5 +138,5 @@ pub extern "C" fn murgwethan_close(p: &mut Pair, handle: u32) -> i64
 pub extern "C" fn murgwethan_signal(p: &mut Pair, handle: u32) -> i64
     ensures { λ w. ⌜ (w ≡ signalNumber (shownBy (now (p .entry)) handle)) × (now (p .exit) ≡ now (p .entry)) ⌝ }
 {
-    values::signal(*p, handle)
+    host_values::signal(*p, handle)
 }

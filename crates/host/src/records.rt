@@ -1,5 +1,4 @@
 // The calls whose record goes to an array that the caller lends. A refused call leaves the array as it is.
-use crate::values;
 use socket::Pair;
 ghost use mathlib.Core.Path.{_≡_};
 ghost use mathlib.Core.List.{[]};
@@ -9,14 +8,14 @@ ghost use Rattle.socket.specs.Info.{infoAnswer};
 ghost use Rattle.socket.specs.Threshold.{thresholdsAnswer};
 ghost use Rattle.socket.specs.Wait.{takeAnswer, took};
 ghost use Rattle.host.specs.Host.{Answered};
-ghost use Rattle.host.specs.Records.{thresholdNumbers, infoNumbers, packetNumbers, Recorded};
+ghost use Rattle.host_values.specs.Records.{thresholdNumbers, infoNumbers, packetNumbers, Recorded};
 
 // The read and the write threshold of an end.
 #[no_mangle]
 pub extern "C" fn murgwethan_thresholds(p: &mut Pair, handle: u32, out: &mut [u64; 2]) -> i64
     ensures { λ w. ⌜ Answered (Recorded thresholdNumbers (now (p .entry)) (thresholdsAnswer (now (p .entry)) handle) (now (p .entry)) (now (out .entry)) (now (out .exit))) (now (p .exit)) w ⌝ }
 {
-    let a = values::thresholds(*p, handle, out);
+    let a = host_values::thresholds(*p, handle, out);
     status::word(a)
 }
 
@@ -30,7 +29,7 @@ pub extern "C" fn murgwethan_info(
 ) -> i64
     ensures { λ w. ⌜ Answered (Recorded infoNumbers (now (p .entry)) (infoAnswer (now (p .entry)) (lentOf ((now (p .entry)) .datagram) (own (isOne handle) (now (p .entry)) .queue) [] (now (table .entry))) handle) (now (p .entry)) (now (out .entry)) (now (out .exit))) (now (p .exit)) w ⌝ }
 {
-    let a = values::info(*p, handle, table, out);
+    let a = host_values::info(*p, handle, table, out);
     status::word(a)
 }
 
@@ -39,6 +38,6 @@ pub extern "C" fn murgwethan_info(
 pub extern "C" fn murgwethan_take(p: &mut Pair, out: &mut [u64; 5]) -> i64
     ensures { λ w. ⌜ Answered (Recorded packetNumbers (now (p .entry)) (takeAnswer (now (p .entry))) (took (now (p .entry))) (now (out .entry)) (now (out .exit))) (now (p .exit)) w ⌝ }
 {
-    let a = values::take_answer(*p, out);
-    kept_pair::take(p, a)
+    let a = host_values::take_answer(*p, out);
+    kept_places::take(p, a)
 }

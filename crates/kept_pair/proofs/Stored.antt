@@ -4,33 +4,15 @@ use mathlib.Core.Path.{_≡_, refl, sym, ap, _∙_}
 use mathlib.Core.Bool.{Bool, true, false, not}
 use lib.Dec.{T}
 use lib.ListN.{length}
-use Rattle.status.specs.declared.Answer.{Answer}
 use Rattle.status.specs.Choice.{pick}
-use Rattle.status.specs.Answer.{isDone}
-use Rattle.status.proofs.Rules.{via, pick-on, pick-off}
-use Rattle.places.specs.Table.{unused, onlyWait, onlyPacket}
+use Rattle.status.proofs.Rules.{on-pick, off-pick}
+use Rattle.places.specs.Table.{onlyWait}
 use Rattle.ends.specs.declared.Outcome.{Outcome}
 use Rattle.socket.specs.declared.Pair.{Pair}
 use Rattle.socket.specs.declared.Step.{Step}
 use Rattle.socket.specs.Pair.{isOne, withPlaces}
-use Rattle.socket.specs.Tests.{Steps}
 use Rattle.socket.specs.Deferred.{needsVisit, visitedAll, withEnds, withOutcome, settled, withoutWaits, closedWaits, settledClose}
 use Rattle.socket.proofs.Needed.{need}
-
-on : (b : Bool) → T b → b ≡ true
-on true t = refl
-on false t = absurd t
-
-off : (b : Bool) → T (not b) → b ≡ false
-off true t = absurd t
-off false t = refl
-
--- a choice whose test was taken, or left
-on-pick : {A : Type 0} (b c : Bool) (x y : A) → c ≡ b → T c → x ≡ pick b x y
-on-pick b c x y e t = pick-on _ b x x y (via e (on c t)) refl
-
-off-pick : {A : Type 0} (b c : Bool) (x y : A) → c ≡ b → T (not c) → y ≡ pick b x y
-off-pick b c x y e t = pick-off _ b y x y (via e (off c t)) refl
 
 -- ---- the visit
 
@@ -86,20 +68,3 @@ close-settled h r p q q′ e g = g ∙ ap (λ (k : Pair). pick (r .fires) (visit
 pub closed-as : (h : ℕ) (r : Outcome) (p q : Pair) → q ≡ settledClose (isOne h) r p .pair → settledClose (isOne h) r p ≡ record { pair = q; answer = r .answer }
 unfolding settledClose
 closed-as h r p q e = settled-as r (pick (r .fires) (withoutWaits (isOne h) p) p) q e
-
--- ---- create, wait and take
-
-pub made-on : (a : Answer) (n p : Pair) (b : Bool) (q : Pair) → b ≡ isDone a → T b → q ≡ n → q ≡ pick (isDone a) n p
-made-on a n p b q e t g = g ∙ on-pick (isDone a) b n p e t
-
-pub made-off : (a : Answer) (n p : Pair) (b : Bool) → b ≡ isDone a → T (not b) → p ≡ pick (isDone a) n p
-made-off a n p b e t = off-pick (isDone a) b n p e t
-
-pub made-steps : (p : Pair) (x a : Answer) (n q : Pair) → a ≡ x → q ≡ pick (isDone a) n p → Steps p x n (record { pair = q; answer = a })
-made-steps p x a n q e g = record { answer = e; pair = g ∙ ap (λ (k : Answer). pick (isDone k) n p) e }
-
-pub waited-on : (p q : Pair) (b : Bool) (n : Pair) → b ≡ unused (p .places) → T b → q ≡ pick (unused (p .places)) n p → q ≡ n
-waited-on p q b n e t g = g ∙ sym (on-pick (unused (p .places)) b n p e t)
-
-pub taken-on : (p q : Pair) (b : Bool) (n : Pair) → b ≡ onlyPacket (p .places) → T b → q ≡ pick (onlyPacket (p .places)) n p → q ≡ n
-taken-on p q b n e t g = g ∙ sym (on-pick (onlyPacket (p .places)) b n p e t)

@@ -1,14 +1,13 @@
-// A pair that is kept behind a reference: the next pair of a call, stored there. The table of places is handed on by value only where it is
-// rebuilt: where one place is used, or is to be used, it is changed where it stands.
+// A pair that is kept behind a reference: the next pair of a call that changes the ends, stored there, and its waits visited. In the compiled
+// code the table of places is copied only where it is rebuilt: a wait that stands alone is visited where it stands.
 use ends::Outcome;
 use socket::Pair;
-use status::Answer;
 ghost use mathlib.Core.Path.{_≡_};
 ghost use lib.Dec.{eqb};
 ghost use Rattle.status.specs.Choice.{pick};
-ghost use Rattle.status.specs.Answer.{isDone, answerWord};
-ghost use Rattle.socket.specs.Pair.{isOne, newPair};
-ghost use Rattle.socket.specs.Deferred.{visitedAll, settled, closedWaits, settledClose, registeredPair, takenPair};
+ghost use Rattle.status.specs.Answer.{answerWord};
+ghost use Rattle.socket.specs.Pair.{isOne};
+ghost use Rattle.socket.specs.Deferred.{visitedAll, settled, closedWaits, settledClose};
 
 // The word of an outcome's answer.
 fn outcome_word(r: Outcome) -> i64
@@ -23,24 +22,6 @@ fn fires(r: Outcome) -> bool
     ensures { λ f. ⌜ f ≡ r .fires ⌝ }
 {
     r.fires
-}
-
-// A new pair, if the answer is done.
-pub fn create(
-    p: &mut Pair,
-    a: Answer,
-    kind: u32,
-    capacity: u32,
-    rights_one: u32,
-    rights_two: u32,
-) -> i64
-    ensures { λ w. ⌜ (w ≡ answerWord a) × (now (p .exit) ≡ pick (isDone a) (newPair (eqb kind 1) capacity «rights_one» «rights_two») (now (p .entry))) ⌝ }
-{
-    let w = status::word(a);
-    if status::is_done(a) {
-        *p = socket::new_pair(kind, capacity, rights_one, rights_two);
-    }
-    w
 }
 
 // Visits the waits of an outcome, where one can fire, and gives the answer's word.
@@ -83,30 +64,4 @@ pub fn close(p: &mut Pair, handle: u32, r: Outcome) -> i64
 {
     *p = socket::with_outcome(*p, r);
     close_waits(p, handle, r)
-}
-
-// A wait more, if the answer is done.
-pub fn wait(p: &mut Pair, a: Answer, handle: u32, key: u64, mask: u32, edge: u8) -> i64
-    ensures { λ w. ⌜ (w ≡ answerWord a) × (now (p .exit) ≡ registeredPair (isDone a) (isOne handle) key mask edge (now (p .entry))) ⌝ }
-{
-    let w = status::word(a);
-    if socket::is_unused(*p) {
-        *p = socket::registered_first(*p, a, handle, key, mask, edge);
-    } else {
-        *p = socket::registered(*p, a, handle, key, mask, edge);
-    }
-    w
-}
-
-// The oldest packet gone, if the answer is done.
-pub fn take(p: &mut Pair, a: Answer) -> i64
-    ensures { λ w. ⌜ (w ≡ answerWord a) × (now (p .exit) ≡ takenPair (isDone a) (now (p .entry))) ⌝ }
-{
-    let w = status::word(a);
-    if socket::has_only_packet(*p) {
-        *p = socket::taken_only(*p, a);
-    } else {
-        *p = socket::taken(*p, a);
-    }
-    w
 }

@@ -3,6 +3,7 @@
 use Prim.Native.Nat.{ℕ, _≤_, _<_}
 use mathlib.Core.Path.{_≡_, refl, sym, ap, _∙_}
 use mathlib.Core.Bool.{Bool, true, false, not}
+use lib.Dec.{T}
 use borrow.Author.Tests.{lt-ltb, le-ltb, le-leb, lt-leb, eq-eqb, ne-eqb, not-true, not-false}
 use Rattle.status.specs.declared.Status.{Status}
 use Rattle.status.specs.declared.Answer.{Answer}
@@ -100,3 +101,20 @@ pub via-not-not : {r b : Bool} → r ≡ b → not r ≡ false → b ≡ true
 via-not-not {r} p q = sym p ∙ not-false r q
 
 pub ruleset chain = (lt-ltb, le-ltb, le-leb, lt-leb, eq-eqb, ne-eqb, not-true, not-false, refuse-on, refuse-off, refuse-as, unless-on, unless-off, refuse-last, pass-last, unless-last, pass-unless, count-as, then-stop, then-go, pick-on, pick-off, and-off, and-on, or-on, or-off, via, via-not, via-not-not)
+
+-- ---- a test of the code, taken or left
+
+on : (b : Bool) → T b → b ≡ true
+on true t = refl
+on false t = absurd t
+
+off : (b : Bool) → T (not b) → b ≡ false
+off true t = absurd t
+off false t = refl
+
+-- a choice whose test was taken, or left
+pub on-pick : {A : Type 0} (b c : Bool) (x y : A) → c ≡ b → T c → x ≡ pick b x y
+on-pick b c x y e t = pick-on _ b x x y (via e (on c t)) refl
+
+pub off-pick : {A : Type 0} (b c : Bool) (x y : A) → c ≡ b → T (not c) → y ≡ pick b x y
+off-pick b c x y e t = pick-off _ b y x y (via e (off c t)) refl

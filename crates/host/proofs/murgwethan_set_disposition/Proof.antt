@@ -65,10 +65,10 @@ use Rattle.socket.proofs.ends_of as ends
 use Rattle.socket.proofs.ends_of.Symbol as ends-def
 use Rattle.socket.proofs.ends_of.Symbol.{name as #ends}
 use Rattle.socket.proofs.ends_of.Met as ends-thm
-use Rattle.host.proofs.values.dispose_ends as dispose-ends
-use Rattle.host.proofs.values.dispose_ends.Symbol as dispose-ends-def
-use Rattle.host.proofs.values.dispose_ends.Symbol.{name as #dispose-ends}
-use Rattle.host.proofs.values.dispose_ends.Met as dispose-ends-thm
+use Rattle.host_values.proofs.dispose_ends as dispose-ends
+use Rattle.host_values.proofs.dispose_ends.Symbol as dispose-ends-def
+use Rattle.host_values.proofs.dispose_ends.Symbol.{name as #dispose-ends}
+use Rattle.host_values.proofs.dispose_ends.Met as dispose-ends-thm
 use Rattle.kept_pair.proofs.outcome as outcome
 use Rattle.kept_pair.proofs.outcome.Symbol as outcome-def
 use Rattle.kept_pair.proofs.outcome.Symbol.{name as #outcome}
@@ -146,5 +146,5 @@ murgwethan-set-disposition-spec 𝓤 H 𝓜 𝓖 𝓡 =
     (tables 𝓤 H 𝓜 𝓡 code.env .C) (tables 𝓤 H 𝓜 𝓡 code.env .Λ) #own code.function (code.unfolded 𝓤 H 𝓜 𝓡)
     (meets 𝓤 H (𝓖 .A) (givenOf 𝓤 H 𝓜 𝓖) (𝓜 .mem) (𝓡 .run) (tablesOf 𝓤 H 𝓜 (tables 𝓤 H 𝓜 𝓡 code.env))
     (cited 𝓤 H (ends-contract 𝓤 H (𝓖 .A) (𝓜 .mem) (𝓡 .run)) 𝓜 𝓡 code.env #ends ends-def.routine code.calls-socket·ends-of (ends-thm.met 𝓤 H 𝓜 𝓖 𝓡))
-    (cited 𝓤 H (dispose-ends-contract 𝓤 H (𝓖 .A) (𝓜 .mem) (𝓡 .run)) 𝓜 𝓡 code.env #dispose-ends dispose-ends-def.routine code.calls-host·values·dispose-ends (dispose-ends-thm.met 𝓤 H 𝓜 𝓖 𝓡))
+    (cited 𝓤 H (dispose-ends-contract 𝓤 H (𝓖 .A) (𝓜 .mem) (𝓡 .run)) 𝓜 𝓡 code.env #dispose-ends dispose-ends-def.routine code.calls-host-values·dispose-ends (dispose-ends-thm.met 𝓤 H 𝓜 𝓖 𝓡))
     (cited 𝓤 H (outcome-contract 𝓤 H (𝓖 .A) (𝓜 .mem) (𝓡 .run)) 𝓜 𝓡 code.env #outcome outcome-def.routine code.calls-kept-pair·outcome (outcome-thm.met 𝓤 H 𝓜 𝓖 𝓡)))

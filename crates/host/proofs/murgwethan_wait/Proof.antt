@@ -66,10 +66,10 @@ use Rattle.answers.proofs.wait_answer as wait-answer
 use Rattle.answers.proofs.wait_answer.Symbol as wait-answer-def
 use Rattle.answers.proofs.wait_answer.Symbol.{name as #wait-answer}
 use Rattle.answers.proofs.wait_answer.Met as wait-answer-thm
-use Rattle.kept_pair.proofs.wait as wait
-use Rattle.kept_pair.proofs.wait.Symbol as wait-def
-use Rattle.kept_pair.proofs.wait.Symbol.{name as #wait}
-use Rattle.kept_pair.proofs.wait.Met as wait-thm
+use Rattle.kept_places.proofs.wait as wait
+use Rattle.kept_places.proofs.wait.Symbol as wait-def
+use Rattle.kept_places.proofs.wait.Symbol.{name as #wait}
+use Rattle.kept_places.proofs.wait.Met as wait-thm
 use Rattle.host.proofs.murgwethan_wait.Key.{name as #own}
 use Rattle.host.proofs.murgwethan_wait as f
 use Rattle.host.proofs.murgwethan_wait.Statement as stated
@@ -144,4 +144,4 @@ murgwethan-wait-spec 𝓤 H 𝓜 𝓖 𝓡 =
     (meets 𝓤 H (𝓖 .A) (givenOf 𝓤 H 𝓜 𝓖) (𝓜 .mem) (𝓡 .run) (tablesOf 𝓤 H 𝓜 (tables 𝓤 H 𝓜 𝓡 code.env))
     (cited 𝓤 H (ends-contract 𝓤 H (𝓖 .A) (𝓜 .mem) (𝓡 .run)) 𝓜 𝓡 code.env #ends ends-def.routine code.calls-socket·ends-of (ends-thm.met 𝓤 H 𝓜 𝓖 𝓡))
     (cited 𝓤 H (wait-answer-contract 𝓤 H (𝓖 .A) (𝓜 .mem) (𝓡 .run)) 𝓜 𝓡 code.env #wait-answer wait-answer-def.routine code.calls-ends·wait-answer (wait-answer-thm.met 𝓤 H 𝓜 𝓖 𝓡))
-    (cited 𝓤 H (wait-contract 𝓤 H (𝓖 .A) (𝓜 .mem) (𝓡 .run)) 𝓜 𝓡 code.env #wait wait-def.routine code.calls-kept-pair·wait (wait-thm.met 𝓤 H 𝓜 𝓖 𝓡)))
+    (cited 𝓤 H (wait-contract 𝓤 H (𝓖 .A) (𝓜 .mem) (𝓡 .run)) 𝓜 𝓡 code.env #wait wait-def.routine code.calls-kept-places·wait (wait-thm.met 𝓤 H 𝓜 𝓖 𝓡)))

@@ -48,7 +48,7 @@ use denote.Triple.Clauses.{ensured, lasts}
 use Rattle.status.specs.declared.Answer.{Answer}
 use Rattle.status.specs.Answer.{answerWord}
 use Rattle.socket.specs.declared.Pair.{Pair}
-use Rattle.host.specs.Host.{Answered, signalNumber}
+use Rattle.host.specs.Host.{Answered}
 use Rattle.socket.proofs.Pair as T
 use Rattle.socket.proofs.Pair.Laws as T′
 use Rattle.status.proofs.Answer as N
@@ -60,11 +60,11 @@ use Rattle.status.proofs.word.Met as word-thm
 use Rattle.socket.specs.Pair.{isOne, own}
 use Rattle.socket.specs.Tests.{lentOf}
 use Rattle.socket.specs.Info.{infoAnswer}
-use Rattle.host.specs.Records.{infoNumbers, Recorded}
-use Rattle.host.proofs.values.info as step
-use Rattle.host.proofs.values.info.Symbol as step-def
-use Rattle.host.proofs.values.info.Symbol.{name as #step}
-use Rattle.host.proofs.values.info.Met as step-thm
+use Rattle.host_values.specs.Records.{infoNumbers, Recorded}
+use Rattle.host_values.proofs.info as step
+use Rattle.host_values.proofs.info.Symbol as step-def
+use Rattle.host_values.proofs.info.Symbol.{name as #step}
+use Rattle.host_values.proofs.info.Met as step-thm
 use Rattle.host.proofs.records.murgwethan_info.Key.{name as #own}
 use Rattle.host.proofs.records.murgwethan_info as f
 use Rattle.host.proofs.records.murgwethan_info.Statement as stated
@@ -185,5 +185,5 @@ murgwethan-info-spec 𝓤 H 𝓜 𝓖 𝓡 =
     entered 𝓤 H (tripleOf 𝓤 H (𝓖 .A) f.signature (f.spec 𝓤 H (𝓖 .A) (𝓜 .mem) (𝓡 .run)))
     (tables 𝓤 H 𝓜 𝓡 code.env .C) (tables 𝓤 H 𝓜 𝓡 code.env .Λ) #own code.function (code.unfolded 𝓤 H 𝓜 𝓡)
     (meets 𝓤 H (𝓖 .A) (givenOf 𝓤 H 𝓜 𝓖) (𝓜 .mem) (𝓡 .run) (tablesOf 𝓤 H 𝓜 (tables 𝓤 H 𝓜 𝓡 code.env))
-    (cited 𝓤 H (Called 𝓤 H (𝓖 .A) (𝓜 .mem) (𝓡 .run)) 𝓜 𝓡 code.env #step step-def.routine code.calls-host·values·info (step-thm.met 𝓤 H 𝓜 𝓖 𝓡))
+    (cited 𝓤 H (Called 𝓤 H (𝓖 .A) (𝓜 .mem) (𝓡 .run)) 𝓜 𝓡 code.env #step step-def.routine code.calls-host-values·info (step-thm.met 𝓤 H 𝓜 𝓖 𝓡))
     (cited 𝓤 H (Word 𝓤 H (𝓖 .A) (𝓜 .mem) (𝓡 .run)) 𝓜 𝓡 code.env #word word-def.routine code.calls-status·word (word-thm.met 𝓤 H 𝓜 𝓖 𝓡)))

@@ -1,0 +1,165 @@
+// By value, what the exported calls need beside the calls of the pair: numbers for enums, and records put into a lent array.
+use endpoint::SignalWord;
+use ends::Ends;
+use ends::Outcome;
+use socket::Pair;
+use status::Answer;
+use status::Record;
+use user_answers::disposition_of;
+ghost use mathlib.Core.Path.{_≡_};
+ghost use mathlib.Core.List.{[]};
+ghost use Rattle.socket.specs.Pair.{isOne, own, shownBy};
+ghost use Rattle.socket.specs.Tests.{lentOf};
+ghost use Rattle.control.specs.Disposition.{disposeEnds};
+ghost use Rattle.socket.specs.Info.{infoAnswer};
+ghost use Rattle.socket.specs.Threshold.{thresholdsAnswer};
+ghost use Rattle.socket.specs.Wait.{takeAnswer};
+ghost use Rattle.answers.specs.Create.{createAnswer};
+ghost use lib.ListN.{length};
+ghost use Rattle.user_answers.specs.Control.{dispositionOf};
+ghost use Rattle.host_values.specs.Signal.{signalNumber};
+ghost use Rattle.host_values.specs.Records.{thresholdNumbers, infoNumbers, packetNumbers, arrayOf, Recorded};
+
+// Disposition by its numbers, but for the visit of the waits.
+pub fn dispose_ends(e: Ends, handle: u32, disposition: u32, peer_disposition: u32) -> Outcome
+    ensures { λ r. ⌜ r ≡ disposeEnds e handle (dispositionOf disposition) (dispositionOf «peer_disposition») ⌝ }
+{
+    control::dispose_ends(
+        e,
+        handle,
+        disposition_of(disposition),
+        disposition_of(peer_disposition),
+    )
+}
+
+// The word that an end shows, as a number.
+pub fn signal(p: Pair, handle: u32) -> i64
+    ensures { λ r. ⌜ r ≡ signalNumber (shownBy p handle) ⌝ }
+{
+    let s = p.signal(handle);
+    match s {
+        SignalWord::Closed => -11,
+        SignalWord::Word(w) => w as i64,
+    }
+}
+
+// The numbers of thresholds, put into the array; of another record none.
+fn put_thresholds(a: Answer, out: &mut [u64; 2])
+    ensures { λ _. ⌜ now (out .exit) ≡ arrayOf thresholdNumbers a (now (out .entry)) ⌝ }
+{
+    match a {
+        Answer::Done(d) => match d {
+            Record::Empty => {}
+            Record::Count(_) => {}
+            Record::Info(_) => {}
+            Record::Limits(t) => {
+                *out = [t.read, t.write];
+            }
+            Record::Packet(_) => {}
+        },
+        Answer::Refused(_) => {}
+    }
+}
+
+// The numbers of an info, put into the array; of another record none.
+fn put_info(a: Answer, out: &mut [u64; 6])
+    ensures { λ _. ⌜ now (out .exit) ≡ arrayOf infoNumbers a (now (out .entry)) ⌝ }
+{
+    match a {
+        Answer::Done(d) => match d {
+            Record::Empty => {}
+            Record::Count(_) => {}
+            Record::Info(i) => {
+                *out = [
+                    i.options as u64,
+                    i.rx_buf_max,
+                    i.rx_buf_size,
+                    i.rx_buf_available,
+                    i.tx_buf_max,
+                    i.tx_buf_size,
+                ];
+            }
+            Record::Limits(_) => {}
+            Record::Packet(_) => {}
+        },
+        Answer::Refused(_) => {}
+    }
+}
+
+// The numbers of a packet, put into the array; of another record none.
+fn put_packet(a: Answer, out: &mut [u64; 5])
+    ensures { λ _. ⌜ now (out .exit) ≡ arrayOf packetNumbers a (now (out .entry)) ⌝ }
+{
+    match a {
+        Answer::Done(d) => match d {
+            Record::Empty => {}
+            Record::Count(_) => {}
+            Record::Info(_) => {}
+            Record::Limits(_) => {}
+            Record::Packet(k) => {
+                *out = [
+                    k.key,
+                    k.trigger as u64,
+                    k.observed as u64,
+                    k.count,
+                    k.timestamp,
+                ];
+            }
+        },
+        Answer::Refused(_) => {}
+    }
+}
+
+// The thresholds of an end, put into the array.
+pub fn thresholds(p: Pair, handle: u32, out: &mut [u64; 2]) -> Answer
+    ensures { λ a. ⌜ Recorded thresholdNumbers p (thresholdsAnswer p handle) p (now (out .entry)) (now (out .exit)) (record { pair = p; answer = a }) ⌝ }
+{
+    let s = p.get_rx_tx_threshold(handle);
+    let a = s.answer;
+    put_thresholds(a, out);
+    a
+}
+
+// The info of an end, put into the array.
+pub fn info(p: Pair, handle: u32, table: &[u32], out: &mut [u64; 6]) -> Answer
+    ensures { λ a. ⌜ Recorded infoNumbers p (infoAnswer p (lentOf (p .datagram) (own (isOne handle) p .queue) [] (now (table .entry))) handle) p (now (out .entry)) (now (out .exit)) (record { pair = p; answer = a }) ⌝ }
+{
+    let s = p.get_info(handle, table);
+    let a = s.answer;
+    put_info(a, out);
+    a
+}
+
+// The answer to taking the oldest packet, and its packet put into the array.
+pub fn take_answer(p: Pair, out: &mut [u64; 5]) -> Answer
+    ensures { λ a. ⌜ (a ≡ takeAnswer p) × (now (out .exit) ≡ arrayOf packetNumbers a (now (out .entry))) ⌝ }
+{
+    let a = socket::take_answer(p);
+    put_packet(a, out);
+    a
+}
+
+// The answer to a create, by the lengths of the rings and tables.
+pub fn create_answer(
+    kind: u32,
+    capacity: u32,
+    rights_one: u32,
+    rights_two: u32,
+    ring_one: &[u8],
+    table_one: &[u32],
+    ring_two: &[u8],
+    table_two: &[u32],
+) -> Answer
+    ensures { λ a. ⌜ a ≡ createAnswer kind capacity «rights_one» «rights_two» (length (now («ring_one» .entry))) (length (now («table_one» .entry))) (length (now («ring_two» .entry))) (length (now («table_two» .entry))) ⌝ }
+{
+    answers::create_answer(
+        kind,
+        capacity,
+        rights_one,
+        rights_two,
+        ring_one.len(),
+        table_one.len(),
+        ring_two.len(),
+        table_two.len(),
+    )
+}
