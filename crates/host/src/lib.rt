@@ -15,8 +15,8 @@ ghost use Rattle.socket.specs.Wait.{waitAnswer, waited, closeAnswer, closed};
 ghost use Rattle.syscall.specs.Control.{dispositionOf};
 ghost use Rattle.host.specs.Host.{Answered, signalNumber};
 
-mod memory;
-mod records;
+pub mod memory;
+pub mod records;
 mod values;
 
 // A new pair over the rings and tables of its two ends, of which it looks at the lengths. Where the call is refused, the record stays as it is.
