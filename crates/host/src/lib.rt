@@ -16,8 +16,8 @@ ghost use Rattle.syscall.specs.Control.{dispositionOf};
 ghost use Rattle.host_values.specs.Signal.{signalNumber};
 ghost use Rattle.host.specs.Host.{Answered};
 
-mod memory;
-mod records;
+pub mod memory;
+pub mod records;
 
 // A new pair over the rings and tables of its two ends, of which it looks at the lengths. Where the call is refused, the record stays as it is.
 #[no_mangle]

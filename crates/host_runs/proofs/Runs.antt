@@ -1,0 +1,75 @@
+-- A run of exported calls is a run of claims. Assumes nothing.
+use Prim.Native.Nat.{ℕ}
+use mathlib.Core.Path.{_≡_, refl, sym, ap, ap₂, _∙_}
+use mathlib.Core.Bool.{Bool, true}
+use mathlib.Core.List.{List, [], _∷_}
+use lib.IntN.{ℤ}
+use lib.Dec.{eqb}
+use Rattle.status.specs.Choice.{pick}
+use Rattle.status.specs.Answer.{answerWord, isDone}
+use Rattle.socket.specs.declared.Pair.{Pair}
+use Rattle.socket.specs.Pair.{newPair, noPair}
+use Rattle.runs.specs.Calls.{Create, Slices, State, Outcome}
+use Rattle.runs.specs.Run.{Calls, createdBy}
+use Rattle.runs.specs.Run.{none as no-calls, next as next-call, run as run-of}
+use Rattle.host_runs.specs.Contracts.{Creates}
+use Rattle.host_runs.specs.Passed.{Passed, Returned, isCount}
+use Rattle.host_runs.specs.Steps.{CreateStarts}
+use Rattle.host_runs.specs.Runs.{ExportedCalls, none, next, run, inputs, arraysAfter, Gives, RunsAreRuns}
+use Rattle.host_runs.proofs.Words.{is-count}
+use Rattle.host_runs.proofs.Steps.{calls-are-steps}
+
+-- ---- create
+
+pub created-word : (p : Pair) (c : Create) (one two : Slices) (p′ : Pair) (w : ℤ) → Creates p c one two p′ w → w ≡ answerWord (createdBy c one two)
+created-word p c one two p′ w k = k .word ∙ ap answerWord (k .kept .answer)
+
+pub create-starts : CreateStarts
+unfolding pick
+create-starts p c one two p′ w k =
+    record {
+      word = created-word p c one two p′ w k;
+      starts = λ d is os calls. run-of {r = record { pair = p′; answer = createdBy c one two }} (record { answer = refl; pair = new d }) calls;
+      refused = λ d. k .kept .pair ∙ ap (λ (b : Bool). pick b made p) (done d);
+    }
+  where
+    made : Pair
+    made = newPair (eqb (c .kind) 1) (c .capacity) (c .rights1) (c .rights2)
+
+    -- the word tells whether create was done
+    done : {b : Bool} → isCount w ≡ b → isDone (createdBy c one two) ≡ b
+    done d = sym (is-count (createdBy c one two)) ∙ ap isCount (sym (created-word p c one two p′ w k)) ∙ d
+
+    new : isCount w ≡ true → p′ ≡ pick (isDone (createdBy c one two)) made noPair
+    new d = k .kept .pair ∙ ap (λ (b : Bool). pick b made p) (done d) ∙ sym (ap (λ (b : Bool). pick b made noPair) (done d))
+
+-- ---- the calls
+
+pub record CallsOf (s : State) (xs : List Passed) (ys : List Returned) : Type 0 where
+  pub outcomes : List Outcome
+  pub calls : Calls s (inputs xs) outcomes
+  pub gives : Gives xs ys outcomes
+
+calls-of : {s : State} {xs : List Passed} {ys : List Returned} → ExportedCalls s xs ys → CallsOf s xs ys
+unfolding arraysAfter
+calls-of none = record { outcomes = []; calls = no-calls; gives = record { words = refl; pairs = refl; bytes = refl; memories = refl; arrays = refl } }
+calls-of (next {s} {s′} {x} {y} {xs} {ys} d ds) =
+    let k = calls-are-steps s x s′ y d in
+    let ks = calls-of ds in
+    record {
+      outcomes = k .outcome ∷ ks .outcomes;
+      calls = next-call (k .step) (ks .calls);
+      gives =
+          record {
+            words = ap₂ (λ (h : ℤ) (t : List ℤ). h ∷ t) (k .word) (ks .gives .words);
+            pairs = ap₂ (λ (h : Pair) (t : List Pair). h ∷ t) (k .pair) (ks .gives .pairs);
+            bytes = ap₂ (λ (h : List ℕ) (t : List (List ℕ)). h ∷ t) (k .delivered) (ks .gives .bytes);
+            memories = ap₂ (λ (h : List ℕ) (t : List (List ℕ)). h ∷ t) (k .memory) (ks .gives .memories);
+            arrays = ap₂ (λ (h : List ℕ) (t : List (List ℕ)). h ∷ t) (k .array) (ks .gives .arrays);
+          };
+    }
+
+pub runs-are-runs : RunsAreRuns
+runs-are-runs c one two xs p′ ys (run {before} {p} {w} k d calls) =
+    let ks = calls-of calls in
+    record { outcomes = ks .outcomes; run = create-starts before c one two p w k .starts d (inputs xs) (ks .outcomes) (ks .calls); gives = ks .gives }
