@@ -1,1 +1,2 @@
+pub mod Fieldwise
 pub mod Sound

@@ -5,11 +5,11 @@ use crate::NO_VISIT;
 use crate::Outcome;
 use crate::Pending;
 use crate::Visits;
+use crate::choice::end_if;
 use endpoint::Endpoint;
 use signal::changed;
 use status::Answer;
 ghost use mathlib.Core.Path.{_≡_};
-ghost use Rattle.status.specs.Choice.{pick};
 ghost use Rattle.ends.specs.Outcome.{noVisits, keepsWord, canFire, anyFires, outcomeOf, keptEnds, unchangedEnds};
 
 // No changes.
@@ -53,15 +53,6 @@ fn any_fires(waits: usize, v: Visits, more: Visits) -> bool
     can_fire(waits, more)
 }
 
-fn chosen(one: bool, a: Endpoint, b: Endpoint) -> Endpoint
-    ensures { λ r. ⌜ r ≡ pick one a b ⌝ }
-{
-    if one {
-        return a;
-    }
-    b
-}
-
 // The caller's end and its peer, put back by the caller's handle.
 pub fn put_back(waits: usize, one: bool, answer: Answer, moved: Moved, more: Visits) -> Outcome
     ensures { λ r. ⌜ r ≡ outcomeOf waits one answer moved more ⌝ }
@@ -70,8 +61,8 @@ pub fn put_back(waits: usize, one: bool, answer: Answer, moved: Moved, more: Vis
     let peer = moved.peer;
     let visits = moved.visits;
     Outcome {
-        one: chosen(one, own, peer),
-        two: chosen(one, peer, own),
+        one: end_if(one, own, peer),
+        two: end_if(one, peer, own),
         answer,
         fires: any_fires(waits, visits, more),
         visits,

@@ -6,6 +6,7 @@ ghost use mathlib.Core.Path.{_≡_};
 ghost use Rattle.ends.specs.Ends.{own, peer};
 
 mod change;
+mod choice;
 mod tests;
 
 pub use change::keeps_word;
@@ -74,22 +75,12 @@ impl Ends {
     pub fn own(self, one: bool) -> Endpoint
         ensures { λ r. ⌜ r ≡ own one self ⌝ }
     {
-        if one {
-            let e = self.one;
-            return e;
-        }
-        let e = self.two;
-        e
+        choice::end_if(one, self.one, self.two)
     }
 
     pub fn peer(self, one: bool) -> Endpoint
         ensures { λ r. ⌜ r ≡ peer one self ⌝ }
     {
-        if one {
-            let e = self.two;
-            return e;
-        }
-        let e = self.one;
-        e
+        choice::end_if(one, self.two, self.one)
     }
 }

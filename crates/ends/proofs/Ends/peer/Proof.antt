@@ -1,11 +1,22 @@
+use mathlib.Core.Path.{_≡_, _∙_, refl}
+use mathlib.Core.Bool.{Bool, true, false}
+use Rattle.status.specs.Choice.{pick}
+use Rattle.ends.specs.declared.Ends.{Ends}
+use Rattle.ends.specs.Ends.{peer}
+use borrow.Author.Needs.{needs}
 use Rattle.ends.proofs.Ends.peer.Statement.{statement}
 use Rattle.ends.proofs.Ends.peer.Tie as tie
 
-returns : tie.Need-returns
-returns c = rw (c .before .if1 .taken)
+as-peer : (t : Bool) (e : Ends) → pick t (e .two) (e .one) ≡ peer t e
+unfolding pick
+as-peer true e = refl
+as-peer false e = refl
 
-returns-2 : tie.Need-returns-2
-returns-2 c = rw (c .before .if1 .left)
+end-if-requires : tie.Need-end-if-requires
+end-if-requires c κs = search needs
+
+returns : tie.Need-returns
+returns c = c .end-if .ensures ∙ as-peer _ _
 
 pub peer-spec : {M : Type 1} → statement M
-peer-spec = tie.close (tie.spec returns returns-2)
+peer-spec = tie.close (tie.spec end-if-requires returns)

@@ -1,7 +1,7 @@
 use mathlib.Core.Path.{refl}
 use Rattle.status.specs.Choice.{pick}
-use Rattle.ends.proofs.change.chosen.Statement.{statement}
-use Rattle.ends.proofs.change.chosen.Tie as tie
+use Rattle.ends.proofs.choice.flag_if.Statement.{statement}
+use Rattle.ends.proofs.choice.flag_if.Tie as tie
 
 returns : tie.Need-returns
 unfolding pick
@@ -11,5 +11,5 @@ returns-2 : tie.Need-returns-2
 unfolding pick
 returns-2 c = rw (c .if1 .left) refl
 
-pub chosen-spec : {M : Type 1} → statement M
-chosen-spec = tie.close (tie.spec returns returns-2)
+pub flag-if-spec : {M : Type 1} → statement M
+flag-if-spec = tie.close (tie.spec returns returns-2)
