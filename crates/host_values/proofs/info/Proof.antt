@@ -1,4 +1,4 @@
-use Rattle.host.proofs.Recorded.{recorded}
+use Rattle.host_values.proofs.Recorded.{recorded}
 use borrow.Author.Needs.{needs}
 use Rattle.host_values.proofs.info.Statement.{statement}
 use Rattle.host_values.proofs.info.Tie as tie
