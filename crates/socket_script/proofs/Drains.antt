@@ -1,12 +1,12 @@
--- What the loop keeps that feeds the bytes in the buffer. Assumes nothing.
-use Prim.Native.Nat.{ℕ, _+_, _-_, _≤_}
+-- What the program's two loops keep. Assumes nothing.
+use Prim.Native.Nat.{ℕ, _+_, _-_, _≤_, _<_}
 use native.Mathlib.Omega.{arith}
 use mathlib.Core.Path.{_≡_, refl, sym, ap, _∙_}
-use mathlib.Core.Bool.{true}
+use mathlib.Core.Bool.{Bool, true, false}
 use mathlib.Core.List.{List}
 use lib.ListN.{length, take, drop, length-take}
 use lib.Seq.{drop-drop}
-use borrow.Author.Tests.{le-leb}
+use borrow.Author.Tests.{le-leb, ltb-true}
 use Rattle.status.specs.Choice.{pick, _and_}
 use Rattle.line.specs.Line.{LINE}
 use Rattle.call.specs.Call.{Rings}
@@ -18,7 +18,16 @@ use Rattle.script.specs.Feed.{isReady, Block, fedFrom, fedOf, allOf, shifted, f
 use Rattle.script.proofs.Blocks.{tells, fed-ready}
 use Rattle.script.proofs.Alls.{all-stay, splits, fed-idle}
 use Rattle.script.proofs.Fronts.{front-fed, front-left}
-use Rattle.socket_script.specs.Drain.{Drained}
+use Rattle.socket_script.specs.Drain.{isOpen, Drained}
+
+-- where the program reads on, a whole buffer more stays within LIMIT
+pub open-below : (ended : Bool) (offset : ℕ) → isOpen ended offset ≡ true → offset < 4611686018427256832
+unfolding isOpen pick
+open-below true offset e =
+    let z : _≡_ {A = Bool} false true = e in
+    let n : _≡_ {A = ℕ} 0 1 = (cc) in
+    omega arith
+open-below false offset e = ltb-true _ _ e
 
 -- from the begin on, where s₀ was at hand, what is left to do is what m does with the bytes s that are in use
 pub record Stands (p₀ : Progress) (m₀ : Machine) (s₀ : List ℕ) (p : Progress) (m : Machine) (s : List ℕ) : Type 0 where

@@ -9,7 +9,7 @@ ghost use Rattle.call.specs.Call.{rings};
 ghost use Rattle.script.specs.Machine.{machine};
 ghost use Rattle.script.specs.Listing.{header, closing};
 ghost use Rattle.script.specs.Feed.{allOf};
-ghost use Rattle.socket_script.specs.Drain.{DrainMay, Drained};
+ghost use Rattle.socket_script.specs.Drain.{isOpen, DrainMay, Drained};
 
 const STDIN: i32 = 0;
 
@@ -80,7 +80,17 @@ fn close(p: Progress, buffer: &[u8], out: &mut [u8])
     io::write_all(STDOUT, &out[0..n]);
 }
 
-// It reads no more once the bytes might be more than 2 ^ 62, since `feed` takes none then.
+// Whether more is to be read. 01 "Script program": a script that printed `stop N` or the line of a refused create has ended, and the program ends with it,
+// whether or not the input has ended. It ends too once the bytes might be more than 2 ^ 62, since `feed` takes none then.
+fn is_open(ended: bool, offset: u64) -> bool
+    ensures { λ r. ⌜ r ≡ isOpen ended offset ⌝ }
+{
+    if ended {
+        return false;
+    }
+    offset < 4611686018427256832
+}
+
 fn main() {
     let mut memory_array = [0u8; 4096];
     let mut ring_one_array = [0u8; 4096];
@@ -98,7 +108,7 @@ fn main() {
     let out: &mut [u8] = &mut out_array;
     let mut p = feed::first();
     begin(out);
-    while p.offset < 4611686018427256832 {
+    while is_open(p.state.ended, p.offset) {
         let used = p.used;
         let got = read_in(buffer, used);
         if got == 0 {
