@@ -18,7 +18,7 @@ use Rattle.script.specs.Feed.{isReady, Block, fedFrom, fedOf, allOf, shifted, f
 use Rattle.script.proofs.Blocks.{tells, fed-ready}
 use Rattle.script.proofs.Alls.{all-stay, splits, fed-idle}
 use Rattle.script.proofs.Fronts.{front-fed, front-left}
-use Rattle.socket_script.specs.Drain.{isOpen, Drained}
+use Rattle.socket_script.specs.Drain.{isOpen, Held, movesOf, Step, Steps, Drained}
 
 -- where the program reads on, a whole buffer more stays within LIMIT
 pub open-below : (ended : Bool) (offset : ℕ) → isOpen ended offset ≡ true → offset < 4611686018427256832
@@ -134,22 +134,22 @@ module _ (p₀ : Progress) (m₀ : Machine) (s₀ : List ℕ) (p : Progress) (bu
         ∙ fed-idle (p .offset) (length out) m s room k
 
 -- all moves were made
-pub drained : (p₀ : Progress) (m₀ : Machine) (buffer buffer′ memory′ : List ℕ) (z′ : Rings) (r : Progress)
-    → Stands p₀ m₀ (take (p₀ .used) buffer) r (machine (r .state) memory′ z′) (take (r .used) buffer′)
-    → moveOf (machine (r .state) memory′ z′) (take (r .used) buffer′) ≡ stay
-    → Drained (allOf (p₀ .offset) m₀ (take (p₀ .used) buffer)) p₀ buffer buffer′ memory′ z′ r
-drained p₀ m₀ buffer buffer′ memory′ z′ r f e =
-    let m : Machine = machine (r .state) memory′ z′ in
-    let s : List ℕ = take (r .used) buffer′ in
-    let a : Block = allOf (p₀ .offset) m₀ (take (p₀ .used) buffer) in
-    let n = all-stay (r .offset) m s e in
-    let k : allOf (r .offset) m s .taken ≡ 0 = ap (λ (x : Block). x .taken) n in
-    let o : r .offset ≡ p₀ .offset + a .taken = omega (arith, f .taken, k) in
-    let i : r .offset - p₀ .offset ≡ a .taken = omega arith in
+pub drained : (x y : Held) → ((w : Held) × Steps x w × Step w y × (y .at .used ≡ w .at .used))
+    → Stands (x .at) (machine (x .at .state) (x .memory) (x .lent)) (take (x .at .used) (x .buffer)) (y .at) (machine (y .at .state) (y .memory) (y .lent)) (take (y .at .used) (y .buffer))
+    → moveOf (machine (y .at .state) (y .memory) (y .lent)) (take (y .at .used) (y .buffer)) ≡ stay → Drained x y
+drained x y l f e =
+    let m : Machine = machine (y .at .state) (y .memory) (y .lent) in
+    let s : List ℕ = take (y .at .used) (y .buffer) in
+    let a : Block = movesOf x in
+    let n = all-stay (y .at .offset) m s e in
+    let k : allOf (y .at .offset) m s .taken ≡ 0 = ap (λ (x : Block). x .taken) n in
+    let o : y .at .offset ≡ x .at .offset + a .taken = omega (arith, f .taken, k) in
+    let i : y .at .offset - x .at .offset ≡ a .taken = omega arith in
     record {
+      calls = l;
       after = sym (f .after ∙ ap (λ (x : Block). x .after) n);
       offset = o;
-      left = f .left ∙ ap (λ (j : ℕ). drop j (take (p₀ .used) buffer)) i;
+      left = f .left ∙ ap (λ (j : ℕ). drop j (take (x .at .used) (x .buffer))) i;
       used = f .sum;
       within = f .within;
       count = f .count;

@@ -1,24 +1,22 @@
 // A script from standard input; its listing to standard output. Both go in large blocks.
 use script::feed;
 use script::feed::Progress;
-ghost use Prim.Native.Nat.{_+_, _≤_};
+ghost use Prim.Native.Nat.{_≤_};
 ghost use mathlib.Core.Path.{_≡_};
 ghost use lib.ListN.{length, take};
 ghost use Rattle.text.specs.Put.{place};
 ghost use Rattle.call.specs.Call.{rings};
-ghost use Rattle.script.specs.Machine.{machine};
 ghost use Rattle.script.specs.Listing.{header, closing};
-ghost use Rattle.script.specs.Feed.{allOf};
-ghost use Rattle.socket_script.specs.Drain.{isOpen, DrainMay, Drained};
+ghost use Rattle.socket_script.specs.Drain.{isOpen, ReadIn, DrainMay, held, Drained};
 
 const STDIN: i32 = 0;
 
 const STDOUT: i32 = 1;
 
-// Reads behind the bytes that are in use; 0 at the end of the input.
+// Reads behind the bytes that are in use, which stay as they were; 0 at the end of the input.
 fn read_in(buffer: &mut [u8], used: usize) -> usize
     requires { ⌜ used ≤ length (now buffer) ⌝ }
-    ensures { λ r. ⌜ used + r ≤ length (now (buffer .entry)) ⌝ }
+    ensures { λ r. ⌜ ReadIn used r (now (buffer .entry)) (now (buffer .exit)) ⌝ }
 {
     let got = libc::read(STDIN, &mut buffer[used..]);
     io::count(got, &buffer[used..])
@@ -36,7 +34,7 @@ fn drain(
     out: &mut [u8],
 ) -> Progress
     requires { ⌜ DrainMay p (now buffer) (now memory) (now out) ⌝ }
-    ensures { λ r. ⌜ Drained (allOf (p .offset) (machine (p .state) (now (memory .entry)) (rings (now («ring_one» .entry)) (now («table_one» .entry)) (now («ring_two» .entry)) (now («table_two» .entry)))) (take (p .used) (now (buffer .entry)))) p (now (buffer .entry)) (now (buffer .exit)) (now (memory .exit)) (rings (now («ring_one» .exit)) (now («table_one» .exit)) (now («ring_two» .exit)) (now («table_two» .exit))) r ⌝ }
+    ensures { λ r. ⌜ Drained (held p (now (buffer .entry)) (now (memory .entry)) (rings (now («ring_one» .entry)) (now («table_one» .entry)) (now («ring_two» .entry)) (now («table_two» .entry))) (now (out .entry))) (held r (now (buffer .exit)) (now (memory .exit)) (rings (now («ring_one» .exit)) (now («table_one» .exit)) (now («ring_two» .exit)) (now («table_two» .exit))) (now (out .exit))) ⌝ }
 {
     let mut q = p;
     loop {

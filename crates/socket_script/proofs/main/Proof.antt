@@ -73,16 +73,16 @@ read-in-requires c κs =
     h
 
 add-p : tie.Need-add-p Inv-loop μ-loop
-add-p c = omega (arith, c .before .before .before .read-in .ensures, c .before .before .before .before .before .before .before .loop .inv .1)
+add-p c = omega (arith, c .before .before .before .read-in .ensures .within, c .before .before .before .before .before .before .before .loop .inv .1)
 
 drain-requires : tie.Need-drain-requires Inv-loop μ-loop
 drain-requires c κs =
     let l = c .before .before .before .before .before .before .before .before .before .before .before .before .before .before .loop in
     let r = c .before .before .before .before .before .before .before .before .before .before .read-in in
     record {
-      used = omega (arith, r .ensures, r .kept .0);
+      used = omega (arith, r .ensures .within, r .ensures .size);
       count = l .inv .5;
-      total = omega (arith, r .ensures, l .inv .1, open-below _ _ (sym (c .before .before .before .before .before .before .before .before .before .before .before .before .before .is-open .ensures) ∙ c .before .before .before .before .before .before .before .before .before .before .before .before .if1 .taken));
+      total = omega (arith, r .ensures .within, l .inv .1, open-below _ _ (sym (c .before .before .before .before .before .before .before .before .before .before .before .before .before .is-open .ensures) ∙ c .before .before .before .before .before .before .before .before .before .before .before .before .if1 .taken));
       size = omega (arith, l .inv .3);
       room = omega (arith, l .inv .2);
     }
@@ -96,7 +96,7 @@ loop-less c =
     let t : l .p .offset < 4611686018427256832 = open-below _ _ (sym (c .before .before .before .before .before .before .before .before .before .before .before .before .before .before .before .before .before .before .before .before .before .before .before .before .before .before .before .before .is-open .ensures) ∙ c .before .before .before .before .before .before .before .before .before .before .before .before .before .before .before .before .before .before .before .before .before .before .before .before .before .before .before .if1 .taken) in
     let n : r .result ≡ 0 → ⊥ = c .before .before .before .before .before .before .before .before .before .before .before .before .before .before .before .before .before .before .before .before .before .before .if2 .left in
     let h : LIMIT - (d .result .offset + d .result .used) < LIMIT - (l .p .offset + l .p .used) =
-    omega (arith, r .ensures, l .inv .0, l .inv .1, l .inv .4) in
+    omega (arith, r .ensures .within, l .inv .0, l .inv .1, l .inv .4) in
     h
 
 loop-again : tie.Need-loop-again Inv-loop μ-loop
@@ -108,14 +108,14 @@ loop-again c =
     let t : l .p .offset < 4611686018427256832 = open-below _ _ (sym (c .before .before .before .before .before .before .before .before .before .before .before .before .before .before .before .before .before .before .before .before .before .before .before .before .before .before .before .before .is-open .ensures) ∙ c .before .before .before .before .before .before .before .before .before .before .before .before .before .before .before .before .before .before .before .before .before .before .before .before .before .before .before .if1 .taken) in
     let n : r .result ≡ 0 → ⊥ = c .before .before .before .before .before .before .before .before .before .before .before .before .before .before .before .before .before .before .before .before .before .before .if2 .left in
     let u : d .result .used ≤ l .p .used + r .result = d .ensures .within in
-    let h : d .result .used ≤ 131072 = omega (arith, r .ensures, l .inv .1) in
-    let g : d .result .offset + d .result .used ≤ LIMIT = omega (arith, r .ensures, l .inv .1) in
-    (h, d .kept .1 .0 ∙ r .kept .0 ∙ l .inv .1, d .kept .1 .1 .1 .1 .1 .1 .1 .0 ∙ l .inv .2, d .kept .1 .1 .0 ∙ l .inv .3, g, d .ensures .count)
+    let h : d .result .used ≤ 131072 = omega (arith, r .ensures .within, l .inv .1) in
+    let g : d .result .offset + d .result .used ≤ LIMIT = omega (arith, r .ensures .within, l .inv .1) in
+    (h, d .kept .1 .0 ∙ r .ensures .size ∙ l .inv .1, d .kept .1 .1 .1 .1 .1 .1 .1 .0 ∙ l .inv .2, d .kept .1 .1 .0 ∙ l .inv .3, g, d .ensures .count)
 
 close-requires : tie.Need-close-requires Inv-loop μ-loop
 close-requires c κs =
     let i = c .before .before .before .loop .inv in
-    ⊎-elim (λ w. (omega (arith, ap length (w .6), i .0, i .1), omega (arith, i .2))) (λ w. (omega (arith, ap length (w .11), w .2 .kept .0, i .0, i .1), omega (arith, i .2)))
+    ⊎-elim (λ w. (omega (arith, ap length (w .6), i .0, i .1), omega (arith, i .2))) (λ w. (omega (arith, ap length (w .11), w .2 .ensures .size, i .0, i .1), omega (arith, i .2)))
     (c .before .if1 .came)
 
 returns : tie.Need-returns Inv-loop μ-loop
