@@ -14,14 +14,15 @@ use Rattle.places.proofs.Lists.{either}
 use Rattle.text.specs.Put.{place}
 use Rattle.text.proofs.Place.{place-none}
 use Rattle.call.specs.Call.{Rings}
-use Rattle.script.specs.declared.State.{State}
-use Rattle.script.specs.declared.feed.Fed.{Fed}
-use Rattle.script.specs.declared.feed.Progress.{Progress}
-use Rattle.script.specs.Machine.{Machine, machine}
-use Rattle.script.specs.Turn.{LIMIT}
-use Rattle.script.specs.Feed.{isReady, Block, noBlock, fedOf, FeedDone, moved, shifted, frontOf, Advanced}
-use Rattle.script.proofs.Blocks.{fed-unready}
-use Rattle.script.proofs.Feeding.{ready}
+use Rattle.feed.specs.declared.State.{State}
+use Rattle.feed.specs.declared.Fed.{Fed}
+use Rattle.script.specs.declared.Progress.{Progress}
+use Rattle.feed.specs.Machine.{Machine, machine}
+use Rattle.feed.specs.Turn.{LIMIT}
+use Rattle.feed.specs.Feed.{isReady, Block, noBlock, fedOf, FeedDone}
+use Rattle.script.specs.Buffer.{moved, shifted, frontOf, Advanced}
+use Rattle.feed.proofs.Blocks.{fed-unready}
+use Rattle.feed.proofs.Feeding.{ready}
 
 -- a buffer that is shorter than what is in use
 shifted-none : (used : ℕ) (buffer : List ℕ) → length buffer < used → buffer ≡ shifted 0 used buffer

@@ -12,7 +12,7 @@ use Rattle.text.specs.Answer.{stopOf}
 use Rattle.text.specs.Put.{Written}
 use Rattle.text.proofs.Place.{nothing, same}
 use Rattle.script.specs.Listing.{closing}
-use Rattle.script.specs.Feed.{moved}
+use Rattle.script.specs.Buffer.{moved}
 
 -- a turn of the loop that moves bytes to the front
 pub shift-take : (buf₀ buf : List ℕ) (from i : ℕ) → from + i < length buf₀ → length buf ≡ length buf₀ → take i buf ≡ take i (drop from buf₀)

@@ -10,12 +10,14 @@ use borrow.Author.Tests.{le-leb, ltb-true}
 use Rattle.status.specs.Choice.{pick, _and_}
 use Rattle.line.specs.Line.{LINE}
 use Rattle.call.specs.Call.{Rings}
-use Rattle.script.specs.declared.State.{State}
-use Rattle.script.specs.declared.feed.Progress.{Progress}
-use Rattle.script.specs.Machine.{Machine, machine, stay, moveOf}
-use Rattle.script.specs.Turn.{LIMIT}
-use Rattle.script.specs.Feed.{isReady, Block, fedFrom, fedOf, allOf, shifted, frontOf, Advanced}
-use Rattle.script.proofs.Blocks.{tells, fed-ready}
+use Rattle.feed.specs.declared.State.{State}
+use Rattle.script.specs.declared.Progress.{Progress}
+use Rattle.feed.specs.Machine.{Machine, machine, stay, moveOf}
+use Rattle.feed.specs.Turn.{LIMIT}
+use Rattle.feed.specs.Feed.{isReady, Block, fedFrom, fedOf, allOf}
+use Rattle.script.specs.Buffer.{shifted, frontOf, Advanced}
+use Rattle.feed.proofs.Blocks.{fed-ready}
+use Rattle.script.proofs.Tells.{tells}
 use Rattle.script.proofs.Alls.{all-stay, splits, fed-idle}
 use Rattle.script.proofs.Fronts.{front-fed, front-left}
 use Rattle.socket_script.specs.Drain.{isOpen, Held, movesOf, Step, Steps, Drained}

@@ -8,10 +8,11 @@ use lib.Dec.{ltb}
 use Rattle.status.specs.Choice.{pick}
 use Rattle.line.specs.Line.{LINE}
 use Rattle.call.specs.Call.{Rings}
-use Rattle.script.specs.declared.feed.Progress.{Progress}
-use Rattle.script.specs.Machine.{machine}
-use Rattle.script.specs.Turn.{LIMIT}
-use Rattle.script.specs.Feed.{Block, allOf, frontOf, Advanced}
+use Rattle.script.specs.declared.Progress.{Progress}
+use Rattle.feed.specs.Machine.{machine}
+use Rattle.feed.specs.Turn.{LIMIT}
+use Rattle.feed.specs.Feed.{Block, allOf}
+use Rattle.script.specs.Buffer.{frontOf, Advanced}
 
 -- 01 "Script program": whether the program reads on. Not once the script has ended, nor where one more buffer might take the bytes above LIMIT
 unfoldable pub isOpen : (ended : Bool) → (offset : ℕ) → Bool

@@ -1,6 +1,5 @@
 // A script from standard input; its listing to standard output. Both go in large blocks.
-use script::feed;
-use script::feed::Progress;
+use script::Progress;
 ghost use Prim.Native.Nat.{_≤_};
 ghost use mathlib.Core.Path.{_≡_};
 ghost use lib.ListN.{length, take};
@@ -39,7 +38,7 @@ fn drain(
     let mut q = p;
     loop {
         let used = q.used;
-        q = feed::advance(
+        q = script::advance(
             q,
             buffer,
             memory,
@@ -63,7 +62,7 @@ fn begin(out: &mut [u8])
     requires { ⌜ 22 ≤ length (now out) ⌝ }
     ensures { λ _. ⌜ now (out .exit) ≡ place 0 header (now (out .entry)) ⌝ }
 {
-    let n = feed::header(out);
+    let n = script::header(out);
     io::write_all(STDOUT, &out[0..n]);
 }
 
@@ -74,7 +73,7 @@ fn close(p: Progress, buffer: &[u8], out: &mut [u8])
 {
     let st = p.state;
     let used = p.used;
-    let n = feed::finish(st, p.offset, &buffer[0..used], out);
+    let n = script::finish(st, p.offset, &buffer[0..used], out);
     io::write_all(STDOUT, &out[0..n]);
 }
 
@@ -104,7 +103,7 @@ fn main() {
     let table_two: &mut [u32] = &mut table_two_array;
     let buffer: &mut [u8] = &mut buffer_array;
     let out: &mut [u8] = &mut out_array;
-    let mut p = feed::first();
+    let mut p = script::first();
     begin(out);
     while is_open(p.state.ended, p.offset) {
         let used = p.used;

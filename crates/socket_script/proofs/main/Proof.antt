@@ -4,9 +4,9 @@ use lib.ListN.{length, length-replicate}
 use mathlib.Core.Logic.{⊎-elim}
 use mathlib.Core.Path.{_≡_, refl, sym, ap, _∙_}
 use native.Mathlib.Omega.{arith}
-use Rattle.script.specs.Machine.{startState}
-use Rattle.script.specs.Turn.{LIMIT}
-use Rattle.script.specs.declared.feed.Progress.{Progress}
+use Rattle.feed.specs.Machine.{startState}
+use Rattle.feed.specs.Turn.{LIMIT}
+use Rattle.script.specs.declared.Progress.{Progress}
 use Rattle.socket_script.proofs.Drains.{open-below}
 use Rattle.socket_script.proofs.main.Statement.{statement}
 use Rattle.socket_script.proofs.main.Tie as tie
