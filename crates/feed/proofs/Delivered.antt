@@ -1,29 +1,17 @@
 -- The bytes that a read delivered, and the line of a call. Assumes nothing.
-use Prim.Native.Nat.{ℕ, _+_, _-_, _≤_, _<_}
+use Prim.Native.Nat.{ℕ, _-_, _≤_}
 use native.Mathlib.Omega.{arith}
-use mathlib.Core.Path.{_≡_, sym, ap, _∙_}
-use mathlib.Core.List.{List, []}
-use lib.ListN.{length, take, drop, length-take, length-drop, drop-of-length-le}
-use lib.Seq.{take-all, take-nil}
+use mathlib.Core.Path.{_≡_, ap, _∙_}
+use mathlib.Core.List.{List}
+use lib.ListN.{length, take, drop, length-take, length-drop}
 use Rattle.status.specs.declared.Answer.{Answer}
 use Rattle.endpoint.specs.declared.SignalWord.{SignalWord}
 use Rattle.socket.specs.declared.Pair.{Pair}
 use Rattle.socket.specs.Pair.{shownBy}
 use Rattle.record.specs.Fields.{eight}
 use Rattle.line.specs.Line.{lineOf}
-use Rattle.call.specs.Call.{BASE, deliveredCount, delivered}
-
--- ---- a part of memory, also where it runs over the end
-
-pub part-none : (from n : ℕ) (l : List ℕ) → length l < from → [] ≡ take n (drop from l)
-part-none from n l h = sym (ap (λ (x : List ℕ). take n x) (drop-of-length-le l {i = from} (omega arith)) ∙ take-nil n)
-
-pub part-over : (from n : ℕ) (l : List ℕ) → length l - from < n → take (length l - from) (drop from l) ≡ take n (drop from l)
-part-over from n l h =
-    take-all (length l - from) (drop from l) (simp length-drop (omega arith)) ∙ sym (take-all n (drop from l) (simp length-drop (omega arith)))
-
-pub part-whole : (from n : ℕ) (l : List ℕ) → take (from + n - from) (drop from l) ≡ take n (drop from l)
-part-whole from n l = let e : from + n - from ≡ n = omega arith in ap (λ (k : ℕ). take k (drop from l)) e
+use Rattle.delivered.specs.Delivered.{BASE}
+use Rattle.delivered.specs.Delivered.{deliveredCount, delivered}
 
 pub part-small : (n from : ℕ) (l bs : List ℕ) → length l ≤ 4096 → bs ≡ take n (drop from l) → length bs ≤ 4096
 part-small n from l bs h e = rw e (simp (length-take, length-drop) (omega arith))

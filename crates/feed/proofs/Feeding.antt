@@ -14,7 +14,7 @@ use Rattle.text.proofs.Place.{place-none, place-length, place-front, place-behi
 use Rattle.feed.specs.declared.State.{State}
 use Rattle.feed.specs.declared.turn.Turned.{Turned}
 use Rattle.line.specs.Line.{LINE}
-use Rattle.call.specs.Call.{Rings}
+use Rattle.plain_call.specs.Rings.{Rings}
 use Rattle.feed.specs.Machine.{Machine, machine, Move, stay, halt, go, moveOf}
 use Rattle.feed.specs.Turn.{LIMIT, machineAfter, textOf, takenBy, goesOn, TurnDone}
 use Rattle.feed.specs.Feed.{isReady, Block, noBlock, behind, fedFrom, fedOf, BlockDone, FeedDone}

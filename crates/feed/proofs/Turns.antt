@@ -21,7 +21,10 @@ use Rattle.record.specs.declared.Decoded.the-variants.{Whole, Bad, Cut}
 use Rattle.record.specs.Record.{isBody, recordOf}
 use Rattle.record.proofs.Records.{cases, Full, full}
 use Rattle.line.specs.Line.{LINE, lineOf}
-use Rattle.call.specs.Call.{Rings, rings, callOf, delivered, settled, CallDone}
+use Rattle.plain_call.specs.Rings.{Rings, rings}
+use Rattle.delivered.specs.Delivered.{delivered, settled}
+use Rattle.call.specs.Call.{callOf}
+use Rattle.call.specs.Transfer.{CallDone}
 use Rattle.feed.specs.Machine.{Machine, machine, Move, stay, halt, go, moveOf, isMisplaced, isLast, steppedState, stepped, calledLine, stepLine}
 use Rattle.feed.proofs.Moves.{move-ended, move-cut, move-bad, move-misplaced, move-step}
 use Rattle.feed.specs.Turn.{placed, nextOf, machineAfter, textOf, takenBy, goesOn, StepDone, StopDone, TurnDone}

@@ -11,7 +11,7 @@ use Rattle.text.specs.Put.{place}
 use Rattle.feed.specs.declared.State.{State}
 use Rattle.feed.specs.declared.Fed.{Fed}
 use Rattle.line.specs.Line.{LINE}
-use Rattle.call.specs.Call.{Rings}
+use Rattle.plain_call.specs.Rings.{Rings}
 use Rattle.feed.specs.Machine.{Machine, machine, Move, stay, halt, go, moveOf}
 use Rattle.feed.specs.Turn.{LIMIT, machineAfter}
 

@@ -13,7 +13,10 @@ use Rattle.record.specs.declared.Decoded.the-variants.{Whole, Bad, Cut}
 use Rattle.feed.specs.declared.State.{State}
 use Rattle.record.specs.Record.{CREATE, recordOf}
 use Rattle.line.specs.Line.{lineOf}
-use Rattle.call.specs.Call.{Rings, rings, Called, callOf, delivered, settled}
+use Rattle.plain_call.specs.Rings.{Rings, rings}
+use Rattle.call.specs.Transfer.{Called}
+use Rattle.delivered.specs.Delivered.{delivered, settled}
+use Rattle.call.specs.Call.{callOf}
 
 -- the program's state, and the memory, rings and tables that it lends. The byte offset is no part of it: only the line that stops a script shows it.
 pub record Machine : Type 0 where

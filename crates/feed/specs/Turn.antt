@@ -14,7 +14,7 @@ use Rattle.record.specs.declared.Decoded.{Decoded}
 use Rattle.record.specs.declared.Decoded.the-variants.{Whole, Bad, Cut}
 use Rattle.record.specs.Record.{isBody, recordOf}
 use Rattle.line.specs.Line.{LINE}
-use Rattle.call.specs.Call.{Rings}
+use Rattle.plain_call.specs.Rings.{Rings}
 use Rattle.feed.specs.Machine.{Machine, machine, isMisplaced, stepped, stepLine, stoppedState, Move, stay, halt, go}
 
 -- the numbers that a block may begin with are a quarter of what 64 bits count, so that sums of two of them fit

@@ -4,7 +4,7 @@ ghost use Prim.Native.Nat.{_-_, _<_};
 ghost use mathlib.Core.Path.{_≡_};
 ghost use mathlib.Core.Bool.{true};
 ghost use lib.ListN.{length};
-ghost use Rattle.call.specs.Call.{rings};
+ghost use Rattle.plain_call.specs.Rings.{rings};
 ghost use Rattle.feed.specs.Feed.{isReady, FeedDone};
 
 mod turn;

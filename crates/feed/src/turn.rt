@@ -4,13 +4,14 @@ use record::Decoded;
 use record::fields;
 use socket::Pair;
 use status::Answer;
-ghost use Prim.Native.Nat.{_+_, _-_, _≤_, _<_};
+ghost use Prim.Native.Nat.{_+_, _≤_};
 ghost use mathlib.Core.Path.{_≡_};
-ghost use lib.ListN.{length, take, drop};
+ghost use lib.ListN.{length, drop};
 ghost use Rattle.text.specs.Put.{Fit};
 ghost use Rattle.socket.specs.Pair.{shownBy};
 ghost use Rattle.line.specs.Line.{LINE, lineOf};
-ghost use Rattle.call.specs.Call.{BASE, rings, deliveredCount, delivered};
+ghost use Rattle.plain_call.specs.Rings.{rings};
+ghost use Rattle.delivered.specs.Delivered.{delivered};
 ghost use Rattle.feed.specs.Machine.{machine, isMisplaced, isLast, moveOf};
 ghost use Rattle.feed.specs.Turn.{LIMIT, nextOf, StepMay, StepDone, StopDone, TurnMay, TurnDone};
 
@@ -46,41 +47,6 @@ fn is_misplaced(tag: u8, number: u64) -> bool
     tag == 0
 }
 
-// How far an address lies behind the memory's begin, 0 before it.
-fn place_of(address: u64) -> usize
-    ensures { λ r. ⌜ r ≡ address - BASE ⌝ }
-{
-    if address < 65536 {
-        return 0;
-    }
-    (address - 65536) as usize
-}
-
-// The n bytes from a place on, or those that there are.
-fn part(memory: &[u8], from: usize, n: usize) -> &[u8]
-    ensures { λ r. ⌜ now r ≡ take n (drop from (now (memory .entry))) ⌝ }
-{
-    let size = memory.len();
-    if size < from {
-        return &memory[0..0];
-    }
-    if size - from < n {
-        return &memory[from..size];
-    }
-    let to = from + n;
-    &memory[from..to]
-}
-
-// How many bytes the call delivered.
-fn delivered_count(tag: u8, a: Answer) -> usize
-    ensures { λ r. ⌜ r ≡ deliveredCount tag a ⌝ }
-{
-    if tag == 2 {
-        return status::count_of(a) as usize;
-    }
-    0
-}
-
 // The line of a call, before the count of a read lands.
 fn print(
     out: &mut [u8],
@@ -97,9 +63,9 @@ fn print(
 {
     let one = p.signal(1);
     let two = p.signal(2);
-    let from = place_of(fields::u64_at(body, 8));
-    let n = delivered_count(tag, a);
-    let bytes = part(memory, from, n);
+    let from = delivered::place_of(fields::u64_at(body, 8));
+    let n = delivered::count(tag, a);
+    let bytes = delivered::part(memory, from, n);
     line::line(out, at, number, a, one, two, bytes)
 }
 
@@ -133,7 +99,7 @@ fn step(
     let next = s.pair;
     let a = s.answer;
     let to = print(out, at, st.number, tag, body, a, next, memory);
-    call::settle(tag, body, a, memory);
+    delivered::settle(tag, body, a, memory);
     Stepped {
         state: State {
             pair: next,

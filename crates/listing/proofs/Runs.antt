@@ -19,7 +19,7 @@ use Rattle.feed.specs.declared.State.{State}
 use Rattle.feed.specs.declared.Fed.{Fed}
 use Rattle.line.specs.Line.{LINE}
 use Rattle.feed.specs.Turn.{LIMIT}
-use Rattle.call.specs.Call.{Rings}
+use Rattle.plain_call.specs.Rings.{Rings}
 use Rattle.feed.specs.Machine.{Machine, machine, startState, moveOf, stay}
 use Rattle.script.specs.Listing.{header, run, closing}
 use Rattle.feed.specs.Feed.{isReady, Block, fedOf, FeedDone}

@@ -1,7 +1,7 @@
 // A script is run wholly into a buffer.
 ghost use Prim.Native.Nat.{_≤_};
 ghost use lib.ListN.{length};
-ghost use Rattle.call.specs.Call.{rings};
+ghost use Rattle.plain_call.specs.Rings.{rings};
 ghost use Rattle.feed.specs.Machine.{machine, start, startState};
 ghost use Rattle.listing.specs.Ran.{Ran};
 

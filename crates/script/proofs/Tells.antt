@@ -15,7 +15,7 @@ use Rattle.text.proofs.Place.{place-front}
 use Rattle.line.specs.Line.{LINE}
 use Rattle.feed.specs.declared.State.{State}
 use Rattle.feed.specs.declared.Fed.{Fed}
-use Rattle.call.specs.Call.{Rings}
+use Rattle.plain_call.specs.Rings.{Rings}
 use Rattle.feed.specs.Machine.{Machine, machine, Move, stay, halt, go, moveOf}
 use Rattle.script.specs.Listing.{run}
 use Rattle.feed.specs.Turn.{machineAfter}

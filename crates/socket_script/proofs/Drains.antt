@@ -9,17 +9,17 @@ use lib.Seq.{drop-drop}
 use borrow.Author.Tests.{le-leb, ltb-true}
 use Rattle.status.specs.Choice.{pick, _and_}
 use Rattle.line.specs.Line.{LINE}
-use Rattle.call.specs.Call.{Rings}
+use Rattle.plain_call.specs.Rings.{Rings}
 use Rattle.feed.specs.declared.State.{State}
-use Rattle.script.specs.declared.Progress.{Progress}
+use Rattle.buffer.specs.declared.Progress.{Progress}
 use Rattle.feed.specs.Machine.{Machine, machine, stay, moveOf}
 use Rattle.feed.specs.Turn.{LIMIT}
 use Rattle.feed.specs.Feed.{isReady, Block, fedFrom, fedOf, allOf}
-use Rattle.script.specs.Buffer.{shifted, frontOf, Advanced}
+use Rattle.buffer.specs.Buffer.{shifted, frontOf, Advanced}
 use Rattle.feed.proofs.Blocks.{fed-ready}
 use Rattle.script.proofs.Tells.{tells}
 use Rattle.script.proofs.Alls.{all-stay, splits, fed-idle}
-use Rattle.script.proofs.Fronts.{front-fed, front-left}
+use Rattle.buffer.proofs.Fronts.{front-fed, front-left}
 use Rattle.socket_script.specs.Drain.{isOpen, Held, movesOf, Step, Steps, Drained}
 
 -- where the program reads on, a whole buffer more stays within LIMIT

@@ -7,12 +7,12 @@ use lib.ListN.{length, take, drop}
 use lib.Dec.{ltb}
 use Rattle.status.specs.Choice.{pick}
 use Rattle.line.specs.Line.{LINE}
-use Rattle.call.specs.Call.{Rings}
-use Rattle.script.specs.declared.Progress.{Progress}
+use Rattle.plain_call.specs.Rings.{Rings}
+use Rattle.buffer.specs.declared.Progress.{Progress}
 use Rattle.feed.specs.Machine.{machine}
 use Rattle.feed.specs.Turn.{LIMIT}
 use Rattle.feed.specs.Feed.{Block, allOf}
-use Rattle.script.specs.Buffer.{frontOf, Advanced}
+use Rattle.buffer.specs.Buffer.{frontOf, Advanced}
 
 -- 01 "Script program": whether the program reads on. Not once the script has ended, nor where one more buffer might take the bytes above LIMIT
 unfoldable pub isOpen : (ended : Bool) → (offset : ℕ) → Bool

@@ -1,10 +1,10 @@
 // A script from standard input; its listing to standard output. Both go in large blocks.
-use script::Progress;
+use buffer::Progress;
 ghost use Prim.Native.Nat.{_≤_};
 ghost use mathlib.Core.Path.{_≡_};
 ghost use lib.ListN.{length, take};
 ghost use Rattle.text.specs.Put.{place};
-ghost use Rattle.call.specs.Call.{rings};
+ghost use Rattle.plain_call.specs.Rings.{rings};
 ghost use Rattle.script.specs.Listing.{header, closing};
 ghost use Rattle.socket_script.specs.Drain.{isOpen, ReadIn, DrainMay, held, Drained};
 
@@ -38,7 +38,7 @@ fn drain(
     let mut q = p;
     loop {
         let used = q.used;
-        q = script::advance(
+        q = buffer::advance(
             q,
             buffer,
             memory,
@@ -103,7 +103,7 @@ fn main() {
     let table_two: &mut [u32] = &mut table_two_array;
     let buffer: &mut [u8] = &mut buffer_array;
     let out: &mut [u8] = &mut out_array;
-    let mut p = script::first();
+    let mut p = buffer::first();
     begin(out);
     while is_open(p.state.ended, p.offset) {
         let used = p.used;

@@ -6,7 +6,7 @@ use mathlib.Core.Bool.{Bool}
 use mathlib.Core.Path.{_≡_, refl, sym, _∙_, subst}
 use native.Mathlib.Omega.{arith}
 use Rattle.feed.proofs.Feeding.{Ready, ready, SoFar, begins, next, left, falls, done-full, done-stay}
-use Rattle.call.specs.Call.{rings}
+use Rattle.plain_call.specs.Rings.{rings}
 use Rattle.line.specs.Line.{LINE}
 use Rattle.feed.specs.Machine.{machine}
 use Rattle.feed.proofs.feed_ready.Statement.{statement}

@@ -1,6 +1,6 @@
 use borrow.Author.Needs.{needs}
 use denote.Ref.{now}
-use Rattle.script.proofs.Shifts.{closing-none, closing-over, closing-stop, nothing-put}
+use Rattle.script.proofs.Closings.{closing-none, closing-over, closing-stop, nothing-put}
 use Rattle.script.proofs.finish.Statement.{statement}
 use Rattle.script.proofs.finish.Tie as tie
 

@@ -3,7 +3,7 @@ use denote.Ref.{now}
 use lib.ListN.{length, take}
 use mathlib.Core.Path.{_≡_, refl, _∙_}
 use native.Mathlib.Omega.{arith}
-use Rattle.call.specs.Call.{rings}
+use Rattle.plain_call.specs.Rings.{rings}
 use Rattle.feed.specs.Machine.{machine}
 use Rattle.socket_script.specs.Drain.{DrainMay, held, Steps, none, more}
 use Rattle.socket_script.proofs.Drains.{Stands, stands, onwards, ends, drained}

@@ -6,7 +6,7 @@ use mathlib.Core.Path.{_≡_, refl, sym, ap, _∙_}
 use native.Mathlib.Omega.{arith}
 use Rattle.feed.specs.Machine.{startState}
 use Rattle.feed.specs.Turn.{LIMIT}
-use Rattle.script.specs.declared.Progress.{Progress}
+use Rattle.buffer.specs.declared.Progress.{Progress}
 use Rattle.socket_script.proofs.Drains.{open-below}
 use Rattle.socket_script.proofs.main.Statement.{statement}
 use Rattle.socket_script.proofs.main.Tie as tie

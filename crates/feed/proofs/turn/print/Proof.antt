@@ -17,8 +17,8 @@ u64-at-requires c κs = search needs
 place-of-requires : tie.Need-place-of-requires
 place-of-requires c κs = search needs
 
-delivered-count-requires : tie.Need-delivered-count-requires
-delivered-count-requires c κs = search needs
+count-requires : tie.Need-count-requires
+count-requires c κs = search needs
 
 part-requires : tie.Need-part-requires
 part-requires c κs = search needs
@@ -30,7 +30,7 @@ same-length : tie.Need-same-length
 same-length c = search needs
 
 returns : tie.Need-returns
-returns c = same _ (call-line (c .before .before .before .before .before .before .before .before .before .before .before .before .before .args .number) (c .before .before .before .before .before .before .before .before .before .before .before .before .before .args .tag) _ _ _ (c .before .before .before .before .before .before .before .before .before .before .before .before .before .args .a) (c .before .before .before .before .before .before .before .before .before .before .before .before .before .args .p) (now (c .before .before .before .before .before .before .before .before .before .before .before .before .before .args .body)) (now (c .before .before .before .before .before .before .before .before .before .before .before .before .before .args .memory)) _ _ _ (c .before .before .before .before .before .before .before .before .before .signal .ensures) (c .before .before .before .before .before .before .before .before .signal2 .ensures) (c .before .before .before .before .before .before .before .u64-at .ensures) (c .before .before .before .before .before .before .place-of .ensures) (c .before .before .before .before .before .delivered-count .ensures) (c .before .before .before .before .part .ensures)) (c .before .before .line .ensures .put (part-small (c .before .before .before .before .before .delivered-count .result) (c .before .before .before .before .before .before .place-of .result) (now (c .before .before .before .before .before .before .before .before .before .before .before .before .before .args .memory)) _ (c .before .before .before .before .before .before .before .before .before .before .before .before .before .pre) (c .before .before .before .before .part .ensures)) .fit)
+returns c = same _ (call-line (c .before .before .before .before .before .before .before .before .before .before .before .before .before .args .number) (c .before .before .before .before .before .before .before .before .before .before .before .before .before .args .tag) _ _ _ (c .before .before .before .before .before .before .before .before .before .before .before .before .before .args .a) (c .before .before .before .before .before .before .before .before .before .before .before .before .before .args .p) (now (c .before .before .before .before .before .before .before .before .before .before .before .before .before .args .body)) (now (c .before .before .before .before .before .before .before .before .before .before .before .before .before .args .memory)) _ _ _ (c .before .before .before .before .before .before .before .before .before .signal .ensures) (c .before .before .before .before .before .before .before .before .signal2 .ensures) (c .before .before .before .before .before .before .before .u64-at .ensures) (c .before .before .before .before .before .before .place-of .ensures) (c .before .before .before .before .before .count .ensures) (c .before .before .before .before .part .ensures)) (c .before .before .line .ensures .put (part-small (c .before .before .before .before .before .count .result) (c .before .before .before .before .before .before .place-of .result) (now (c .before .before .before .before .before .before .before .before .before .before .before .before .before .args .memory)) _ (c .before .before .before .before .before .before .before .before .before .before .before .before .before .pre) (c .before .before .before .before .part .ensures)) .fit)
 
 pub print-spec : {M : Type 1} → statement M
 print-spec =
@@ -40,7 +40,7 @@ print-spec =
     signal-requires-2
     u64-at-requires
     place-of-requires
-    delivered-count-requires
+    count-requires
     part-requires
     line-requires
     same-length

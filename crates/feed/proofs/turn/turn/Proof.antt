@@ -2,7 +2,7 @@ use borrow.Author.Needs.{needs}
 use denote.Ref.{now}
 use lib.ListN.{take, drop}
 use native.Mathlib.Omega.{arith}
-use Rattle.call.specs.Call.{rings}
+use Rattle.plain_call.specs.Rings.{rings}
 use Rattle.feed.proofs.Turns.{body-at, record-within, record-body, next-cut, next-bad, next-whole, turn-stay, turn-stop, turn-step}
 use Rattle.feed.specs.Machine.{machine, moveOf}
 use Rattle.feed.proofs.turn.turn.Statement.{statement}
