@@ -7,7 +7,7 @@ use mathlib.Core.List.{List}
 use lib.ListN.{length, take, drop, length-drop}
 use lib.Seq.{take-all}
 use lib.Dec.{ltb, leb, eqb}
-use borrow.Author.Tests.{le-ltb, ltb-false, leb-true, eq-eqb, ne-eqb, le-leb, lt-leb, lt-ltb}
+use borrow.Author.Tests.{le-ltb, ltb-false, leb-true, ne-eqb, le-leb, lt-leb, lt-ltb}
 use Rattle.status.specs.declared.Answer.{Answer}
 use Rattle.status.specs.declared.Answer.the-variants.{Done, Refused}
 use Rattle.status.specs.declared.Status.the-variants.{InvalidArgs}
@@ -17,7 +17,6 @@ use Rattle.status.specs.Answer.{countOf, isDone, refuseUnless, _then_}
 use Rattle.socket.specs.declared.Pair.{Pair}
 use Rattle.socket.specs.declared.Step.{Step}
 use Rattle.socket.specs.Pair.{isOne, own}
-use Rattle.socket.specs.Tests.{Steps}
 use Rattle.socket.specs.Write.{pairWritten, ringWritten, tableWritten}
 use Rattle.socket.specs.Read.{pairRead}
 use Rattle.endpoint.specs.Queue.{firstLength}
@@ -28,18 +27,12 @@ use Rattle.text.specs.Put.{place}
 use Rattle.record.specs.declared.fields.Transfer.{Transfer}
 use Rattle.record.specs.Fields.{eight, transferOf}
 use Rattle.record.specs.Record.{isBody}
-use Rattle.call.specs.Call.{BASE, Rings, rings, ownRing, ownTable, peerRing, peerTable, withPeer, stepOf, writeAnswerOf, wroteBy, writeCall, readAnswerOf, gotBy, readCall, fillAnswer, filled, fillCall, takeStep, plainStep, plainCall, callOf, CallDone, CallMade}
-
-abbrev pub mk : Pair → Answer → Step
-mk p a = record { pair = p; answer = a }
-
--- a step is its pair and its answer
-pub same-step : (r : Step) (p : Pair) (a : Answer) → r .pair ≡ p → r .answer ≡ a → r ≡ mk p a
-same-step r p a e f = ap (λ (x : Pair). mk x (r .answer)) e ∙ ap (λ (y : Answer). mk p y) f
-
-pub steps-are : {p q : Pair} {a : Answer} {r : Step} → Steps p a q r → r ≡ stepOf p a q
-unfolding stepOf
-steps-are {p} {q} {a} {r} s = same-step r (pick (isDone a) q p) a (s .pair) (s .answer)
+use Rattle.delivered.specs.Delivered.{BASE}
+use Rattle.call.specs.Transfer.{writeAnswerOf, wroteBy, writeCall, readAnswerOf, gotBy, readCall, fillAnswer, filled, fillCall, CallDone}
+use Rattle.plain_call.specs.Rings.{Rings, ownRing, ownTable, peerRing, peerTable, withPeer}
+use Rattle.plain_call.specs.Plain.{plainStep}
+use Rattle.plain_call.proofs.Steps.{mk, same-step}
+use Rattle.call.specs.Call.{plainCall, callOf, CallMade}
 
 -- ---- write
 
@@ -95,54 +88,6 @@ module _ (memory memory′ ring table : List ℕ) (z : Rings) (p : Pair) (t : Tr
             ∙ ap (λ (y : List ℕ). bytesLanded p h BASE (t .address) (countOf a) y memory) (sym er);
         lent = refl;
       }
-
--- by the handle
-pub one-is : (h : ℕ) → h ≡ 1 → isOne h ≡ true
-one-is h e = eq-eqb h 1 e
-
-pub two-is : (h : ℕ) → (h ≡ 1 → ⊥) → isOne h ≡ false
-two-is h e = ne-eqb h 1 e
-
-module _ (z : Rings) (h : ℕ) where
-  pub peer-ring-one : h ≡ 1 → peerRing (isOne h) z ≡ z .ring2
-  unfolding peerRing
-  peer-ring-one e = ap (λ (b : Bool). peerRing b z) (one-is h e)
-
-  pub peer-ring-two : (h ≡ 1 → ⊥) → peerRing (isOne h) z ≡ z .ring1
-  unfolding peerRing
-  peer-ring-two e = ap (λ (b : Bool). peerRing b z) (two-is h e)
-
-  pub peer-table-one : h ≡ 1 → peerTable (isOne h) z ≡ z .table2
-  unfolding peerTable
-  peer-table-one e = ap (λ (b : Bool). peerTable b z) (one-is h e)
-
-  pub peer-table-two : (h ≡ 1 → ⊥) → peerTable (isOne h) z ≡ z .table1
-  unfolding peerTable
-  peer-table-two e = ap (λ (b : Bool). peerTable b z) (two-is h e)
-
-  pub own-ring-one : h ≡ 1 → ownRing (isOne h) z ≡ z .ring1
-  unfolding ownRing
-  own-ring-one e = ap (λ (b : Bool). ownRing b z) (one-is h e)
-
-  pub own-ring-two : (h ≡ 1 → ⊥) → ownRing (isOne h) z ≡ z .ring2
-  unfolding ownRing
-  own-ring-two e = ap (λ (b : Bool). ownRing b z) (two-is h e)
-
-  pub own-table-one : h ≡ 1 → ownTable (isOne h) z ≡ z .table1
-  unfolding ownTable
-  own-table-one e = ap (λ (b : Bool). ownTable b z) (one-is h e)
-
-  pub own-table-two : (h ≡ 1 → ⊥) → ownTable (isOne h) z ≡ z .table2
-  unfolding ownTable
-  own-table-two e = ap (λ (b : Bool). ownTable b z) (two-is h e)
-
-  pub with-peer-one : (ring table : List ℕ) → h ≡ 1 → withPeer (isOne h) ring table z ≡ rings (z .ring1) (z .table1) ring table
-  unfolding withPeer
-  with-peer-one ring table e = ap (λ (b : Bool). withPeer b ring table z) (one-is h e)
-
-  pub with-peer-two : (ring table : List ℕ) → (h ≡ 1 → ⊥) → withPeer (isOne h) ring table z ≡ rings ring table (z .ring2) (z .table2)
-  unfolding withPeer
-  with-peer-two ring table e = ap (λ (b : Bool). withPeer b ring table z) (two-is h e)
 
 -- ---- fill
 
@@ -239,17 +184,3 @@ module _ {memory : List ℕ} {z : Rings} {p : Pair} {tag : ℕ} {b : List ℕ} w
 
   pub no-call : isBody tag (length b) ≡ false → CallMade memory z p tag b memory z (mk p (Refused InvalidArgs))
   no-call e = record { made = λ f. absurd (never (sym e ∙ f)); none = λ f. (refl, refl, refl) }
-
--- ---- tags, one after the other
-
-pub up : (tag n : ℕ) → n ≤ tag → (tag ≡ n → ⊥) → n + 1 ≤ tag
-up tag n h f = omega arith
-
-pub from-ten : (tag : ℕ) → 4 ≤ tag → (tag ≡ 4 → ⊥) → (tag ≡ 5 → ⊥) → (tag ≡ 6 → ⊥) → (tag ≡ 7 → ⊥) → (tag ≡ 8 → ⊥) → (tag ≡ 9 → ⊥) → 10 ≤ tag
-from-ten tag h n4 n5 n6 n7 n8 n9 = up tag 9 (up tag 8 (up tag 7 (up tag 6 (up tag 5 (up tag 4 h n4) n5) n6) n7) n8) n9
-
-pub take-step : (z : Rings) (p : Pair) (tag : ℕ) (b : List ℕ) (r : Step) → 10 ≤ tag → r ≡ takeStep p → r ≡ plainStep z p tag b
-unfolding plainStep pick
-take-step z p tag b r h e =
-    simp (le-ltb tag 1 (omega arith), le-ltb tag 4 (omega arith), le-ltb tag 5 (omega arith), le-ltb tag 6 (omega arith), le-ltb tag 7 (omega arith), le-ltb tag 8 (omega arith), le-ltb tag 9 (omega arith), le-ltb tag 10 h)
-    e

@@ -1,201 +1,21 @@
 -- The call that a record makes, on the pair and on what the program lends: memory at 65536, and the ring and the table of each end.
--- 01 "Script program", tag and body. A body's fields stand in 01's order.
-use Prim.Native.Nat.{ℕ, _-_}
+-- 01 "Script program", tag and body.
+use Prim.Native.Nat.{ℕ}
 use mathlib.Core.Path.{_≡_}
-use mathlib.Core.Bool.{Bool, true, false}
-use mathlib.Core.List.{List, []}
-use lib.ListN.{length, getD, take, drop}
+use mathlib.Core.Bool.{true, false}
+use mathlib.Core.List.{List}
+use lib.ListN.{length, drop}
 use lib.Dec.{ltb, eqb}
 use Rattle.status.specs.declared.Status.the-variants.{InvalidArgs}
-use Rattle.status.specs.declared.Record.the-variants.{Count}
-use Rattle.status.specs.declared.Answer.{Answer}
-use Rattle.status.specs.declared.Answer.the-variants.{Done, Refused}
+use Rattle.status.specs.declared.Answer.the-variants.{Refused}
 use Rattle.status.specs.Choice.{pick}
-use Rattle.status.specs.Answer.{refuseUnless, _then_, countOf, isDone}
-use Rattle.endpoint.specs.Queue.{firstLength}
-use Rattle.answers.specs.Create.{createAnswer}
 use Rattle.socket.specs.declared.Pair.{Pair}
 use Rattle.socket.specs.declared.Step.{Step}
-use Rattle.socket.specs.Pair.{isOne, own, peer, newPair, noPair}
-use Rattle.socket.specs.Tests.{lentOf}
-use Rattle.socket.specs.Write.{pairWritten, ringWritten, tableWritten}
-use Rattle.socket.specs.Read.{pairRead}
-use Rattle.socket.specs.Threshold.{readThresholdAnswer, writeThresholdAnswer, readThresholdSet, writeThresholdSet}
-use Rattle.socket.specs.Disposition.{disposed, shut}
-use Rattle.socket.specs.Info.{infoAnswer}
-use Rattle.socket.specs.Wait.{waitAnswer, waited, takeAnswer, took, closeAnswer, closed}
-use Rattle.user_memory.specs.Memory.{fits, countLanded, countPut}
-use Rattle.syscall.specs.Write.{userWriteAnswer}
-use Rattle.syscall.specs.Read.{isPeek, userReadAnswer, bytesLanded}
-use Rattle.syscall.specs.Control.{dispositionOf, userDisposeAnswer, shutsRead, shutsWrite, userShutdownAnswer}
-use Rattle.text.specs.Put.{place}
-use Rattle.record.specs.declared.fields.Transfer.{Transfer}
 use Rattle.record.specs.Record.{READ, isBody}
-use Rattle.record.specs.Fields.{four, eight, transferOf}
-
--- where the memory begins
-abbrev pub BASE : ℕ
-BASE = 65536
-
--- the rings and the tables of both ends
-pub record Rings : Type 0 where
-  pub ring1 : List ℕ
-  pub table1 : List ℕ
-  pub ring2 : List ℕ
-  pub table2 : List ℕ
-
-abbrev pub rings : (ring1 table1 ring2 table2 : List ℕ) → Rings
-rings ring1 table1 ring2 table2 = record { ring1 = ring1; table1 = table1; ring2 = ring2; table2 = table2 }
-
--- those of the caller's end and of its peer, by the caller's end: true is end 1
-unfoldable pub ownRing : Bool → Rings → List ℕ
-ownRing true z = z .ring1
-ownRing false z = z .ring2
-
-unfoldable pub ownTable : Bool → Rings → List ℕ
-ownTable true z = z .table1
-ownTable false z = z .table2
-
-unfoldable pub peerRing : Bool → Rings → List ℕ
-peerRing true z = z .ring2
-peerRing false z = z .ring1
-
-unfoldable pub peerTable : Bool → Rings → List ℕ
-peerTable true z = z .table2
-peerTable false z = z .table1
-
-unfoldable pub withPeer : Bool → (ring table : List ℕ) → Rings → Rings
-withPeer true ring table z = rings (z .ring1) (z .table1) ring table
-withPeer false ring table z = rings ring table (z .ring2) (z .table2)
-
--- ---- calls that change neither memory nor a ring
-
--- the next pair is q where the call is done, p where it is refused
-unfoldable pub stepOf : (p : Pair) → Answer → (q : Pair) → Step
-stepOf p a q = record { pair = pick (isDone a) q p; answer = a }
-
--- 01 "Script program", tag 0
-unfoldable pub createStep : Rings → (body : List ℕ) → Step
-createStep z b =
-    stepOf noPair
-    (createAnswer (four b 0) (four b 4) (getD b 8 0) (getD b 9 0) (length (z .ring1)) (length (z .table1)) (length (z .ring2)) (length (z .table2)))
-    (newPair (eqb (four b 0) 1) (four b 4) (getD b 8 0) (getD b 9 0))
-
--- 01 "Script program", tag 3
-unfoldable pub dispositionStep : Pair → (body : List ℕ) → Step
-dispositionStep p b =
-    stepOf p (userDisposeAnswer p (four b 0) (four b 4) (four b 8)) (disposed (isOne (four b 0)) (dispositionOf (four b 4)) (dispositionOf (four b 8)) p)
-
--- 01 "Script program", tag 4
-unfoldable pub shutdownStep : Pair → (body : List ℕ) → Step
-shutdownStep p b = stepOf p (userShutdownAnswer p (four b 0)) (shut (isOne (four b 0)) (shutsRead (four b 4)) (shutsWrite (four b 4)) p)
-
--- 01 "Script program", tag 5
-unfoldable pub readThresholdStep : Pair → (body : List ℕ) → Step
-readThresholdStep p b = stepOf p (readThresholdAnswer p (four b 0) (eight b 4)) (readThresholdSet (isOne (four b 0)) (eight b 4) p)
-
--- 01 "Script program", tag 6
-unfoldable pub writeThresholdStep : Pair → (body : List ℕ) → Step
-writeThresholdStep p b = stepOf p (writeThresholdAnswer p (four b 0) (eight b 4)) (writeThresholdSet (isOne (four b 0)) (eight b 4) p)
-
--- info is lent the own table
-unfoldable pub infoBy : Rings → Pair → (h : ℕ) → Step
-infoBy z p h = stepOf p (infoAnswer p (lentOf (p .datagram) (own (isOne h) p .queue) [] (ownTable (isOne h) z)) h) p
-
--- 01 "Script program", tag 7
-unfoldable pub infoStep : Rings → Pair → (body : List ℕ) → Step
-infoStep z p b = infoBy z p (four b 0)
-
--- 01 "Script program", tag 8
-unfoldable pub closeStep : Pair → (body : List ℕ) → Step
-closeStep p b = stepOf p (closeAnswer p (four b 0)) (closed (isOne (four b 0)) p)
-
--- 01 "Script program", tag 9
-unfoldable pub waitStep : Pair → (body : List ℕ) → Step
-waitStep p b = stepOf p (waitAnswer p (four b 0) (getD b 16 0)) (waited (isOne (four b 0)) (eight b 4) (four b 12) (getD b 16 0) p)
-
--- 01 "Script program", tag 10
-unfoldable pub takeStep : Pair → Step
-takeStep p = stepOf p (takeAnswer p) (took p)
-
--- by the tag: 0, and 3 to 10
-unfoldable pub plainStep : Rings → Pair → (tag : ℕ) → (body : List ℕ) → Step
-plainStep z p tag b =
-    pick (ltb tag 1) (createStep z b)
-    (pick (ltb tag 4) (dispositionStep p b)
-    (pick (ltb tag 5) (shutdownStep p b)
-    (pick (ltb tag 6) (readThresholdStep p b)
-    (pick (ltb tag 7) (writeThresholdStep p b)
-    (pick (ltb tag 8) (infoStep z p b)
-    (pick (ltb tag 9) (closeStep p b)
-    (pick (ltb tag 10) (waitStep p b)
-    (takeStep p))))))))
-
--- ---- calls over memory
-
--- what a call leaves
-pub record Called : Type 0 where
-  pub step : Step
-  pub memory : List ℕ
-  pub lent : Rings
-
--- the writer's answer, and what it leaves
-unfoldable pub writeAnswerOf : (memory : List ℕ) → Rings → Pair → Transfer → Answer
-writeAnswerOf memory z p t =
-    let one = isOne (t .handle) in
-    userWriteAnswer p (lentOf (p .datagram) (peer one p .queue) (peerRing one z) (peerTable one z)) (t .handle) BASE (length memory) (t .options)
-    (t .address) (t .count) (t .«count_at»)
-
-unfoldable pub wroteBy : (memory : List ℕ) → Rings → Pair → Transfer → Answer → Called
-wroteBy memory z p t a =
-    let one = isOne (t .handle) in
-    record {
-      step = record { pair = pairWritten p (t .handle) (countOf a); answer = a };
-      memory = pick (isDone a) (countLanded BASE (t .«count_at») (countOf a) memory) memory;
-      lent =
-          withPeer one (ringWritten p (t .handle) (countOf a) (drop (t .address - BASE) memory) (peerRing one z))
-          (tableWritten p (t .handle) (countOf a) (peerTable one z))
-          z;
-    }
-
-unfoldable pub writeCall : (memory : List ℕ) → Rings → Pair → Transfer → Called
-writeCall memory z p t = wroteBy memory z p t (writeAnswerOf memory z p t)
-
--- the reader's answer, and what it leaves before its count lands
-unfoldable pub readAnswerOf : (memory : List ℕ) → Rings → Pair → Transfer → Answer
-readAnswerOf memory z p t =
-    let one = isOne (t .handle) in
-    userReadAnswer p (lentOf (p .datagram) (own one p .queue) (ownRing one z) (ownTable one z)) (t .handle) BASE (length memory) (t .options)
-    (t .address) (t .count) (t .«count_at»)
-
-unfoldable pub gotBy : (memory : List ℕ) → Rings → Pair → Transfer → Answer → Called
-gotBy memory z p t a =
-    let one = isOne (t .handle) in
-    record {
-      step =
-          record {
-            pair = pairRead p (t .handle) (isPeek (t .options)) (firstLength (p .datagram) (own one p .queue) (ownTable one z)) (countOf a);
-            answer = a;
-          };
-      memory = bytesLanded p (t .handle) BASE (t .address) (countOf a) (ownRing one z) memory;
-      lent = z;
-    }
-
-unfoldable pub readCall : (memory : List ℕ) → Rings → Pair → Transfer → Called
-readCall memory z p t = gotBy memory z p t (readAnswerOf memory z p t)
-
--- fill is no call on the pair: its bytes land where their range fits
-unfoldable pub fillAnswer : (size address n : ℕ) → Answer
-fillAnswer size address n = refuseUnless (fits BASE size address n) InvalidArgs then Done (Count n)
-
-unfoldable pub filled : (address : ℕ) → (bytes memory : List ℕ) → List ℕ
-filled address bs memory = pick (fits BASE (length memory) address (length bs)) (place (address - BASE) bs memory) memory
-
-unfoldable pub fillCall : (memory : List ℕ) → Rings → Pair → (address : ℕ) → (bytes : List ℕ) → Called
-fillCall memory z p address bs =
-    record { step = record { pair = p; answer = fillAnswer (length memory) address (length bs) }; memory = filled address bs memory; lent = z }
-
--- ---- every call
+use Rattle.record.specs.Fields.{eight, transferOf}
+use Rattle.plain_call.specs.Rings.{Rings}
+use Rattle.plain_call.specs.Plain.{plainStep}
+use Rattle.call.specs.Transfer.{Called, writeCall, readCall, fillCall, CallDone}
 
 -- a call that changes neither memory nor a ring
 abbrev pub plainCall : (memory : List ℕ) → Rings → Step → Called
@@ -208,23 +28,6 @@ callOf memory z p tag b =
     (pick (eqb tag READ) (readCall memory z p (transferOf b))
     (pick (ltb 10 tag) (fillCall memory z p (eight b 0) (drop 8 b))
     (plainCall memory z (plainStep z p tag b))))
-
--- the bytes that a read delivered, as they stand in memory before its count lands; other calls deliver none
-unfoldable pub deliveredCount : (tag : ℕ) → Answer → ℕ
-deliveredCount tag a = pick (eqb tag READ) (countOf a) 0
-
-unfoldable pub delivered : (tag : ℕ) → (body : List ℕ) → Answer → (memory : List ℕ) → List ℕ
-delivered tag b a memory = take (deliveredCount tag a) (drop (eight b 8 - BASE) memory)
-
--- memory once the count of a done read has landed; its range fits
-unfoldable pub settled : (tag : ℕ) → (body : List ℕ) → Answer → (memory : List ℕ) → List ℕ
-settled tag b a memory = pick (eqb tag READ) (pick (isDone a) (countPut BASE (eight b 24) (countOf a) memory) memory) memory
-
--- what a function says that makes a call
-pub record CallDone (d : Called) (memory′ : List ℕ) (z′ : Rings) (r : Step) : Type 0 where
-  pub step : r ≡ d .step
-  pub memory : memory′ ≡ d .memory
-  pub lent : z′ ≡ d .lent
 
 -- a body that is right for its tag makes the call; with any other body none is made, and nothing changes
 pub record CallMade (memory : List ℕ) (z : Rings) (p : Pair) (tag : ℕ) (b memory′ : List ℕ) (z′ : Rings) (r : Step) : Type 0 where

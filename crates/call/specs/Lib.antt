@@ -1,3 +1,4 @@
--- 01 "Script program", tag and body:
---   Call: the call that a record makes, on the pair and the slices lent to it
+-- Transfer: the calls of a record over memory
+-- Call: the call that a record makes, by its tag
+pub mod Transfer
 pub mod Call

@@ -6,7 +6,7 @@ use borrow.Author.Tests.{lt-ltb, le-ltb}
 use Rattle.status.specs.Choice.{pick}
 use mathlib.Core.List.{List, _++_}
 use lib.ListN.{length}
-use Rattle.script.specs.Machine.{start}
+use Rattle.feed.specs.Machine.{start}
 use Rattle.script.specs.Listing.{header, run, listing}
 use Rattle.replay.specs.declared.entry.Outcome.{Outcome}
 use Rattle.replay.specs.declared.entry.Outcome.the-variants.{Agrees, DiffersAt, NoRoom}

@@ -8,9 +8,9 @@ use Rattle.status.specs.Choice.{pick}
 use Rattle.record.specs.Fields.{four}
 use Rattle.text.specs.Put.{place}
 use Rattle.line.specs.Line.{LINE}
-use Rattle.script.specs.Machine.{start}
+use Rattle.feed.specs.Machine.{start}
 use Rattle.script.specs.Listing.{listing}
-use Rattle.replay.specs.Ran.{ranText}
+use Rattle.listing.specs.Ran.{ranText}
 use Rattle.replay.specs.declared.entry.Field.{Field}
 use Rattle.replay.specs.declared.entry.Field.the-variants as Field
 use Rattle.replay.specs.declared.entry.Found.{Found}

@@ -1,5 +1,4 @@
 // The stored entries, each a script and its listing: where they lie in the input, whether they agree, and how many do.
-use crate::listing;
 ghost use Prim.Native.Nat.{_+_, _≤_, _<_};
 ghost use mathlib.Core.Path.{_≡_};
 ghost use lib.ListN.{length};

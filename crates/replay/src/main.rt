@@ -4,7 +4,6 @@
 // which writes FOLDER/scripts, here stdin, and FOLDER/names, here data/names: the scripts' names in the same order, one a line.
 // For each script the input has a four-byte little-endian length, the script, a four-byte length, and the listing.
 mod entry;
-mod listing;
 mod report;
 
 ghost use Prim.Native.Nat.{_≤_};

@@ -10,11 +10,12 @@ use lib.Seq.{drop-drop}
 use Rattle.record.proofs.Records.{cases}
 use Rattle.text.specs.Answer.{stopOf}
 use Rattle.line.specs.Line.{LINE}
-use Rattle.script.specs.Machine.{Machine, Move, stay, halt, go, moveOf}
-use Rattle.script.specs.Turn.{machineAfter}
-use Rattle.script.specs.Feed.{Block, noBlock, behind, fedMove, fedBy, fedFrom, allOf}
-use Rattle.script.proofs.Moves.{goes}
-use Rattle.script.proofs.Blocks.{block, Passes, tells, fed-stay, fed-halt, fed-go, stopped-stays}
+use Rattle.feed.specs.Machine.{Machine, Move, stay, halt, go, moveOf}
+use Rattle.feed.specs.Turn.{machineAfter}
+use Rattle.feed.specs.Feed.{Block, noBlock, behind, fedMove, fedBy, fedFrom, allOf}
+use Rattle.feed.proofs.Moves.{goes}
+use Rattle.feed.proofs.Blocks.{block, fed-stay, fed-halt, fed-go, stopped-stays}
+use Rattle.script.proofs.Tells.{Passes, tells}
 
 pub all-stay : (offset : ℕ) (m : Machine) (s : List ℕ) → moveOf m s ≡ stay → allOf offset m s ≡ noBlock m
 unfolding allOf

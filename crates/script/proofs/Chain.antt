@@ -6,11 +6,11 @@ use mathlib.Core.List.{List, _++_, append-assoc, append-nil, flatten}
 use lib.ListN.{take}
 use Rattle.text.specs.Put.{place, Put}
 use Rattle.text.proofs.Place.{place-front}
-use Rattle.script.specs.Machine.{Machine, machine}
+use Rattle.feed.specs.Machine.{Machine, machine}
 use Rattle.script.specs.Listing.{closing, run, listing, header}
-use Rattle.script.specs.Feed.{Feeds, more, fed, done, Chain}
+use Rattle.script.specs.Claims.{Feeds, more, fed, done, Chain}
 use Rattle.script.proofs.Runs.{run-stay}
-use Rattle.script.proofs.Blocks.{fed-rest}
+use Rattle.script.proofs.Tells.{fed-rest}
 
 put-all : (k r : ℕ) (xs l l′ : List ℕ) → Put k 0 xs r l l′ → take r l′ ≡ xs
 put-all k r xs l l′ p =

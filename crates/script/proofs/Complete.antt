@@ -15,12 +15,14 @@ use Rattle.text.specs.Put.{place, Written}
 use Rattle.text.proofs.Place.{place-length, had-room}
 use Rattle.text.proofs.Spelling.{digits-length, width-most}
 use Rattle.line.specs.Line.{LINE}
-use Rattle.script.specs.declared.feed.Fed.{Fed}
-use Rattle.script.specs.Machine.{Machine, machine, start, startState, zeros, Move, stay, halt, go, moveOf}
+use Rattle.feed.specs.declared.Fed.{Fed}
+use Rattle.feed.specs.Machine.{Machine, machine, start, startState, zeros, Move, stay, halt, go, moveOf}
 use Rattle.script.specs.Listing.{closing, run, header, listing}
-use Rattle.script.specs.Turn.{LIMIT}
-use Rattle.script.specs.Feed.{isReady, Block, noBlock, behind, fedMove, fedBy, fedFrom, fedOf, allOf, FeedDone, Feeds, more, fed, done, Complete, Every, Claims}
-use Rattle.script.proofs.Blocks.{tells, fed-ready, fed-stuck, passes}
+use Rattle.feed.specs.Turn.{LIMIT}
+use Rattle.feed.specs.Feed.{isReady, Block, noBlock, behind, fedMove, fedBy, fedFrom, fedOf, allOf, FeedDone}
+use Rattle.script.specs.Claims.{Feeds, more, fed, done, Complete, Every, Claims}
+use Rattle.feed.proofs.Blocks.{fed-ready}
+use Rattle.script.proofs.Tells.{tells, fed-stuck, passes}
 use Rattle.script.proofs.Alls.{all-passes}
 use Rattle.script.proofs.Chain.{chain}
 

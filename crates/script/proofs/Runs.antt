@@ -7,9 +7,9 @@ use mathlib.Core.List.{List, [], _∷_, _++_}
 use lib.ListN.{length, drop, length-drop}
 use Rattle.status.specs.Choice.{pick}
 use Rattle.text.specs.Answer.{stopOf}
-use Rattle.script.specs.Machine.{Machine, Move, stay, halt, go, moveOf}
+use Rattle.feed.specs.Machine.{Machine, Move, stay, halt, go, moveOf}
 use Rattle.script.specs.Listing.{closing, runMove, runBy, run}
-use Rattle.script.proofs.Moves.{goes, move-ended}
+use Rattle.feed.proofs.Moves.{goes, move-ended}
 
 move-same : (f g : ℕ → Machine → List ℕ → List ℕ) (offset : ℕ) (m : Machine) (s : List ℕ) (mv : Move)
     → ((m′ : Machine) (l : List ℕ) (n : ℕ) → mv ≡ go m′ l n → f (offset + n) m′ (drop n s) ≡ g (offset + n) m′ (drop n s))

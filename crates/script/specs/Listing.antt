@@ -5,7 +5,7 @@ use mathlib.Core.List.{List, [], _∷_, _++_}
 use lib.ListN.{length, drop}
 use Rattle.status.specs.Choice.{pick}
 use Rattle.text.specs.Answer.{stopOf}
-use Rattle.script.specs.Machine.{Machine, start, Move, stay, halt, go, moveOf}
+use Rattle.feed.specs.Machine.{Machine, start, Move, stay, halt, go, moveOf}
 
 -- 01 "Script program", `stop N`: what is put out at the end of the input. A record that is cut stops the script. offset is the number of bytes before those left
 unfoldable pub closing : (offset : ℕ) → (ended : Bool) → (left : List ℕ) → List ℕ

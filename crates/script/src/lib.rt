@@ -1,15 +1,46 @@
-// The script program's work, on slices: one move of the machine that a script drives, and feeding a script in blocks.
+// What comes before the first block of a script and behind its last: the header, the state that feeding begins with, the end of the input.
+use feed::State;
 use socket::Pair;
-ghost use Rattle.script.specs.Feed.{Claims};
+ghost use mathlib.Core.Path.{_≡_};
+ghost use Rattle.text.specs.Put.{Written};
+ghost use Rattle.feed.specs.Machine.{startState};
+ghost use Rattle.script.specs.Listing.{closing};
+ghost use Rattle.script.specs.Listing.{header as Listing·header};
+ghost use Rattle.script.specs.Claims.{Claims};
 
-pub mod feed;
-mod turn;
+// The first line of every listing.
+pub fn header(out: &mut [u8]) -> usize
+    ensures { λ r. ⌜ Written 22 0 Listing·header r (now (out .entry)) (now (out .exit)) ⌝ }
+{
+    text::copy(out, 0, b"record word end1 end2\n")
+}
 
-// Where a script stands: the pair, how many records have been run, and whether the script has ended.
-pub struct State {
-    pub pair: Pair,
-    pub number: u64,
-    pub ended: bool,
+// No record has been run. The pair is what a refused create hands back.
+pub fn start() -> State
+    ensures { λ r. ⌜ r ≡ startState ⌝ }
+{
+    let ring = [0u8; 1];
+    let table = [0u32; 1];
+    let s = Pair::create(0, 0, 0, 0, &ring, &table, &ring, &table);
+    let pair = s.pair;
+    State {
+        pair,
+        number: 0,
+        ended: false,
+    }
+}
+
+// The end of the input: bytes that are left are a record that is cut.
+pub fn finish(st: State, offset: u64, left: &[u8], out: &mut [u8]) -> usize
+    ensures { λ r. ⌜ Written 26 0 (closing offset (st .ended) (now (left .entry))) r (now (out .entry)) (now (out .exit)) ⌝ }
+{
+    if left.len() == 0 {
+        return 0;
+    }
+    if st.ended {
+        return 0;
+    }
+    text::stop(out, 0, offset)
 }
 
 // Its contract is all that is claimed of feeding, so that to prove this crate is to prove every claim. It does nothing.

@@ -1,24 +1,35 @@
--- What the loop keeps that feeds the bytes in the buffer. Assumes nothing.
-use Prim.Native.Nat.{ℕ, _+_, _-_, _≤_}
+-- What the program's two loops keep. Assumes nothing.
+use Prim.Native.Nat.{ℕ, _+_, _-_, _≤_, _<_}
 use native.Mathlib.Omega.{arith}
 use mathlib.Core.Path.{_≡_, refl, sym, ap, _∙_}
-use mathlib.Core.Bool.{true}
+use mathlib.Core.Bool.{Bool, true, false}
 use mathlib.Core.List.{List}
 use lib.ListN.{length, take, drop, length-take}
 use lib.Seq.{drop-drop}
-use borrow.Author.Tests.{le-leb}
+use borrow.Author.Tests.{le-leb, ltb-true}
 use Rattle.status.specs.Choice.{pick, _and_}
 use Rattle.line.specs.Line.{LINE}
-use Rattle.call.specs.Call.{Rings}
-use Rattle.script.specs.declared.State.{State}
-use Rattle.script.specs.declared.feed.Progress.{Progress}
-use Rattle.script.specs.Machine.{Machine, machine, stay, moveOf}
-use Rattle.script.specs.Turn.{LIMIT}
-use Rattle.script.specs.Feed.{isReady, Block, fedFrom, fedOf, allOf, shifted, frontOf, Advanced}
-use Rattle.script.proofs.Blocks.{tells, fed-ready}
+use Rattle.plain_call.specs.Rings.{Rings}
+use Rattle.feed.specs.declared.State.{State}
+use Rattle.buffer.specs.declared.Progress.{Progress}
+use Rattle.feed.specs.Machine.{Machine, machine, stay, moveOf}
+use Rattle.feed.specs.Turn.{LIMIT}
+use Rattle.feed.specs.Feed.{isReady, Block, fedFrom, fedOf, allOf}
+use Rattle.buffer.specs.Buffer.{shifted, frontOf, Advanced}
+use Rattle.feed.proofs.Blocks.{fed-ready}
+use Rattle.script.proofs.Tells.{tells}
 use Rattle.script.proofs.Alls.{all-stay, splits, fed-idle}
-use Rattle.script.proofs.Fronts.{front-fed, front-left}
-use Rattle.socket_script.specs.Drain.{Drained}
+use Rattle.buffer.proofs.Fronts.{front-fed, front-left}
+use Rattle.socket_script.specs.Drain.{isOpen, Held, movesOf, Step, Steps, Drained}
+
+-- where the program reads on, a whole buffer more stays within LIMIT
+pub open-below : (ended : Bool) (offset : ℕ) → isOpen ended offset ≡ true → offset < 4611686018427256832
+unfolding isOpen pick
+open-below true offset e =
+    let z : _≡_ {A = Bool} false true = e in
+    let n : _≡_ {A = ℕ} 0 1 = (cc) in
+    omega arith
+open-below false offset e = ltb-true _ _ e
 
 -- from the begin on, where s₀ was at hand, what is left to do is what m does with the bytes s that are in use
 pub record Stands (p₀ : Progress) (m₀ : Machine) (s₀ : List ℕ) (p : Progress) (m : Machine) (s : List ℕ) : Type 0 where
@@ -125,22 +136,22 @@ module _ (p₀ : Progress) (m₀ : Machine) (s₀ : List ℕ) (p : Progress) (bu
         ∙ fed-idle (p .offset) (length out) m s room k
 
 -- all moves were made
-pub drained : (p₀ : Progress) (m₀ : Machine) (buffer buffer′ memory′ : List ℕ) (z′ : Rings) (r : Progress)
-    → Stands p₀ m₀ (take (p₀ .used) buffer) r (machine (r .state) memory′ z′) (take (r .used) buffer′)
-    → moveOf (machine (r .state) memory′ z′) (take (r .used) buffer′) ≡ stay
-    → Drained (allOf (p₀ .offset) m₀ (take (p₀ .used) buffer)) p₀ buffer buffer′ memory′ z′ r
-drained p₀ m₀ buffer buffer′ memory′ z′ r f e =
-    let m : Machine = machine (r .state) memory′ z′ in
-    let s : List ℕ = take (r .used) buffer′ in
-    let a : Block = allOf (p₀ .offset) m₀ (take (p₀ .used) buffer) in
-    let n = all-stay (r .offset) m s e in
-    let k : allOf (r .offset) m s .taken ≡ 0 = ap (λ (x : Block). x .taken) n in
-    let o : r .offset ≡ p₀ .offset + a .taken = omega (arith, f .taken, k) in
-    let i : r .offset - p₀ .offset ≡ a .taken = omega arith in
+pub drained : (x y : Held) → ((w : Held) × Steps x w × Step w y × (y .at .used ≡ w .at .used))
+    → Stands (x .at) (machine (x .at .state) (x .memory) (x .lent)) (take (x .at .used) (x .buffer)) (y .at) (machine (y .at .state) (y .memory) (y .lent)) (take (y .at .used) (y .buffer))
+    → moveOf (machine (y .at .state) (y .memory) (y .lent)) (take (y .at .used) (y .buffer)) ≡ stay → Drained x y
+drained x y l f e =
+    let m : Machine = machine (y .at .state) (y .memory) (y .lent) in
+    let s : List ℕ = take (y .at .used) (y .buffer) in
+    let a : Block = movesOf x in
+    let n = all-stay (y .at .offset) m s e in
+    let k : allOf (y .at .offset) m s .taken ≡ 0 = ap (λ (x : Block). x .taken) n in
+    let o : y .at .offset ≡ x .at .offset + a .taken = omega (arith, f .taken, k) in
+    let i : y .at .offset - x .at .offset ≡ a .taken = omega arith in
     record {
+      calls = l;
       after = sym (f .after ∙ ap (λ (x : Block). x .after) n);
       offset = o;
-      left = f .left ∙ ap (λ (j : ℕ). drop j (take (p₀ .used) buffer)) i;
+      left = f .left ∙ ap (λ (j : ℕ). drop j (take (x .at .used) (x .buffer))) i;
       used = f .sum;
       within = f .within;
       count = f .count;

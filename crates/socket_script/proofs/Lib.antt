@@ -1,2 +1,2 @@
--- Drains: what the loop keeps that feeds the bytes in the buffer
+-- Drains: what the program's two loops keep
 pub mod Drains

@@ -1,16 +1,46 @@
--- What the function says that feeds the bytes in the buffer until no move is left.
-use Prim.Native.Nat.{ℕ, _+_, _≤_}
+-- When the program reads on, what the function says that reads, and the one that feeds the bytes in the buffer until no move is left.
+use Prim.Native.Nat.{ℕ, _+_, _-_, _≤_}
 use mathlib.Core.Path.{_≡_}
+use mathlib.Core.Bool.{Bool, false}
 use mathlib.Core.List.{List}
 use lib.ListN.{length, take, drop}
+use lib.Dec.{ltb}
+use Rattle.status.specs.Choice.{pick}
 use Rattle.line.specs.Line.{LINE}
-use Rattle.call.specs.Call.{Rings}
-use Rattle.script.specs.declared.feed.Progress.{Progress}
-use Rattle.script.specs.Machine.{machine}
-use Rattle.script.specs.Turn.{LIMIT}
-use Rattle.script.specs.Feed.{Block}
+use Rattle.plain_call.specs.Rings.{Rings}
+use Rattle.buffer.specs.declared.Progress.{Progress}
+use Rattle.feed.specs.Machine.{machine}
+use Rattle.feed.specs.Turn.{LIMIT}
+use Rattle.feed.specs.Feed.{Block, allOf}
+use Rattle.buffer.specs.Buffer.{frontOf, Advanced}
 
--- what it asks for: the bytes in use stand in the buffer, no number is above LIMIT, and a line has room
+-- 01 "Script program": whether the program reads on. Not once the script has ended, nor where one more buffer might take the bytes above LIMIT
+unfoldable pub isOpen : (ended : Bool) → (offset : ℕ) → Bool
+isOpen ended offset = pick ended false (ltb offset (LIMIT - 131072))
+
+-- ---- reading
+
+-- after a read behind the bytes in use: so many bytes more are in use, those before them stay as they were, and so does the buffer's length. Which bytes
+-- stand behind them cannot be said: the contract of the operating system's `read` says nothing of them
+pub record ReadIn (used got : ℕ) (buffer buffer′ : List ℕ) : Type 0 where
+  pub within : used + got ≤ length buffer
+  pub size : length buffer′ ≡ length buffer
+  pub front : take used buffer′ ≡ take used buffer
+
+-- ---- feeding
+
+-- where a script stands, and all that the program lends
+pub record Held : Type 0 where
+  pub at : Progress
+  pub buffer : List ℕ
+  pub memory : List ℕ
+  pub lent : Rings
+  pub out : List ℕ
+
+abbrev pub held : Progress → (buffer memory : List ℕ) → Rings → (out : List ℕ) → Held
+held p buffer memory z out = record { at = p; buffer = buffer; memory = memory; lent = z; out = out }
+
+-- what draining asks for: the bytes in use stand in the buffer, no number is above LIMIT, and a line has room
 pub record DrainMay (p : Progress) (buffer memory out : List ℕ) : Type 0 where
   pub used : p .used ≤ length buffer
   pub count : p .state .number ≤ p .offset
@@ -18,12 +48,29 @@ pub record DrainMay (p : Progress) (buffer memory out : List ℕ) : Type 0 where
   pub size : length memory ≤ 4096
   pub room : LINE ≤ length out
 
--- b, all moves that the bytes in use make, was done: the bytes that it left stand at the front, and those that it took are counted. That its text was
--- written cannot be said
-pub record Drained (b : Block) (p : Progress) (buffer buffer′ memory′ : List ℕ) (z′ : Rings) (r : Progress) : Type 0 where
-  pub after : machine (r .state) memory′ z′ ≡ b .after
-  pub offset : r .offset ≡ p .offset + b .taken
-  pub left : take (r .used) buffer′ ≡ drop (b .taken) (take (p .used) buffer)
-  pub used : r .offset + r .used ≡ p .offset + p .used
-  pub within : r .used ≤ p .used
-  pub count : r .state .number ≤ r .offset
+-- all moves that the bytes in use make
+abbrev pub movesOf : Held → Block
+movesOf x = allOf (x .at .offset) (machine (x .at .state) (x .memory) (x .lent)) (take (x .at .used) (x .buffer))
+
+-- one call of `advance`
+abbrev pub Step : (x y : Held) → Type 0
+Step x y =
+    Advanced (frontOf (x .at) (length (x .out)) (x .buffer) (x .memory) (x .lent)) (x .at) (x .buffer) (y .buffer) (y .memory) (y .lent) (x .out) (y .out)
+    (y .at)
+
+-- calls of `advance`, one after the other, each of which takes bytes
+pub data Steps (x : Held) : Held → Type 0 where
+  none : Steps x x
+  more : {y z : Held} → Steps x y → Step y z → (z .at .used ≡ y .at .used → ⊥) → Steps x z
+
+-- y is what calls of `advance` leave, up to the first that takes nothing: this settles the state and every lent slice, byte for byte. So all moves were
+-- made that the bytes in use make; the bytes that they left stand at the front, and those that they took are counted. That the text of each call was
+-- written to standard output cannot be said
+pub record Drained (x y : Held) : Type 0 where
+  pub calls : (w : Held) × Steps x w × Step w y × (y .at .used ≡ w .at .used)
+  pub after : machine (y .at .state) (y .memory) (y .lent) ≡ movesOf x .after
+  pub offset : y .at .offset ≡ x .at .offset + movesOf x .taken
+  pub left : take (y .at .used) (y .buffer) ≡ drop (movesOf x .taken) (take (x .at .used) (x .buffer))
+  pub used : y .at .offset + y .at .used ≡ x .at .offset + x .at .used
+  pub within : y .at .used ≤ x .at .used
+  pub count : y .at .state .number ≤ y .at .offset

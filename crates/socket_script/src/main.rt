@@ -1,24 +1,21 @@
 // A script from standard input; its listing to standard output. Both go in large blocks.
-use script::feed;
-use script::feed::Progress;
-ghost use Prim.Native.Nat.{_+_, _≤_};
+use buffer::Progress;
+ghost use Prim.Native.Nat.{_≤_};
 ghost use mathlib.Core.Path.{_≡_};
 ghost use lib.ListN.{length, take};
 ghost use Rattle.text.specs.Put.{place};
-ghost use Rattle.call.specs.Call.{rings};
-ghost use Rattle.script.specs.Machine.{machine};
+ghost use Rattle.plain_call.specs.Rings.{rings};
 ghost use Rattle.script.specs.Listing.{header, closing};
-ghost use Rattle.script.specs.Feed.{allOf};
-ghost use Rattle.socket_script.specs.Drain.{DrainMay, Drained};
+ghost use Rattle.socket_script.specs.Drain.{isOpen, ReadIn, DrainMay, held, Drained};
 
 const STDIN: i32 = 0;
 
 const STDOUT: i32 = 1;
 
-// Reads behind the bytes that are in use; 0 at the end of the input.
+// Reads behind the bytes that are in use, which stay as they were; 0 at the end of the input.
 fn read_in(buffer: &mut [u8], used: usize) -> usize
     requires { ⌜ used ≤ length (now buffer) ⌝ }
-    ensures { λ r. ⌜ used + r ≤ length (now (buffer .entry)) ⌝ }
+    ensures { λ r. ⌜ ReadIn used r (now (buffer .entry)) (now (buffer .exit)) ⌝ }
 {
     let got = libc::read(STDIN, &mut buffer[used..]);
     io::count(got, &buffer[used..])
@@ -36,12 +33,12 @@ fn drain(
     out: &mut [u8],
 ) -> Progress
     requires { ⌜ DrainMay p (now buffer) (now memory) (now out) ⌝ }
-    ensures { λ r. ⌜ Drained (allOf (p .offset) (machine (p .state) (now (memory .entry)) (rings (now («ring_one» .entry)) (now («table_one» .entry)) (now («ring_two» .entry)) (now («table_two» .entry)))) (take (p .used) (now (buffer .entry)))) p (now (buffer .entry)) (now (buffer .exit)) (now (memory .exit)) (rings (now («ring_one» .exit)) (now («table_one» .exit)) (now («ring_two» .exit)) (now («table_two» .exit))) r ⌝ }
+    ensures { λ r. ⌜ Drained (held p (now (buffer .entry)) (now (memory .entry)) (rings (now («ring_one» .entry)) (now («table_one» .entry)) (now («ring_two» .entry)) (now («table_two» .entry))) (now (out .entry))) (held r (now (buffer .exit)) (now (memory .exit)) (rings (now («ring_one» .exit)) (now («table_one» .exit)) (now («ring_two» .exit)) (now («table_two» .exit))) (now (out .exit))) ⌝ }
 {
     let mut q = p;
     loop {
         let used = q.used;
-        q = feed::advance(
+        q = buffer::advance(
             q,
             buffer,
             memory,
@@ -65,7 +62,7 @@ fn begin(out: &mut [u8])
     requires { ⌜ 22 ≤ length (now out) ⌝ }
     ensures { λ _. ⌜ now (out .exit) ≡ place 0 header (now (out .entry)) ⌝ }
 {
-    let n = feed::header(out);
+    let n = script::header(out);
     io::write_all(STDOUT, &out[0..n]);
 }
 
@@ -76,11 +73,21 @@ fn close(p: Progress, buffer: &[u8], out: &mut [u8])
 {
     let st = p.state;
     let used = p.used;
-    let n = feed::finish(st, p.offset, &buffer[0..used], out);
+    let n = script::finish(st, p.offset, &buffer[0..used], out);
     io::write_all(STDOUT, &out[0..n]);
 }
 
-// It reads no more once the bytes might be more than 2 ^ 62, since `feed` takes none then.
+// Whether more is to be read. 01 "Script program": a script that printed `stop N` or the line of a refused create has ended, and the program ends with it,
+// whether or not the input has ended. It ends too once the bytes might be more than 2 ^ 62, since `feed` takes none then.
+fn is_open(ended: bool, offset: u64) -> bool
+    ensures { λ r. ⌜ r ≡ isOpen ended offset ⌝ }
+{
+    if ended {
+        return false;
+    }
+    offset < 4611686018427256832
+}
+
 fn main() {
     let mut memory_array = [0u8; 4096];
     let mut ring_one_array = [0u8; 4096];
@@ -96,9 +103,9 @@ fn main() {
     let table_two: &mut [u32] = &mut table_two_array;
     let buffer: &mut [u8] = &mut buffer_array;
     let out: &mut [u8] = &mut out_array;
-    let mut p = feed::first();
+    let mut p = buffer::first();
     begin(out);
-    while p.offset < 4611686018427256832 {
+    while is_open(p.state.ended, p.offset) {
         let used = p.used;
         let got = read_in(buffer, used);
         if got == 0 {

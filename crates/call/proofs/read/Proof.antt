@@ -1,7 +1,8 @@
 use borrow.Author.Needs.{needs}
 use denote.Ref.{now}
-use Rattle.call.proofs.Calls.{got, own-ring-one, own-ring-two, own-table-one, own-table-two}
-use Rattle.call.specs.Call.{rings}
+use Rattle.call.proofs.Calls.{got}
+use Rattle.plain_call.proofs.Steps.{own-ring-one, own-ring-two, own-table-one, own-table-two}
+use Rattle.plain_call.specs.Rings.{rings}
 use Rattle.call.proofs.read.Statement.{statement}
 use Rattle.call.proofs.read.Tie as tie
 

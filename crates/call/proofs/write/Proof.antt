@@ -1,7 +1,8 @@
 use borrow.Author.Needs.{needs}
 use denote.Ref.{now}
-use Rattle.call.proofs.Calls.{wrote, peer-ring-one, peer-ring-two, peer-table-one, peer-table-two, with-peer-one, with-peer-two}
-use Rattle.call.specs.Call.{rings}
+use Rattle.call.proofs.Calls.{wrote}
+use Rattle.plain_call.proofs.Steps.{peer-ring-one, peer-ring-two, peer-table-one, peer-table-two, with-peer-one, with-peer-two}
+use Rattle.plain_call.specs.Rings.{rings}
 use Rattle.call.proofs.write.Statement.{statement}
 use Rattle.call.proofs.write.Tie as tie
 

@@ -3,9 +3,9 @@ use denote.Ref.{now}
 use lib.ListN.{length, take}
 use mathlib.Core.Path.{_≡_, refl, _∙_}
 use native.Mathlib.Omega.{arith}
-use Rattle.call.specs.Call.{rings}
-use Rattle.script.specs.Machine.{machine}
-use Rattle.socket_script.specs.Drain.{DrainMay}
+use Rattle.plain_call.specs.Rings.{rings}
+use Rattle.feed.specs.Machine.{machine}
+use Rattle.socket_script.specs.Drain.{DrainMay, held, Steps, none, more}
 use Rattle.socket_script.proofs.Drains.{Stands, stands, onwards, ends, drained}
 use Rattle.socket_script.proofs.drain.Statement.{statement}
 use Rattle.socket_script.proofs.drain.Tie as tie
@@ -21,6 +21,7 @@ Inv-loop buffer₀ memory₀ ring-one₀ table-one₀ ring-two₀ table-two₀ o
     × (length ring-two ≡ length ring-two₀)
     × (length table-two ≡ length table-two₀)
     × (length out ≡ length out₀)
+    × Steps (held q₀ buffer₀ memory₀ (rings ring-one₀ table-one₀ ring-two₀ table-two₀) out₀) (held q buffer memory (rings ring-one table-one ring-two table-two) out)
 
 abbrev μ-loop : tie.MeasureT-loop
 μ-loop buffer₀ memory₀ ring-one₀ table-one₀ ring-two₀ table-two₀ out₀ q₀ buffer memory ring-one table-one ring-two table-two out q = q .used
@@ -29,7 +30,7 @@ loop-holds : tie.Need-loop-holds Inv-loop μ-loop
 loop-holds c =
     let a = c .before .before .before .before .before .before .before .args in
     let q = c .before .before .before .before .before .before .before .pre in
-    (stands (a .p) (machine (a .p .state) (now (a .memory)) (rings (now (a .ring-one)) (now (a .table-one)) (now (a .ring-two)) (now (a .table-two)))) (take (a .p .used) (now (a .buffer))) (q .count), q, refl, refl, refl, refl, refl, refl, refl)
+    (stands (a .p) (machine (a .p .state) (now (a .memory)) (rings (now (a .ring-one)) (now (a .table-one)) (now (a .ring-two)) (now (a .table-two)))) (take (a .p .used) (now (a .buffer))) (q .count), q, refl, refl, refl, refl, refl, refl, refl, none)
 
 advance-requires : tie.Need-advance-requires Inv-loop μ-loop
 advance-requires c κs = search needs
@@ -66,6 +67,7 @@ loop-again c =
       k .kept .1 .1 .1 .1 .1 .0 ∙ l .inv .6,
       k .kept .1 .1 .1 .1 .1 .1 .0 ∙ l .inv .7,
       k .kept .1 .1 .1 .1 .1 .1 .1 .0 ∙ l .inv .8,
+      more (l .inv .9) (k .ensures) (c .if1 .left),
     )
 
 same-length : tie.Need-same-length Inv-loop μ-loop
@@ -94,7 +96,7 @@ returns c =
     let l = c .before .before .before .before .before .before .before .before .before .before .before .before .before .before .before .before .before .before .before .before .before .before .before .before .before .before .before .loop in
     let k = c .before .before .before .before .before .before .before .before .before .before .before .before .before .before .before .before .before .before .before .advance in
     let a = c .before .before .before .before .before .before .before .before .before .before .before .before .before .before .before .before .before .before .before .before .before .before .before .before .before .before .before .before .before .before .before .before .before .before .before .args in
-    drained (a .p) (machine (a .p .state) (now (a .memory)) (rings (now (a .ring-one)) (now (a .table-one)) (now (a .ring-two)) (now (a .table-two)))) (now (a .buffer)) _ _ _ (k .result) (onwards (a .p) (machine (a .p .state) (now (a .memory)) (rings (now (a .ring-one)) (now (a .table-one)) (now (a .ring-two)) (now (a .table-two)))) (take (a .p .used) (now (a .buffer))) (l .q) (l .buffer) _ (l .memory) _ (rings (l .ring-one) (l .table-one) (l .ring-two) (l .table-two)) _ (l .out) _ (k .result) (l .inv .0) (k .ensures) (omega (arith, l .inv .0 .within, l .inv .1 .used, l .inv .2)) (l .inv .1 .total) (omega (arith, l .inv .1 .size, l .inv .3)))
+    drained _ _ (held (l .q) (l .buffer) (l .memory) (rings (l .ring-one) (l .table-one) (l .ring-two) (l .table-two)) (l .out), l .inv .9, k .ensures, c .if1 .taken) (onwards (a .p) (machine (a .p .state) (now (a .memory)) (rings (now (a .ring-one)) (now (a .table-one)) (now (a .ring-two)) (now (a .table-two)))) (take (a .p .used) (now (a .buffer))) (l .q) (l .buffer) _ (l .memory) _ (rings (l .ring-one) (l .table-one) (l .ring-two) (l .table-two)) _ (l .out) _ (k .result) (l .inv .0) (k .ensures) (omega (arith, l .inv .0 .within, l .inv .1 .used, l .inv .2)) (l .inv .1 .total) (omega (arith, l .inv .1 .size, l .inv .3)))
     (ends (a .p) (machine (a .p .state) (now (a .memory)) (rings (now (a .ring-one)) (now (a .table-one)) (now (a .ring-two)) (now (a .table-two)))) (take (a .p .used) (now (a .buffer))) (l .q) (l .buffer) _ (l .memory) _ (rings (l .ring-one) (l .table-one) (l .ring-two) (l .table-two)) _ (l .out) _ (k .result) (l .inv .0) (k .ensures) (omega (arith, l .inv .0 .within, l .inv .1 .used, l .inv .2)) (l .inv .1 .total) (omega (arith, l .inv .1 .size, l .inv .3)) (omega (arith, l .inv .1 .room, l .inv .8)) (c .if1 .taken))
 
 pub drain-spec : {M : Type 1} → statement M

@@ -2,11 +2,12 @@ use Prim.Native.Nat.{ℕ, _+_, _-_, _≤_, _<_}
 use borrow.Author.Needs.{needs}
 use lib.ListN.{length, length-replicate}
 use mathlib.Core.Logic.{⊎-elim}
-use mathlib.Core.Path.{_≡_, refl, ap, _∙_}
+use mathlib.Core.Path.{_≡_, refl, sym, ap, _∙_}
 use native.Mathlib.Omega.{arith}
-use Rattle.script.specs.Machine.{startState}
-use Rattle.script.specs.Turn.{LIMIT}
-use Rattle.script.specs.declared.feed.Progress.{Progress}
+use Rattle.feed.specs.Machine.{startState}
+use Rattle.feed.specs.Turn.{LIMIT}
+use Rattle.buffer.specs.declared.Progress.{Progress}
+use Rattle.socket_script.proofs.Drains.{open-below}
 use Rattle.socket_script.proofs.main.Statement.{statement}
 use Rattle.socket_script.proofs.main.Tie as tie
 
@@ -62,6 +63,9 @@ loop-holds c =
     let n : f .result .state .number ≡ 0 = ap (λ (q : Progress). q .state .number) (f .ensures) ∙ none in
     (omega (arith, u), length-replicate {A = ℕ} 131072 z, c .before .before .begin .kept .0 ∙ length-replicate {A = ℕ} 262144 z, length-replicate {A = ℕ} 4096 z, omega (arith, u, o), omega (arith, n))
 
+is-open-requires : tie.Need-is-open-requires Inv-loop μ-loop
+is-open-requires c κs = search needs
+
 read-in-requires : tie.Need-read-in-requires Inv-loop μ-loop
 read-in-requires c κs =
     let l = c .before .before .before .loop in
@@ -69,16 +73,16 @@ read-in-requires c κs =
     h
 
 add-p : tie.Need-add-p Inv-loop μ-loop
-add-p c = omega (arith, c .before .before .before .read-in .ensures, c .before .before .before .before .before .before .before .loop .inv .1)
+add-p c = omega (arith, c .before .before .before .read-in .ensures .within, c .before .before .before .before .before .before .before .loop .inv .1)
 
 drain-requires : tie.Need-drain-requires Inv-loop μ-loop
 drain-requires c κs =
     let l = c .before .before .before .before .before .before .before .before .before .before .before .before .before .before .loop in
     let r = c .before .before .before .before .before .before .before .before .before .before .read-in in
     record {
-      used = omega (arith, r .ensures, r .kept .0);
+      used = omega (arith, r .ensures .within, r .ensures .size);
       count = l .inv .5;
-      total = omega (arith, r .ensures, l .inv .1, c .before .before .before .before .before .before .before .before .before .before .before .before .if1 .taken);
+      total = omega (arith, r .ensures .within, l .inv .1, open-below _ _ (sym (c .before .before .before .before .before .before .before .before .before .before .before .before .before .is-open .ensures) ∙ c .before .before .before .before .before .before .before .before .before .before .before .before .if1 .taken));
       size = omega (arith, l .inv .3);
       room = omega (arith, l .inv .2);
     }
@@ -89,10 +93,10 @@ loop-less c =
     let r = c .before .before .before .before .before .before .before .before .before .before .before .before .before .before .before .before .before .before .before .before .before .before .before .before .before .read-in in
     let d = c .before .before .before .before .before .before .before .before .before .before .before .before .before .before .drain in
     let e : d .result .offset + d .result .used ≡ l .p .offset + (l .p .used + r .result) = d .ensures .used in
-    let t : l .p .offset < 4611686018427256832 = c .before .before .before .before .before .before .before .before .before .before .before .before .before .before .before .before .before .before .before .before .before .before .before .before .before .before .before .if1 .taken in
+    let t : l .p .offset < 4611686018427256832 = open-below _ _ (sym (c .before .before .before .before .before .before .before .before .before .before .before .before .before .before .before .before .before .before .before .before .before .before .before .before .before .before .before .before .is-open .ensures) ∙ c .before .before .before .before .before .before .before .before .before .before .before .before .before .before .before .before .before .before .before .before .before .before .before .before .before .before .before .if1 .taken) in
     let n : r .result ≡ 0 → ⊥ = c .before .before .before .before .before .before .before .before .before .before .before .before .before .before .before .before .before .before .before .before .before .before .if2 .left in
     let h : LIMIT - (d .result .offset + d .result .used) < LIMIT - (l .p .offset + l .p .used) =
-    omega (arith, r .ensures, l .inv .0, l .inv .1, l .inv .4) in
+    omega (arith, r .ensures .within, l .inv .0, l .inv .1, l .inv .4) in
     h
 
 loop-again : tie.Need-loop-again Inv-loop μ-loop
@@ -101,17 +105,17 @@ loop-again c =
     let r = c .before .before .before .before .before .before .before .before .before .before .before .before .before .before .before .before .before .before .before .before .before .before .before .before .before .read-in in
     let d = c .before .before .before .before .before .before .before .before .before .before .before .before .before .before .drain in
     let e : d .result .offset + d .result .used ≡ l .p .offset + (l .p .used + r .result) = d .ensures .used in
-    let t : l .p .offset < 4611686018427256832 = c .before .before .before .before .before .before .before .before .before .before .before .before .before .before .before .before .before .before .before .before .before .before .before .before .before .before .before .if1 .taken in
+    let t : l .p .offset < 4611686018427256832 = open-below _ _ (sym (c .before .before .before .before .before .before .before .before .before .before .before .before .before .before .before .before .before .before .before .before .before .before .before .before .before .before .before .before .is-open .ensures) ∙ c .before .before .before .before .before .before .before .before .before .before .before .before .before .before .before .before .before .before .before .before .before .before .before .before .before .before .before .if1 .taken) in
     let n : r .result ≡ 0 → ⊥ = c .before .before .before .before .before .before .before .before .before .before .before .before .before .before .before .before .before .before .before .before .before .before .if2 .left in
     let u : d .result .used ≤ l .p .used + r .result = d .ensures .within in
-    let h : d .result .used ≤ 131072 = omega (arith, r .ensures, l .inv .1) in
-    let g : d .result .offset + d .result .used ≤ LIMIT = omega (arith, r .ensures, l .inv .1) in
-    (h, d .kept .1 .0 ∙ r .kept .0 ∙ l .inv .1, d .kept .1 .1 .1 .1 .1 .1 .1 .0 ∙ l .inv .2, d .kept .1 .1 .0 ∙ l .inv .3, g, d .ensures .count)
+    let h : d .result .used ≤ 131072 = omega (arith, r .ensures .within, l .inv .1) in
+    let g : d .result .offset + d .result .used ≤ LIMIT = omega (arith, r .ensures .within, l .inv .1) in
+    (h, d .kept .1 .0 ∙ r .ensures .size ∙ l .inv .1, d .kept .1 .1 .1 .1 .1 .1 .1 .0 ∙ l .inv .2, d .kept .1 .1 .0 ∙ l .inv .3, g, d .ensures .count)
 
 close-requires : tie.Need-close-requires Inv-loop μ-loop
 close-requires c κs =
     let i = c .before .before .before .loop .inv in
-    ⊎-elim (λ w. (omega (arith, ap length (w .6), i .0, i .1), omega (arith, i .2))) (λ w. (omega (arith, ap length (w .11), w .2 .kept .0, i .0, i .1), omega (arith, i .2)))
+    ⊎-elim (λ w. (omega (arith, ap length (w .6), i .0, i .1), omega (arith, i .2))) (λ w. (omega (arith, ap length (w .11), w .2 .ensures .size, i .0, i .1), omega (arith, i .2)))
     (c .before .if1 .came)
 
 returns : tie.Need-returns Inv-loop μ-loop
@@ -133,6 +137,7 @@ main-spec =
     first-requires
     begin-requires
     loop-holds
+    is-open-requires
     read-in-requires
     add-p
     drain-requires

@@ -5,7 +5,7 @@ use denote.Ref.{now}
 use native.Mathlib.Nat.{sub-zero}
 use mathlib.Core.Path.{ap, _∙_}
 use lib.ListN.{length, take, drop, length-take}
-use Rattle.script.specs.Turn.{LIMIT}
+use Rattle.feed.specs.Turn.{LIMIT}
 use Rattle.replay.specs.Entry.{bytesOf}
 use Rattle.replay.proofs.Entries.{listing-is, agreement}
 use borrow.Author.Needs.{needs}

@@ -1,0 +1,65 @@
+use borrow.Author.Needs.{needs}
+use denote.Ref.{now}
+use mathlib.Core.Path.{_∙_}
+use native.Mathlib.Omega.{arith}
+use Rattle.feed.proofs.Turns.{step-done}
+use Rattle.plain_call.specs.Rings.{rings}
+use Rattle.feed.proofs.turn.step.Statement.{statement}
+use Rattle.feed.proofs.turn.step.Tie as tie
+
+call-requires : tie.Need-call-requires
+call-requires c κs = search needs
+
+print-requires : tie.Need-print-requires
+print-requires c κs = omega (arith, c .before .before .before .before .before .before .before .before .before .before .before .before .before .call .kept .1 .1 .1 .0, c .before .before .before .before .before .before .before .before .before .before .before .before .before .before .before .before .before .before .before .before .before .before .before .before .before .before .before .pre .size)
+
+settle-requires : tie.Need-settle-requires
+settle-requires c κs = search needs
+
+add-t33 : tie.Need-add-t33
+add-t33 c = omega (arith, c .before .before .before .before .before .before .before .before .before .before .before .before .before .before .before .before .before .before .before .before .before .before .before .before .before .before .before .before .before .before .before .before .before .before .before .pre .number)
+
+is-last-requires : tie.Need-is-last-requires
+is-last-requires c κs = search needs
+
+same-length : tie.Need-same-length
+same-length c = c .before .before .before .before .settle .kept .1 .1 .1 .0 ∙ c .before .before .before .before .before .before .before .before .before .before .before .before .before .before .before .before .before .before .before .before .before .before .call .kept .1 .1 .1 .0
+
+same-length-2 : tie.Need-same-length-2
+same-length-2 c = c .before .before .before .before .before .before .before .before .before .before .before .before .before .before .before .before .before .before .before .before .before .before .call .kept .1 .1 .1 .1 .0
+
+same-length-3 : tie.Need-same-length-3
+same-length-3 c = c .before .before .before .before .before .before .before .before .before .before .before .before .before .before .before .before .before .before .before .before .before .before .call .kept .1 .1 .1 .1 .1 .0
+
+same-length-4 : tie.Need-same-length-4
+same-length-4 c = search needs
+
+same-length-5 : tie.Need-same-length-5
+same-length-5 c = search needs
+
+same-length-6 : tie.Need-same-length-6
+same-length-6 c = search needs
+
+returns : tie.Need-returns
+returns c =
+    let a = c .before .before .before .before .before .before .before .before .before .before .before .before .before .before .before .before .before .before .before .before .before .before .before .before .before .before .before .before .before .before .before .before .before .before .before .before .args in
+    step-done (a .st) (a .tag) (a .at) _ (now (a .body)) (now (a .memory)) _ _ (now (a .out)) _
+    (rings (now (a .ring-one)) (now (a .table-one)) (now (a .ring-two)) (now (a .table-two))) _ (c .before .before .before .before .before .before .before .before .before .before .before .before .before .before .before .before .before .before .before .before .before .before .call .result) _
+    (c .before .before .before .before .before .before .before .before .before .before .before .before .before .before .before .before .before .before .before .before .before .before .call .ensures .made (c .before .before .before .before .before .before .before .before .before .before .before .before .before .before .before .before .before .before .before .before .before .before .before .before .before .before .before .before .before .before .before .before .before .before .before .before .pre .body)) (c .before .before .before .before .before .before .before .before .print .ensures) (c .before .before .before .before .settle .ensures) (c .is-last .ensures)
+
+pub step-spec : {M : Type 1} → statement M
+step-spec =
+    tie.close
+    (tie.spec
+    call-requires
+    print-requires
+    settle-requires
+    add-t33
+    is-last-requires
+    same-length
+    same-length-2
+    same-length-3
+    same-length-4
+    same-length-5
+    same-length-6
+    returns)

@@ -1,0 +1,2 @@
+-- Runs: a script run into a buffer
+pub mod Runs

@@ -1,0 +1,150 @@
+-- `run_on` meets its contract: each part of the output that is lent begins within it, and `ran` puts the three texts together.
+use native.Mathlib.Omega.{arith}
+use mathlib.Core.Path.{refl}
+use Rattle.listing.proofs.Runs.{written-fits, ran}
+use borrow.Author.Needs.{needs}
+use Rattle.listing.proofs.run_on.Statement.{statement}
+use Rattle.listing.proofs.run_on.Tie as tie
+
+header-requires : tie.Need-header-requires
+header-requires c κs = search needs
+
+start-requires : tie.Need-start-requires
+start-requires c κs = search needs
+
+sub-feed : tie.Need-sub-feed
+sub-feed c =
+    let begins = written-fits (c .before .before .before .before .before .before .before .before .header .ensures) (omega arith) in
+    let kept = c .before .before .before .before .before .before .before .before .header .kept .0 in
+    omega (arith, begins, kept)
+
+part-feed-start : tie.Need-part-feed-start
+part-feed-start c =
+    let begins = written-fits (c .before .before .before .before .before .before .before .before .header .ensures) (omega arith) in
+    let kept = c .before .before .before .before .before .before .before .before .header .kept .0 in
+    omega (arith, begins, kept)
+
+part-feed-end : tie.Need-part-feed-end
+part-feed-end c = search needs
+
+feed-requires : tie.Need-feed-requires
+feed-requires c κs = search needs
+
+add-at : tie.Need-add-at
+add-at c =
+    let begins = written-fits (c .before .before .before .before .before .before .before .before .before .before .before .before .before .before .before .before .before .before .before .before .before .before .before .header .ensures) (omega arith) in
+    let kept = c .before .before .before .before .before .before .before .before .before .before .before .before .before .before .before .before .before .before .before .before .before .before .before .header .kept .0 in
+    let within = c .before .before .before .before .before .before .before .before .before .before .before .before .before .feed .ensures .fits in
+    let lines = c .before .before .before .before .before .before .before .before .before .before .before .before .before .feed .kept .1 .1 .1 .1 .1 .1 .1 .1 .0 in
+    omega (arith, begins, kept, within, lines, c .before .before .before .before .before .before .before .before .before .before .before .before .before .before .before .before .before .before .before .before .before .before .before .before .before .before .before .before .before .before .before .before .good)
+
+sub-finish : tie.Need-sub-finish
+sub-finish c = search needs
+
+part-finish-start : tie.Need-part-finish-start
+part-finish-start c = search needs
+
+part-finish-end : tie.Need-part-finish-end
+part-finish-end c = search needs
+
+sub-finish-2 : tie.Need-sub-finish-2
+sub-finish-2 c =
+    let begins = written-fits (c .before .before .before .before .before .before .before .before .before .before .before .before .before .before .before .before .before .before .before .before .before .before .before .before .header .ensures) (omega arith) in
+    let kept = c .before .before .before .before .before .before .before .before .before .before .before .before .before .before .before .before .before .before .before .before .before .before .before .before .header .kept .0 in
+    let within = c .before .before .before .before .before .before .before .before .before .before .before .before .before .before .feed .ensures .fits in
+    let lines = c .before .before .before .before .before .before .before .before .before .before .before .before .before .before .feed .kept .1 .1 .1 .1 .1 .1 .1 .1 .0 in
+    omega (arith, begins, kept, within, lines)
+
+part-finish-start-2 : tie.Need-part-finish-start-2
+part-finish-start-2 c =
+    let begins = written-fits (c .before .before .before .before .before .before .before .before .before .before .before .before .before .before .before .before .before .before .before .before .before .before .before .before .header .ensures) (omega arith) in
+    let kept = c .before .before .before .before .before .before .before .before .before .before .before .before .before .before .before .before .before .before .before .before .before .before .before .before .header .kept .0 in
+    let within = c .before .before .before .before .before .before .before .before .before .before .before .before .before .before .feed .ensures .fits in
+    let lines = c .before .before .before .before .before .before .before .before .before .before .before .before .before .before .feed .kept .1 .1 .1 .1 .1 .1 .1 .1 .0 in
+    omega (arith, begins, kept, within, lines)
+
+part-finish-end-2 : tie.Need-part-finish-end-2
+part-finish-end-2 c = search needs
+
+finish-requires : tie.Need-finish-requires
+finish-requires c κs = search needs
+
+add-result : tie.Need-add-result
+add-result c =
+    let begins = written-fits (c .before .before .before .before .before .before .before .before .before .before .before .before .before .before .before .before .before .before .before .before .before .before .before .before .before .before .before .before .header .ensures) (omega arith) in
+    let kept = c .before .before .before .before .before .before .before .before .before .before .before .before .before .before .before .before .before .before .before .before .before .before .before .before .before .before .before .before .header .kept .0 in
+    let within = c .before .before .before .before .before .before .before .before .before .before .before .before .before .before .before .before .before .before .feed .ensures .fits in
+    let lines = c .before .before .before .before .before .before .before .before .before .before .before .before .before .before .before .before .before .before .feed .kept .1 .1 .1 .1 .1 .1 .1 .1 .0 in
+    let rests = written-fits (c .before .before .finish .ensures) (omega arith) in
+    let last = c .before .before .finish .kept .1 .1 .1 .0 in
+    omega (arith, begins, kept, within, lines, rests, last, c .before .before .before .before .before .before .before .before .before .before .before .before .before .before .before .before .before .before .before .before .before .before .before .before .before .before .before .before .before .before .before .before .before .before .before .before .before .good)
+
+same-length : tie.Need-same-length
+same-length c = search needs
+
+same-length-2 : tie.Need-same-length-2
+same-length-2 c = search needs
+
+same-length-3 : tie.Need-same-length-3
+same-length-3 c = search needs
+
+same-length-4 : tie.Need-same-length-4
+same-length-4 c = search needs
+
+same-length-5 : tie.Need-same-length-5
+same-length-5 c = search needs
+
+same-length-6 : tie.Need-same-length-6
+same-length-6 c =
+    let begins = written-fits (c .before .before .before .before .before .before .before .before .before .before .before .before .before .before .before .before .before .before .before .before .before .before .before .before .before .before .before .before .header .ensures) (omega arith) in
+    let kept = c .before .before .before .before .before .before .before .before .before .before .before .before .before .before .before .before .before .before .before .before .before .before .before .before .before .before .before .before .header .kept .0 in
+    let within = c .before .before .before .before .before .before .before .before .before .before .before .before .before .before .before .before .before .before .feed .ensures .fits in
+    let lines = c .before .before .before .before .before .before .before .before .before .before .before .before .before .before .before .before .before .before .feed .kept .1 .1 .1 .1 .1 .1 .1 .1 .0 in
+    let rests = written-fits (c .before .before .finish .ensures) (omega arith) in
+    let last = c .before .before .finish .kept .1 .1 .1 .0 in
+    omega (arith, begins, kept, within, lines, rests, last)
+
+returns : tie.Need-returns
+returns c =
+    let begins = written-fits (c .before .before .before .before .before .before .before .before .before .before .before .before .before .before .before .before .before .before .before .before .before .before .before .before .before .before .before .before .header .ensures) (omega arith) in
+    let kept = c .before .before .before .before .before .before .before .before .before .before .before .before .before .before .before .before .before .before .before .before .before .before .before .before .before .before .before .before .header .kept .0 in
+    let within = c .before .before .before .before .before .before .before .before .before .before .before .before .before .before .before .before .before .before .feed .ensures .fits in
+    let lines = c .before .before .before .before .before .before .before .before .before .before .before .before .before .before .before .before .before .before .feed .kept .1 .1 .1 .1 .1 .1 .1 .1 .0 in
+    let rests = written-fits (c .before .before .finish .ensures) (omega arith) in
+    let last = c .before .before .finish .kept .1 .1 .1 .0 in
+    ran (c .before .before .before .before .before .before .before .before .before .before .before .before .before .before .before .before .before .before .before .before .before .before .before .before .before .before .before .before .before .before .before .before .before .before .before .before .before .pre) (c .before .before .before .before .before .before .before .before .before .before .before .before .before .before .before .before .before .before .before .before .before .before .before .before .before .start .ensures) (c .before .before .before .before .before .before .before .before .before .before .before .before .before .before .before .before .before .before .before .before .before .before .before .before .before .before .before .before .header .ensures) kept (c .before .before .before .before .before .before .before .before .before .before .before .before .before .before .before .before .before .before .feed .ensures)
+    (omega (arith, begins, kept, within, lines, rests, last))
+    (c .before .before .finish .ensures)
+    (omega (arith, begins, kept, within, lines, rests, last))
+    last
+    (omega (arith, begins, kept, within, lines, rests, last))
+    (omega (arith, begins, kept, within, lines, rests, last))
+    refl
+    refl
+
+pub run-on-spec : {M : Type 1} → statement M
+run-on-spec =
+    tie.close
+    (tie.spec
+    header-requires
+    start-requires
+    sub-feed
+    part-feed-start
+    part-feed-end
+    feed-requires
+    add-at
+    sub-finish
+    part-finish-start
+    part-finish-end
+    sub-finish-2
+    part-finish-start-2
+    part-finish-end-2
+    finish-requires
+    add-result
+    same-length
+    same-length-2
+    same-length-3
+    same-length-4
+    same-length-5
+    same-length-6
+    returns)

@@ -1,0 +1,2 @@
+-- Ran: a script run into a buffer
+pub mod Ran

@@ -1,0 +1,2 @@
+-- Steps: the step of a call, by the handle and by the tag
+pub mod Steps

@@ -1,0 +1,43 @@
+use borrow.Author.Needs.{needs}
+use Rattle.plain_call.proofs.Steps.{steps-are}
+use Rattle.plain_call.specs.Plain.{createStep}
+use Rattle.plain_call.proofs.create.Statement.{statement}
+use Rattle.plain_call.proofs.create.Tie as tie
+
+u32-at-requires : tie.Need-u32-at-requires
+u32-at-requires c κs = search needs
+
+u32-at-requires-2 : tie.Need-u32-at-requires-2
+u32-at-requires-2 c κs = search needs
+
+u8-at-requires : tie.Need-u8-at-requires
+u8-at-requires c κs = search needs
+
+cast-one : tie.Need-cast-one
+cast-one c = search needs
+
+u8-at-requires-2 : tie.Need-u8-at-requires-2
+u8-at-requires-2 c κs = search needs
+
+cast-two : tie.Need-cast-two
+cast-two c = search needs
+
+create-requires : tie.Need-create-requires
+create-requires c κs = search needs
+
+returns : tie.Need-returns
+unfolding createStep
+returns c = rw (← c .before .before .before .before .u32-at .ensures, ← c .before .before .before .u32-at2 .ensures, ← c .before .before .u8-at .ensures, ← c .before .u8-at2 .ensures) (steps-are (c .create .ensures))
+
+pub create-spec : {M : Type 1} → statement M
+create-spec =
+    tie.close
+    (tie.spec
+    u32-at-requires
+    u32-at-requires-2
+    u8-at-requires
+    cast-one
+    u8-at-requires-2
+    cast-two
+    create-requires
+    returns)

@@ -1,0 +1,57 @@
+-- What is claimed of feeding: what it puts out is the listing, however the script is cut into blocks.
+use Prim.Native.Nat.{ℕ, _+_, _≤_}
+use mathlib.Core.Path.{_≡_}
+use mathlib.Core.Bool.{true}
+use mathlib.Core.List.{List, [], _∷_, _++_, flatten}
+use lib.ListN.{length, take, drop}
+use Rattle.text.specs.Put.{Written}
+use Rattle.line.specs.Line.{LINE}
+use Rattle.plain_call.specs.Rings.{Rings}
+use Rattle.feed.specs.declared.State.{State}
+use Rattle.feed.specs.declared.Fed.{Fed}
+use Rattle.feed.specs.Machine.{Machine, machine, start, stay, moveOf}
+use Rattle.feed.specs.Turn.{LIMIT}
+use Rattle.feed.specs.Feed.{isReady, Block, fedOf, allOf, FeedDone}
+use Rattle.script.specs.Listing.{closing, run, header, listing}
+
+-- whatever bytes follow those of a block, the listing is its text, and then the listing from the machine after it with the bytes that are left
+abbrev pub Listed : (offset : ℕ) → Machine → List ℕ → Block → Type 0
+Listed offset m s b = (t : List ℕ) → run offset m (s ++ t) ≡ b .text ++ run (offset + b .taken) (b .after) (drop (b .taken) s ++ t)
+
+-- What is put out when a machine that has taken so many bytes has the bytes s at hand and the blocks bs are to come, with room for so many bytes of
+-- text: `more` is a block that comes, `fed` a call of `feed` on the bytes at hand, `done` a call of `finish` at the end of the input.
+pub data Feeds (room : ℕ) : (offset : ℕ) → Machine → (s : List ℕ) → (bs : List (List ℕ)) → (output : List ℕ) → Type 0 where
+  more :
+      {offset : ℕ} {m : Machine} {s b o : List ℕ} {bs : List (List ℕ)} → Feeds room offset m (s ++ b) bs o → Feeds room offset m s (b ∷ bs) o
+  fed :
+      {offset : ℕ} {st : State} {memory memory′ : List ℕ} {z z′ : Rings} {s out out′ o : List ℕ} {bs : List (List ℕ)} {r : Fed}
+      → length out ≡ room → FeedDone st offset s memory memory′ z z′ out out′ r
+      → Feeds room (offset + r .taken) (machine (r .state) memory′ z′) (drop (r .taken) s) bs o
+      → Feeds room offset (machine st memory z) s bs (take (r .written) out′ ++ o)
+  done :
+      {offset : ℕ} {st : State} {memory : List ℕ} {z : Rings} {s out out′ : List ℕ} {r : ℕ} → moveOf (machine st memory z) s ≡ stay
+      → Written 26 0 (closing offset (st .ended) s) r out out′ → length out ≡ room → 26 ≤ room
+      → Feeds room offset (machine st memory z) s [] (take r out′)
+
+-- the header, then what feeding puts out, is the listing, however the script is cut into blocks
+abbrev pub Chain : Type 0
+Chain = (room : ℕ) (bs : List (List ℕ)) (o : List ℕ) → Feeds room 0 start [] bs o → header ++ o ≡ listing (flatten bs)
+
+-- from wherever bytes can be fed there is a feeding to the end, where the output has room for the listing and one line more
+abbrev pub Complete : Type 0
+Complete =
+    (offset room : ℕ) (m : Machine) (s : List ℕ) (bs : List (List ℕ)) → isReady (m .state) offset (length (s ++ flatten bs)) (length (m .memory)) ≡ true
+    → length (run offset m (s ++ flatten bs)) + LINE ≤ room → (o : List ℕ) × Feeds room offset m s bs o
+
+-- every script has a feeding, however it is cut into blocks
+abbrev pub Every : Type 0
+Every =
+    (room : ℕ) (bs : List (List ℕ)) → length (flatten bs) ≤ LIMIT → length (listing (flatten bs)) + LINE ≤ room → (o : List ℕ) × Feeds room 0 start [] bs o
+
+-- what is claimed of feeding
+pub record Claims : Type 0 where
+  pub block : (offset room : ℕ) (m : Machine) (s : List ℕ) → Listed offset m s (fedOf offset room m s)
+  pub all : (offset : ℕ) (m : Machine) (s : List ℕ) → Listed offset m s (allOf offset m s)
+  pub chain : Chain
+  pub complete : Complete
+  pub every : Every
