@@ -21,8 +21,10 @@ mod sides;
 mod stack;
 mod work;
 
-use sides::{Exported, Original, Side};
+use murgwethan::raw::{Pair, Places};
+use sides::{Exported, Original, Side, BATCH};
 use std::hint::black_box;
+use std::mem::{offset_of, size_of};
 use std::time::{Duration, Instant};
 use work::{Lie, Part, Work, MOST};
 
@@ -117,6 +119,24 @@ fn copy_time() -> f64 {
     best
 }
 
+/// The best time to fill the places of one record with zeros, in nanoseconds, over as many records as a
+/// batch of creates makes.
+fn fill_time() -> f64 {
+    const PASSES: usize = 1000;
+    let mut records = vec![[7u8; size_of::<Pair>()]; BATCH];
+    let mut best = f64::INFINITY;
+    for _ in 0..200 {
+        let start = Instant::now();
+        for _ in 0..PASSES {
+            for record in &mut records {
+                black_box(&mut record[offset_of!(Pair, places)..]).fill(0);
+            }
+        }
+        best = best.min(start.elapsed().as_nanos() as f64 / (PASSES * BATCH) as f64);
+    }
+    best
+}
+
 /// Gigabytes a second of the largest copy.
 fn speed(time: f64) -> f64 {
     MOST as f64 / time
@@ -147,7 +167,8 @@ fn main() {
     let (rows, writes) = times.split_at(ROWS.len());
     print_rows(rows);
     print_copies(rows, writes);
+    println!("\nfill of a record's {} B of places: {:.1} ns", size_of::<Places>(), fill_time());
     let (bytes, call) = stack::deepest();
-    println!("\ndeepest stack {bytes} bytes, of {call}");
+    println!("deepest stack {bytes} bytes, of {call}");
     println!("least ratio {:.2}", rows.iter().map(Best::ratio).fold(f64::INFINITY, f64::min));
 }
