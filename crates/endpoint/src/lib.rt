@@ -25,14 +25,15 @@ pub struct Queue {
     pub lengths: Span,
 }
 
+// The order leaves no gap before the thresholds and the queue: a new end is then stored where it stands.
 #[repr(C)]
 pub struct Endpoint {
     pub closed: bool,
     pub read_disabled: bool,
     pub rights: u32,
-    pub signals: u32,
     pub thresholds: Thresholds,
     pub queue: Queue,
+    pub signals: u32,
 }
 
 // What an end shows: its signal word, or that it is closed.

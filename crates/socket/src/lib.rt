@@ -35,12 +35,13 @@ pub use wait::taken;
 pub use wait::taken_only;
 
 // Both ends of a pair, and the places of its waits and packets. It holds no byte that was written.
+// A number stands before the places, not an end, which has a gap behind its last field: a new table is then filled where it stands.
 #[repr(C)]
 pub struct Pair {
-    pub datagram: bool,
-    pub capacity: u32,
     pub one: Endpoint,
     pub two: Endpoint,
+    pub datagram: bool,
+    pub capacity: u32,
     pub places: Places,
 }
 

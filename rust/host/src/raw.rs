@@ -66,12 +66,12 @@ pub struct Endpoint {
     pub read_disabled: bool,
     /// Its rights word.
     pub rights: u32,
-    /// Its signal word.
-    pub signals: u32,
     /// Its thresholds.
     pub thresholds: Thresholds,
     /// What it can read.
     pub queue: Queue,
+    /// Its signal word.
+    pub signals: u32,
 }
 
 /// A wait or its packet.
@@ -104,14 +104,14 @@ pub struct Places {
 #[repr(C)]
 #[derive(Clone, Copy, Debug, Eq, PartialEq)]
 pub struct Pair {
-    /// Whether the pair carries datagrams or a stream.
-    pub datagram: bool,
-    /// The bytes that each queue holds.
-    pub capacity: u32,
     /// End 1.
     pub one: Endpoint,
     /// End 2.
     pub two: Endpoint,
+    /// Whether the pair carries datagrams or a stream.
+    pub datagram: bool,
+    /// The bytes that each queue holds.
+    pub capacity: u32,
     /// The waits and packets.
     pub places: Places,
 }
@@ -125,13 +125,13 @@ impl Pair {
             closed: true,
             read_disabled: false,
             rights: 0,
-            signals: 0,
             thresholds: Thresholds { read: 0, write: 0 },
             queue: Queue { bytes: none, lengths: none },
+            signals: 0,
         };
         let free = Place { key: 0, mask: 0, observed: 0, end: 0 };
         let places = Places { packets: 0, waits: 0, table: [free; 128] };
-        Pair { datagram: false, capacity: 0, one: end, two: end, places }
+        Pair { one: end, two: end, datagram: false, capacity: 0, places }
     };
 }
 

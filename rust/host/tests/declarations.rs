@@ -32,10 +32,10 @@ fn laid_records() -> [Laid; 7] {
         laid!(Span { start, count }),
         laid!(Queue { bytes, lengths }),
         laid!(Thresholds { read, write }),
-        laid!(Endpoint { closed, read_disabled, rights, signals, thresholds, queue }),
+        laid!(Endpoint { closed, read_disabled, rights, thresholds, queue, signals }),
         laid!(Place { key, mask, observed, end }),
         laid!(Places { packets, waits, table }),
-        laid!(Pair { datagram, capacity, one, two, places }),
+        laid!(Pair { one, two, datagram, capacity, places }),
     ]
 }
 
