@@ -9,7 +9,8 @@ use lib.ListN.{length, replicate}
 use Rattle.endpoint.specs.declared.Queue.{Queue}
 use Rattle.endpoint.specs.declared.Endpoint.{Endpoint}
 use Rattle.endpoint.specs.declared.Disposition.the-variants.{Unchanged, Enable}
-use Rattle.runs.specs.Calls.{plainDisposition, control, State, state}
+use Rattle.runs.specs.Calls.{plainDisposition, control}
+use Rattle.runs.specs.State.{State, state}
 use Rattle.cases.specs.States.{stream, datagram, queue, empty, queued, end, opened, closed, pair, eight, slices, long, Row, is, no, rowWord}
 use Rattle.cases.specs.EveryCall.{everyCall, internal}
 

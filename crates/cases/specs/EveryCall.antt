@@ -7,7 +7,8 @@ use Rattle.status.specs.declared.Answer.{Answer}
 use Rattle.status.specs.declared.Answer.the-variants.{Done, Refused}
 use Rattle.status.specs.Answer.{statusNumber}
 use Rattle.endpoint.specs.declared.Disposition.the-variants.{Enable}
-use Rattle.runs.specs.Calls.{setDisposition, shutdown, plainDisposition, plainShutdown, setReadThreshold, setWriteThreshold, getThresholds, getInfo, wait, takePacket, Call, write, read, plainWrite, plainRead, close, control, State}
+use Rattle.runs.specs.Calls.{setDisposition, shutdown, plainDisposition, plainShutdown, setReadThreshold, setWriteThreshold, getThresholds, getInfo, wait, takePacket, Call, write, read, plainWrite, plainRead, close, control}
+use Rattle.runs.specs.State.{State}
 use Rattle.runs.specs.Step.{answerOf}
 use Rattle.cases.specs.Lines.{wordOf}
 use Rattle.cases.specs.States.{finding}

@@ -4,7 +4,8 @@ use mathlib.Core.Path.{_≡_}
 use mathlib.Core.Bool.{false}
 use mathlib.Core.List.{List, [], _∷_, _++_, map}
 use lib.ListN.{replicate}
-use Rattle.runs.specs.Calls.{getInfo, Call, write, read, plainWrite, plainRead, control, State}
+use Rattle.runs.specs.Calls.{getInfo, Call, write, read, plainWrite, plainRead, control}
+use Rattle.runs.specs.State.{State}
 use Rattle.cases.specs.States.{stream, datagram, empty, queued, opened, closed, slices, none, first, Row, is, no, rowWord}
 use Rattle.cases.specs.LentCalls.{each, writesTo, writes, reads, infos, done, refused, lent, noEnd, others}
 

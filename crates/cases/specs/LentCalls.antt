@@ -7,7 +7,8 @@ use lib.IntN.{ℤ, pos, negℤ}
 use Rattle.endpoint.specs.declared.Queue.{Queue}
 use Rattle.endpoint.specs.declared.Endpoint.{Endpoint}
 use Rattle.endpoint.specs.declared.Disposition.the-variants.{Unchanged}
-use Rattle.runs.specs.Calls.{setDisposition, shutdown, plainDisposition, plainShutdown, setReadThreshold, setWriteThreshold, getThresholds, getInfo, wait, Call, write, read, plainWrite, plainRead, close, control, Slices, State, state}
+use Rattle.runs.specs.Calls.{setDisposition, shutdown, plainDisposition, plainShutdown, setReadThreshold, setWriteThreshold, getThresholds, getInfo, wait, Call, write, read, plainWrite, plainRead, close, control}
+use Rattle.runs.specs.State.{Slices, State, state}
 use Rattle.cases.specs.States.{queued, opened, eight, slices, none, Row, row, no}
 
 -- ---- calls that are lent a slice

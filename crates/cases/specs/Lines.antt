@@ -9,7 +9,8 @@ use Rattle.status.specs.declared.Record.the-variants.{Empty, Count, Info, Limit
 use Rattle.status.specs.declared.Answer.{Answer}
 use Rattle.status.specs.declared.Answer.the-variants.{Done, Refused}
 use Rattle.endpoint.specs.declared.SignalWord.{SignalWord}
-use Rattle.runs.specs.Calls.{Create, Input, Slices, State, Seen, seenOf, Outcome}
+use Rattle.runs.specs.Calls.{Create, Input}
+use Rattle.runs.specs.State.{Slices, State, Seen, seenOf, Outcome}
 use Rattle.runs.specs.Run.{createdBy, Run}
 use Rattle.runs.specs.Step.{answerOf, start}
 -- what a call computes with, opened by `linesOf`

@@ -7,7 +7,8 @@ use mathlib.Core.Option.{some}
 use lib.IntN.{pos}
 use Rattle.status.specs.declared.Record.the-variants.{Info, Limits}
 use Rattle.endpoint.specs.declared.SignalWord.the-variants.{Closed, Word}
-use Rattle.runs.specs.Calls.{setDisposition, shutdown, setReadThreshold, setWriteThreshold, getThresholds, getInfo, write, read, close, Outcome}
+use Rattle.runs.specs.Calls.{setDisposition, shutdown, setReadThreshold, setWriteThreshold, getThresholds, getInfo, write, read, close}
+use Rattle.runs.specs.State.{Outcome}
 use Rattle.runs.specs.Step.{outcomes, start}
 use Rattle.cases.specs.Lines.{Line, linesOf}
 use Rattle.cases.specs.Scripts.{stream, datagram, letters, on, c, w, r, wp, rp, line, ok, no, got, ok1, no1, Script, script, create, slices, Show}

@@ -11,7 +11,8 @@ use Rattle.status.specs.declared.Record.{Record}
 use Rattle.status.specs.declared.Record.the-variants.{Packet}
 use Rattle.endpoint.specs.declared.SignalWord.{SignalWord}
 use Rattle.endpoint.specs.declared.SignalWord.the-variants.{Closed, Word}
-use Rattle.runs.specs.Calls.{Create, Control, Call, write, read, plainWrite, plainRead, control, Input, input, Slices}
+use Rattle.runs.specs.Calls.{Create, Control, Call, write, read, plainWrite, plainRead, control, Input, input}
+use Rattle.runs.specs.State.{Slices}
 use Rattle.cases.specs.Lines.{Line, linesOf}
 
 -- ---- calls

@@ -9,7 +9,8 @@ use Rattle.places.specs.Table.{free}
 use Rattle.endpoint.specs.declared.Queue.{Queue}
 use Rattle.endpoint.specs.declared.Endpoint.{Endpoint}
 use Rattle.socket.specs.declared.Pair.{Pair}
-use Rattle.runs.specs.Calls.{Call, Input, input, Slices, State}
+use Rattle.runs.specs.Calls.{Call, Input, input}
+use Rattle.runs.specs.State.{Slices, State}
 use Rattle.cases.specs.Lines.{wordOf}
 
 -- ---- states

@@ -16,7 +16,8 @@ use Rattle.endpoint.specs.declared.Queue.{Queue}
 use Rattle.transfer.specs.Read.{bufferRead}
 use Rattle.socket.specs.Pair.{isOne, own}
 use Rattle.syscall.specs.Read.{bytesLanded}
-use Rattle.runs.specs.Calls.{Call, write, read, plainWrite, plainRead, close, control, Slices, State, ownSlices}
+use Rattle.runs.specs.Calls.{Call, write, read, plainWrite, plainRead, close, control}
+use Rattle.runs.specs.State.{Slices, State, ownSlices}
 use Rattle.runs.specs.Answers.{view, ownLent, answerTo}
 use Rattle.runs.specs.Step.{landed, deliveredIn}
 use Rattle.claims.specs.Origins.{Origin, Line, flat, Lines, ownLine, sourceOf}

@@ -15,7 +15,7 @@ use Rattle.ring.proofs.Laws.{length-front, front-first}
 use Rattle.endpoint.specs.declared.Queue.{Queue}
 use Rattle.endpoint.specs.Queue.{soundLengths, soundQueue, shortTable, shortSlices, hasLength, firstLength, badFirst}
 use Rattle.socket.specs.Tests.{lentOf}
-use Rattle.runs.specs.Calls.{Slices}
+use Rattle.runs.specs.State.{Slices}
 use Rattle.claims.specs.Origins.{Origin, Line, flat}
 use Rattle.claims.proofs.Lists.{Full, full-length, full-more, headLength}
 

@@ -26,7 +26,8 @@ use Rattle.socket.specs.Read.{consumed, pairRead}
 use Rattle.socket.specs.Wait.{closed}
 use Rattle.syscall.specs.Read.{isPeek}
 use Rattle.syscall.specs.Control.{dispositionOf, shutsRead, shutsWrite}
-use Rattle.runs.specs.Calls.{Control, setDisposition, shutdown, plainDisposition, plainShutdown, setReadThreshold, setWriteThreshold, getThresholds, getInfo, wait, takePacket, Call, write, read, plainWrite, plainRead, close, control, Input, bytesOf, offsetOf, Slices, State, peerSlices, withPair, withPeer}
+use Rattle.runs.specs.Calls.{Control, setDisposition, shutdown, plainDisposition, plainShutdown, setReadThreshold, setWriteThreshold, getThresholds, getInfo, wait, takePacket, Call, write, read, plainWrite, plainRead, close, control, Input, bytesOf, offsetOf}
+use Rattle.runs.specs.State.{Slices, State, peerSlices, withPair, withPeer}
 use Rattle.runs.specs.Answers.{view, ownLent, peerLent, controlAnswer, answerTo, controlled, pairAfter}
 use Rattle.runs.specs.Step.{written, stateAfter, answerOf, after}
 use Rattle.claims.specs.Origins.{Origin, origins, Line, Lines, ownLine, peerLine, withOwn, withPeerLine, added, shrunk, removed, linesAfter}

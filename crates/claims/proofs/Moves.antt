@@ -14,7 +14,7 @@ use Rattle.endpoint.specs.declared.Queue.{Queue}
 use Rattle.endpoint.specs.Queue.{noQueue}
 use Rattle.transfer.specs.Read.{leaving, drainedQueue}
 use Rattle.transfer.specs.Write.{fedQueue, ringFed, tableFed}
-use Rattle.runs.specs.Calls.{Slices}
+use Rattle.runs.specs.State.{Slices}
 use Rattle.claims.specs.Origins.{Origin, origins, Line, flat, shrunk}
 use Rattle.claims.proofs.Lists.{map-append, map-drop, map-take, flat-snoc, length-origins, origin-bytes, full-snoc, full-drop, full-none, headLength}
 use Rattle.claims.proofs.Holds.{Size, Holds, absurd-bool, firstOf, count-flat, few, ring-long, table-long}

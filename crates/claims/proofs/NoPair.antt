@@ -24,7 +24,8 @@ use Rattle.socket.specs.Wait.{takeAnswer, closeAnswer}
 use Rattle.user_answers.specs.Write.{userWriteAnswer}
 use Rattle.user_answers.specs.Read.{userReadAnswer}
 use Rattle.user_answers.specs.Control.{userDisposeAnswer, userShutdownAnswer}
-use Rattle.runs.specs.Calls.{Control, setDisposition, shutdown, plainDisposition, plainShutdown, setReadThreshold, setWriteThreshold, getThresholds, getInfo, wait, takePacket, Call, write, read, plainWrite, plainRead, close, control, Input, Public, public, Slices, State, state, seenOf}
+use Rattle.runs.specs.Calls.{Control, setDisposition, shutdown, plainDisposition, plainShutdown, setReadThreshold, setWriteThreshold, getThresholds, getInfo, wait, takePacket, Call, write, read, plainWrite, plainRead, close, control, Input, Public, public}
+use Rattle.runs.specs.State.{Slices, State, state, seenOf}
 use Rattle.runs.specs.Answers.{View, view, controlAnswer, answerTo, pairAfter}
 use Rattle.runs.specs.Step.{answerOf, outcome, outcomes}
 use Rattle.claims.specs.Origins.{Origin, Lines, noLines, linesAfter, sourceOf, sourcesFrom}

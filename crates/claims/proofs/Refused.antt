@@ -15,7 +15,8 @@ use Rattle.socket.specs.Pair.{isOne}
 use Rattle.socket.specs.Write.{pairWritten}
 use Rattle.socket.specs.Read.{pairRead}
 use Rattle.syscall.specs.Read.{isPeek, bytesLanded}
-use Rattle.runs.specs.Calls.{Call, write, read, plainWrite, plainRead, close, control, Input, State, peerSlices, withPeer, Outcome}
+use Rattle.runs.specs.Calls.{Call, write, read, plainWrite, plainRead, close, control, Input}
+use Rattle.runs.specs.State.{State, peerSlices, withPeer, Outcome}
 use Rattle.runs.specs.Answers.{View, view, pairAfter}
 use Rattle.runs.specs.Step.{written, stateAfter, landed, counted, deliveredIn, answerOf, after, outcome}
 use Rattle.claims.specs.Origins.{Lines, added, removed, linesAfter, sourceOf}

@@ -38,7 +38,8 @@ use Rattle.user_answers.specs.Lookup.{lookup}
 use Rattle.user_answers.specs.Write.{writeRanges, userWriteAnswer}
 use Rattle.user_answers.specs.Read.{userReadAnswer}
 use Rattle.user_answers.specs.Control.{userDisposeAnswer, userShutdownAnswer}
-use Rattle.runs.specs.Calls.{Control, setDisposition, shutdown, plainDisposition, plainShutdown, setReadThreshold, setWriteThreshold, getThresholds, getInfo, wait, takePacket, Call, write, read, plainWrite, plainRead, close, control, Input, State, state, ownSlices, Outcome}
+use Rattle.runs.specs.Calls.{Control, setDisposition, shutdown, plainDisposition, plainShutdown, setReadThreshold, setWriteThreshold, getThresholds, getInfo, wait, takePacket, Call, write, read, plainWrite, plainRead, close, control, Input}
+use Rattle.runs.specs.State.{State, state, ownSlices, Outcome}
 use Rattle.runs.specs.Run.{createdBy}
 use Rattle.runs.specs.Answers.{View, view, ownLent, peerLent, tableOnly, controlAnswer, answerTo}
 use Rattle.runs.specs.Step.{answerOf, outcome, pairCreated}

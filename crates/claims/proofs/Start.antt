@@ -14,7 +14,8 @@ use Rattle.endpoint.specs.Endpoint.{newEnd}
 use Rattle.endpoint.specs.Queue.{shortTable, shortSlices}
 use Rattle.answers.specs.Create.{numbersAnswer, createAnswer}
 use Rattle.socket.specs.Pair.{newPair}
-use Rattle.runs.specs.Calls.{Create, Slices, state}
+use Rattle.runs.specs.Calls.{Create}
+use Rattle.runs.specs.State.{Slices, state}
 use Rattle.runs.specs.Run.{createdBy}
 use Rattle.claims.specs.Origins.{Origin, noLines}
 use Rattle.claims.proofs.Answers.{then-done, if-off}

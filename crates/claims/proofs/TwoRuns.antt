@@ -17,7 +17,8 @@ use Rattle.answers.specs.Create.{createAnswer}
 use Rattle.socket.specs.declared.Pair.{Pair}
 use Rattle.socket.specs.Pair.{isOne, newPair, noPair}
 use Rattle.socket.specs.Tests.{Lent}
-use Rattle.runs.specs.Calls.{Create, Call, write, read, plainWrite, plainRead, close, control, Input, Public, public, Slices, State, state, withPeer, Seen, seenOf, Outcome}
+use Rattle.runs.specs.Calls.{Create, Call, write, read, plainWrite, plainRead, close, control, Input, Public, public}
+use Rattle.runs.specs.State.{Slices, State, state, withPeer, Seen, seenOf, Outcome}
 use Rattle.runs.specs.Run.{createdBy}
 use Rattle.runs.specs.Answers.{View, view, answerTo, pairAfter}
 use Rattle.runs.specs.Step.{written, stateAfter, answerOf, after, outcome, outcomes, pairCreated, start}

@@ -5,7 +5,8 @@ use mathlib.Core.Path.{_≡_}
 use mathlib.Core.Bool.{true, false}
 use mathlib.Core.List.{List, [], _∷_}
 use lib.ListN.{replicate}
-use Rattle.runs.specs.Calls.{write, read, plainWrite, plainRead, close, Input, input, Slices, Seen, seenOf, Outcome}
+use Rattle.runs.specs.Calls.{write, read, plainWrite, plainRead, close, Input, input}
+use Rattle.runs.specs.State.{Slices, Seen, seenOf, Outcome}
 use Rattle.runs.specs.Run.{Run, createdBy}
 use Rattle.runs.specs.Step.{outcomes, pairCreated, start}
 use Rattle.claims.specs.Origins.{Origin, origins, flat, added, shrunk, removed, linesAfter, sourceOf, sourcesFrom, sources}

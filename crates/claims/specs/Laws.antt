@@ -13,7 +13,8 @@ use Rattle.endpoint.specs.Queue.{shortSlices, firstLength, badFirst}
 use Rattle.socket.specs.declared.Step.{Step}
 use Rattle.socket.specs.Pair.{own, newPair, noPair}
 use Rattle.socket.specs.Tests.{soundPair, Steps}
-use Rattle.runs.specs.Calls.{Create, Input, Slices, State, state, ownSlices, Outcome}
+use Rattle.runs.specs.Calls.{Create, Input}
+use Rattle.runs.specs.State.{Slices, State, state, ownSlices, Outcome}
 use Rattle.runs.specs.Run.{Does, createdBy}
 
 -- ---- refused calls

@@ -20,7 +20,7 @@ use Rattle.syscall.specs.Write.{userWriteAnswer}
 use Rattle.syscall.specs.Read.{isPeek, userReadAnswer, bytesLanded}
 use Rattle.host.specs.Host.{Answered}
 use Rattle.host_values.specs.Records.{arrayOf, Recorded}
-use Rattle.runs.specs.Calls.{State, state, ownSlices, peerSlices}
+use Rattle.runs.specs.State.{State, state, ownSlices, peerSlices}
 use Rattle.runs.specs.Run.{createdBy}
 use Rattle.host_runs.specs.Passed.{Passed, Returned, isCount}
 use Rattle.host_runs.specs.Exported.{Exported, murgwethan-write, murgwethan-read, murgwethan-set-disposition, murgwethan-shutdown, murgwethan-set-read-threshold, murgwethan-set-write-threshold, murgwethan-thresholds, murgwethan-info, murgwethan-wait, murgwethan-take, murgwethan-close, murgwethan-user-write, murgwethan-user-read, murgwethan-user-set-disposition, murgwethan-user-shutdown}

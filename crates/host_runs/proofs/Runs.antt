@@ -9,7 +9,8 @@ use Rattle.status.specs.Choice.{pick}
 use Rattle.status.specs.Answer.{answerWord, isDone}
 use Rattle.socket.specs.declared.Pair.{Pair}
 use Rattle.socket.specs.Pair.{newPair, noPair}
-use Rattle.runs.specs.Calls.{Create, Slices, State, Outcome}
+use Rattle.runs.specs.Calls.{Create}
+use Rattle.runs.specs.State.{Slices, State, Outcome}
 use Rattle.runs.specs.Run.{Calls, createdBy}
 use Rattle.runs.specs.Run.{none as no-calls, next as next-call, run as run-of}
 use Rattle.host_runs.specs.Contracts.{Creates}

@@ -15,7 +15,8 @@ use Rattle.socket.specs.declared.Step.{Step}
 use Rattle.socket.specs.Pair.{isOne}
 use Rattle.syscall.specs.Read.{bytesLanded}
 use Rattle.host_values.specs.Records.{arrayOf}
-use Rattle.runs.specs.Calls.{Control, setDisposition, shutdown, plainDisposition, plainShutdown, setReadThreshold, setWriteThreshold, getThresholds, getInfo, wait, takePacket, Call, write, read, plainWrite, plainRead, close, control, Input, State, ownSlices, gives}
+use Rattle.runs.specs.Calls.{Control, setDisposition, shutdown, plainDisposition, plainShutdown, setReadThreshold, setWriteThreshold, getThresholds, getInfo, wait, takePacket, Call, write, read, plainWrite, plainRead, close, control, Input}
+use Rattle.runs.specs.State.{State, ownSlices, gives}
 use Rattle.runs.specs.Run.{Does, did-write, did-read, did-dispose, did-shutdown, did-plain-write, did-plain-read, did-plain-dispose, did-plain-shutdown, did-read-threshold, did-write-threshold, did-thresholds, did-info, did-wait, did-take, did-close}
 use Rattle.claims.proofs.Claims.{claims}
 use Rattle.host_runs.specs.Passed.{isCount, countIn, recordIn, arrayAfter}

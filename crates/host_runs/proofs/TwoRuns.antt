@@ -7,7 +7,8 @@ use Rattle.status.specs.Answer.{answerWord}
 use Rattle.socket.specs.declared.Pair.{Pair}
 use Rattle.socket.specs.Pair.{shownBy}
 use Rattle.host_values.specs.Signal.{signalNumber}
-use Rattle.runs.specs.Calls.{Call, Input, Public, public, Seen, seenOf, Outcome}
+use Rattle.runs.specs.Calls.{Call, Input, Public, public}
+use Rattle.runs.specs.State.{Seen, seenOf, Outcome}
 use Rattle.runs.specs.Run.{createdBy}
 use Rattle.claims.specs.TwoRuns.{seen, answers, calls}
 use Rattle.claims.proofs.Claims.{claims}

@@ -22,7 +22,8 @@ use Rattle.syscall.specs.Control.{dispositionOf, userDisposeAnswer, shutsRead, 
 use Rattle.host.specs.Host.{Answered}
 use Rattle.host_values.specs.Signal.{signalNumber}
 use Rattle.host_values.specs.Records.{thresholdNumbers, infoNumbers, packetNumbers, Recorded}
-use Rattle.runs.specs.Calls.{Create, Slices}
+use Rattle.runs.specs.Calls.{Create}
+use Rattle.runs.specs.State.{Slices}
 use Rattle.runs.specs.Run.{createdBy}
 
 -- create: its arguments and the slices of both ends. Where it is refused, the record stays as it was.

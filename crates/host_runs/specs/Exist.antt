@@ -6,7 +6,8 @@ use mathlib.Core.List.{List, [], _∷_}
 use Rattle.status.specs.Answer.{isDone}
 use Rattle.socket.specs.declared.Pair.{Pair}
 use Rattle.syscall.specs.Control.{dispositionOf}
-use Rattle.runs.specs.Calls.{Create, setDisposition, shutdown, plainDisposition, plainShutdown, setReadThreshold, setWriteThreshold, getThresholds, getInfo, wait, takePacket, write, read, plainWrite, plainRead, close, control, Slices}
+use Rattle.runs.specs.Calls.{Create, setDisposition, shutdown, plainDisposition, plainShutdown, setReadThreshold, setWriteThreshold, getThresholds, getInfo, wait, takePacket, write, read, plainWrite, plainRead, close, control}
+use Rattle.runs.specs.State.{Slices}
 use Rattle.runs.specs.Run.{createdBy}
 use Rattle.host_runs.specs.Passed.{Passed, passed, Returned}
 use Rattle.host_runs.specs.Runs.{ExportedRun}

@@ -9,7 +9,8 @@ use Rattle.socket.specs.declared.Pair.{Pair}
 use Rattle.socket.specs.Pair.{isOne}
 use Rattle.syscall.specs.Read.{bytesLanded}
 use Rattle.syscall.specs.Control.{dispositionOf}
-use Rattle.runs.specs.Calls.{setDisposition, shutdown, plainDisposition, plainShutdown, setReadThreshold, setWriteThreshold, getThresholds, getInfo, wait, takePacket, write, read, plainWrite, plainRead, close, control, State, ownSlices, peerSlices, withPair, withPeer}
+use Rattle.runs.specs.Calls.{setDisposition, shutdown, plainDisposition, plainShutdown, setReadThreshold, setWriteThreshold, getThresholds, getInfo, wait, takePacket, write, read, plainWrite, plainRead, close, control}
+use Rattle.runs.specs.State.{State, ownSlices, peerSlices, withPair, withPeer}
 use Rattle.run_steps.specs.Code.{slicesOf}
 use Rattle.host_runs.specs.Contracts.{Writes, Reads, Disposes, Shuts, SetsReadThreshold, SetsWriteThreshold, Waits, Closes, AsksThresholds, AsksInfo, Takes, UserWrites, UserReads, UserDisposes, UserShuts}
 use Rattle.host_runs.specs.Passed.{Passed, passed, Returned, returned, countIn}

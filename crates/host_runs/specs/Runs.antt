@@ -7,7 +7,8 @@ use lib.IntN.{ℤ}
 use Rattle.status.specs.declared.Answer.{Answer}
 use Rattle.status.specs.Answer.{answerWord}
 use Rattle.socket.specs.declared.Pair.{Pair}
-use Rattle.runs.specs.Calls.{Create, Call, Input, Slices, State, state, seenOf, Outcome}
+use Rattle.runs.specs.Calls.{Create, Call, Input}
+use Rattle.runs.specs.State.{Slices, State, state, seenOf, Outcome}
 use Rattle.runs.specs.Run.{createdBy, Run}
 use Rattle.claims.specs.TwoRuns.{answers, delivered, calls}
 use Rattle.host_runs.specs.Contracts.{Creates}

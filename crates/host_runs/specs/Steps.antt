@@ -5,7 +5,8 @@ use mathlib.Core.List.{List}
 use lib.IntN.{ℤ}
 use Rattle.status.specs.Answer.{answerWord}
 use Rattle.socket.specs.declared.Pair.{Pair}
-use Rattle.runs.specs.Calls.{Create, Input, Slices, State, state, seenOf, Outcome}
+use Rattle.runs.specs.Calls.{Create, Input}
+use Rattle.runs.specs.State.{Slices, State, state, seenOf, Outcome}
 use Rattle.runs.specs.Run.{Does, Calls, createdBy, Run}
 use Rattle.host_runs.specs.Contracts.{Creates}
 use Rattle.host_runs.specs.Passed.{Passed, Returned, isCount, arrayAfter}

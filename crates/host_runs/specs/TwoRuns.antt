@@ -11,7 +11,8 @@ use Rattle.status.specs.Answer.{answerWord}
 use Rattle.socket.specs.declared.Pair.{Pair}
 use Rattle.socket.specs.Pair.{shownBy}
 use Rattle.host_values.specs.Signal.{signalNumber}
-use Rattle.runs.specs.Calls.{Create, public, Slices}
+use Rattle.runs.specs.Calls.{Create, public}
+use Rattle.runs.specs.State.{Slices}
 use Rattle.claims.specs.Origins.{sources, found}
 use Rattle.claims.specs.TwoRuns.{calls, SameLengths}
 use Rattle.host_runs.specs.Contracts.{Creates}

@@ -6,7 +6,7 @@ use Rattle.status.specs.Answer.{countOf}
 use Rattle.socket.specs.declared.Pair.{Pair}
 use Rattle.socket.specs.declared.Step.{Step}
 use Rattle.syscall.specs.Read.{bytesLanded, BytesRead, UserRead}
-use Rattle.runs.specs.Calls.{Slices}
+use Rattle.runs.specs.State.{Slices}
 use Rattle.runs.specs.Run.{did-read}
 use Rattle.run_steps.specs.Code.{slicesOf, ReadLent}
 

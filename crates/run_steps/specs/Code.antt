@@ -9,7 +9,8 @@ use Rattle.socket.specs.declared.Pair.{Pair}
 use Rattle.socket.specs.declared.Step.{Step}
 use Rattle.socket.specs.Pair.{isOne}
 use Rattle.syscall.specs.Read.{BytesRead}
-use Rattle.runs.specs.Calls.{Create, Call, read, Input, input, Slices, state, ownSlices, peerSlices, withPair, withPeer, seenOf, Outcome, gives}
+use Rattle.runs.specs.Calls.{Create, Call, read, Input, input}
+use Rattle.runs.specs.State.{Slices, state, ownSlices, peerSlices, withPair, withPeer, seenOf, Outcome, gives}
 use Rattle.runs.specs.Run.{Does, Calls, Run}
 
 abbrev pub slicesOf : (ring table : List ℕ) → Slices

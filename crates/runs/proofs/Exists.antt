@@ -16,7 +16,8 @@ use Rattle.socket.specs.Read.{readAnswer, pairRead, bufferRead}
 use Rattle.user_memory.specs.Memory.{countLanded}
 use Rattle.syscall.specs.Write.{userWriteAnswer}
 use Rattle.syscall.specs.Read.{isPeek, userReadAnswer, bytesLanded}
-use Rattle.runs.specs.Calls.{setDisposition, shutdown, plainDisposition, plainShutdown, setReadThreshold, setWriteThreshold, getThresholds, getInfo, wait, takePacket, Call, write, read, plainWrite, plainRead, close, control, Input, input, State, state, ownSlices, peerSlices, Outcome}
+use Rattle.runs.specs.Calls.{setDisposition, shutdown, plainDisposition, plainShutdown, setReadThreshold, setWriteThreshold, getThresholds, getInfo, wait, takePacket, Call, write, read, plainWrite, plainRead, close, control, Input, input}
+use Rattle.runs.specs.State.{State, state, ownSlices, peerSlices, Outcome}
 use Rattle.runs.specs.Run.{Does, did-write, did-read, did-dispose, did-shutdown, did-plain-write, did-plain-read, did-plain-dispose, did-plain-shutdown, did-read-threshold, did-write-threshold, did-thresholds, did-info, did-wait, did-take, did-close, Calls, none, next, createdBy, run}
 use Rattle.runs.specs.Step.{after, outcome, outcomes, pairCreated, start}
 use Rattle.runs.specs.Match.{RunsExist}

@@ -18,7 +18,8 @@ use Rattle.socket.specs.Read.{readAnswer, pairRead}
 use Rattle.user_memory.specs.Memory.{countLanded}
 use Rattle.syscall.specs.Write.{userWriteAnswer}
 use Rattle.syscall.specs.Read.{isPeek, userReadAnswer, bytesLanded}
-use Rattle.runs.specs.Calls.{Input, State, state, ownSlices, peerSlices, withPair, withPeer, seenOf, gives}
+use Rattle.runs.specs.Calls.{Input}
+use Rattle.runs.specs.State.{State, state, ownSlices, peerSlices, withPair, withPeer, seenOf, gives}
 use Rattle.runs.specs.Run.{did-write, did-read, did-dispose, did-shutdown, did-plain-write, did-plain-read, did-plain-dispose, did-plain-shutdown, did-read-threshold, did-write-threshold, did-thresholds, did-info, did-wait, did-take, did-close}
 use Rattle.runs.specs.Answers.{view, ownLent, peerLent, controlAnswer, answerTo, controlled, pairAfter}
 use Rattle.runs.specs.Step.{written, stateAfter, landed, counted, deliveredIn, answerOf, after, outcome}

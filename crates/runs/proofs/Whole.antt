@@ -6,7 +6,8 @@ use Rattle.socket.specs.declared.Pair.{Pair}
 use Rattle.socket.specs.declared.Step.{Step}
 use Rattle.socket.specs.Pair.{newPair, noPair}
 use Rattle.socket.specs.Tests.{Steps}
-use Rattle.runs.specs.Calls.{Create, Input, Slices, State, state, seenOf, Outcome}
+use Rattle.runs.specs.Calls.{Create, Input}
+use Rattle.runs.specs.State.{Slices, State, state, seenOf, Outcome}
 use Rattle.runs.specs.Run.{Calls, none, next, createdBy, run}
 use Rattle.runs.specs.Step.{outcomes, pairCreated}
 use Rattle.runs.specs.Match.{RunsMatch}

@@ -17,7 +17,8 @@ use Rattle.socket.specs.Wait.{waitAnswer, waited, takeAnswer, took, closeAnswer
 use Rattle.syscall.specs.Write.{userWriteAnswer}
 use Rattle.syscall.specs.Read.{isPeek, userReadAnswer}
 use Rattle.syscall.specs.Control.{dispositionOf, userDisposeAnswer, shutsRead, shutsWrite, userShutdownAnswer}
-use Rattle.runs.specs.Calls.{Control, setDisposition, shutdown, plainDisposition, plainShutdown, setReadThreshold, setWriteThreshold, getThresholds, getInfo, wait, takePacket, Call, write, read, plainWrite, plainRead, close, control, State}
+use Rattle.runs.specs.Calls.{Control, setDisposition, shutdown, plainDisposition, plainShutdown, setReadThreshold, setWriteThreshold, getThresholds, getInfo, wait, takePacket, Call, write, read, plainWrite, plainRead, close, control}
+use Rattle.runs.specs.State.{State}
 
 -- ---- the answer, from what is public
 

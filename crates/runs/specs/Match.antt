@@ -1,7 +1,8 @@
 -- What the functions ensure leaves no choice: a run of the code is the computed one, and there is one of every list of calls. 01 "Two runs".
 use mathlib.Core.Path.{_≡_}
 use mathlib.Core.List.{List}
-use Rattle.runs.specs.Calls.{Create, Input, Slices, State, Seen, seenOf, Outcome}
+use Rattle.runs.specs.Calls.{Create, Input}
+use Rattle.runs.specs.State.{Slices, State, Seen, seenOf, Outcome}
 use Rattle.runs.specs.Run.{Does, createdBy, Run}
 use Rattle.runs.specs.Step.{after, outcome, outcomes, pairCreated, start}
 

@@ -21,7 +21,8 @@ use Rattle.socket.specs.Wait.{waitAnswer, waited, takeAnswer, took, closeAnswer
 use Rattle.syscall.specs.Write.{UserWrote}
 use Rattle.syscall.specs.Read.{BytesRead, UserRead}
 use Rattle.syscall.specs.Control.{dispositionOf, userDisposeAnswer, shutsRead, shutsWrite, userShutdownAnswer}
-use Rattle.runs.specs.Calls.{Create, setDisposition, shutdown, plainDisposition, plainShutdown, setReadThreshold, setWriteThreshold, getThresholds, getInfo, wait, takePacket, write, read, plainWrite, plainRead, close, control, Input, input, Slices, State, state, ownSlices, peerSlices, withPair, withPeer, Seen, seenOf, Outcome, gives}
+use Rattle.runs.specs.Calls.{Create, setDisposition, shutdown, plainDisposition, plainShutdown, setReadThreshold, setWriteThreshold, getThresholds, getInfo, wait, takePacket, write, read, plainWrite, plainRead, close, control, Input, input}
+use Rattle.runs.specs.State.{Slices, State, state, ownSlices, peerSlices, withPair, withPeer, Seen, seenOf, Outcome, gives}
 
 -- One call on a state gives a state and an outcome. Each case has what one function ensures; a read over user memory has two,
 -- `read_bytes` for its bytes and `read` for the whole. A write is lent the peer's slices, a read its

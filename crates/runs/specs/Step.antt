@@ -13,7 +13,8 @@ use Rattle.socket.specs.Write.{pairWritten, ringWritten, tableWritten}
 use Rattle.socket.specs.Read.{bufferRead}
 use Rattle.user_memory.specs.Memory.{countLanded}
 use Rattle.syscall.specs.Read.{bytesLanded}
-use Rattle.runs.specs.Calls.{Create, Call, write, read, plainWrite, plainRead, close, control, Input, Slices, State, state, ownSlices, peerSlices, withPair, withPeer, seenOf, Outcome}
+use Rattle.runs.specs.Calls.{Create, Call, write, read, plainWrite, plainRead, close, control, Input}
+use Rattle.runs.specs.State.{Slices, State, state, ownSlices, peerSlices, withPair, withPeer, seenOf, Outcome}
 use Rattle.runs.specs.Run.{createdBy}
 use Rattle.runs.specs.Answers.{view, answerTo, pairAfter}
 
