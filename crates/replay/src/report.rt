@@ -11,16 +11,20 @@ fn line(before: &[u8], n: u64, after: &[u8]) {
     io::write_all(STDOUT, after);
 }
 
-// The first listing that does not agree.
+// The first listing that does not agree, by its number from 0. The names stand in data/names in the same order, one a line.
 pub fn difference(t: Tally) {
     let first = t.first;
     match first {
         Outcome::Agrees => {}
         Outcome::DiffersAt(i) => {
             line(b"listing ", t.number, b" differs");
-            line(b" at byte ", i as u64, b"\n");
+            line(b" at byte ", i as u64, b"; its name is in data/names\n");
         }
-        Outcome::NoRoom => line(b"listing ", t.number, b" has no room\n"),
+        Outcome::NoRoom => line(
+            b"listing ",
+            t.number,
+            b" has no room; its name is in data/names\n",
+        ),
     }
 }
 

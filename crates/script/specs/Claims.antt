@@ -37,13 +37,14 @@ pub data Feeds (room : ℕ) : (offset : ℕ) → Machine → (s : List ℕ) → 
 abbrev pub Chain : Type 0
 Chain = (room : ℕ) (bs : List (List ℕ)) (o : List ℕ) → Feeds room 0 start [] bs o → header ++ o ≡ listing (flatten bs)
 
--- from wherever bytes can be fed there is a feeding to the end, where the output has room for the listing and one line more
+-- from wherever bytes can be fed there is a feeding to the end, where the output has room for what is still to be listed and one line more
 abbrev pub Complete : Type 0
 Complete =
     (offset room : ℕ) (m : Machine) (s : List ℕ) (bs : List (List ℕ)) → isReady (m .state) offset (length (s ++ flatten bs)) (length (m .memory)) ≡ true
     → length (run offset m (s ++ flatten bs)) + LINE ≤ room → (o : List ℕ) × Feeds room offset m s bs o
 
--- every script has a feeding, however it is cut into blocks
+-- every script of at most LIMIT bytes has a feeding, however it is cut into blocks, where the output has room for its listing and one line more. With
+-- less room it takes several calls of `feed`: that they come to an end, with room for one line, is what `Drained` of the crate socket_script says
 abbrev pub Every : Type 0
 Every =
     (room : ℕ) (bs : List (List ℕ)) → length (flatten bs) ≤ LIMIT → length (listing (flatten bs)) + LINE ≤ room → (o : List ℕ) × Feeds room 0 start [] bs o

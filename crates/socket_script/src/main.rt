@@ -6,7 +6,7 @@ ghost use lib.ListN.{length, take};
 ghost use Rattle.text.specs.Put.{place};
 ghost use Rattle.plain_call.specs.Rings.{rings};
 ghost use Rattle.script.specs.Listing.{header, closing};
-ghost use Rattle.socket_script.specs.Drain.{isOpen, ReadIn, DrainMay, held, Drained};
+ghost use Rattle.socket_script.specs.Drain.{isOpen, ReadIn, DrainMay, held, Drained, RunMay};
 
 const STDIN: i32 = 0;
 
@@ -88,21 +88,18 @@ fn is_open(ended: bool, offset: u64) -> bool
     offset < 4611686018427256832
 }
 
-fn main() {
-    let mut memory_array = [0u8; 4096];
-    let mut ring_one_array = [0u8; 4096];
-    let mut table_one_array = [0u32; 4096];
-    let mut ring_two_array = [0u8; 4096];
-    let mut table_two_array = [0u32; 4096];
-    let mut buffer_array = [0u8; 131072];
-    let mut out_array = [0u8; 262144];
-    let memory: &mut [u8] = &mut memory_array;
-    let ring_one: &mut [u8] = &mut ring_one_array;
-    let table_one: &mut [u32] = &mut table_one_array;
-    let ring_two: &mut [u8] = &mut ring_two_array;
-    let table_two: &mut [u32] = &mut table_two_array;
-    let buffer: &mut [u8] = &mut buffer_array;
-    let out: &mut [u8] = &mut out_array;
+// The whole script, from the header to the end of the input. What it leaves in the lent slices goes by what is read, of which nothing can be said.
+fn run(
+    memory: &mut [u8],
+    ring_one: &mut [u8],
+    table_one: &mut [u32],
+    ring_two: &mut [u8],
+    table_two: &mut [u32],
+    buffer: &mut [u8],
+    out: &mut [u8],
+)
+    requires { ⌜ RunMay (now memory) (now buffer) (now out) ⌝ }
+{
     let mut p = buffer::first();
     begin(out);
     while is_open(p.state.ended, p.offset) {
@@ -124,4 +121,43 @@ fn main() {
         );
     }
     close(p, buffer, out);
+}
+
+// The contracts of the two give only the length, which lending the array needs.
+fn input_space() -> [u8; 131072]
+    ensures { λ r. ⌜ 131072 ≡ length r ⌝ }
+{
+    [0; 131072]
+}
+
+fn output_space() -> [u8; 262144]
+    ensures { λ r. ⌜ 262144 ≡ length r ⌝ }
+{
+    [0; 262144]
+}
+
+fn main() {
+    let mut memory_array = [0u8; 4096];
+    let mut ring_one_array = [0u8; 4096];
+    let mut table_one_array = [0u32; 4096];
+    let mut ring_two_array = [0u8; 4096];
+    let mut table_two_array = [0u32; 4096];
+    let mut buffer_array = input_space();
+    let mut out_array = output_space();
+    let memory: &mut [u8] = &mut memory_array;
+    let ring_one: &mut [u8] = &mut ring_one_array;
+    let table_one: &mut [u32] = &mut table_one_array;
+    let ring_two: &mut [u8] = &mut ring_two_array;
+    let table_two: &mut [u32] = &mut table_two_array;
+    let buffer: &mut [u8] = &mut buffer_array;
+    let out: &mut [u8] = &mut out_array;
+    run(
+        memory,
+        ring_one,
+        table_one,
+        ring_two,
+        table_two,
+        buffer,
+        out,
+    );
 }
