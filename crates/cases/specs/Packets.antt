@@ -37,7 +37,7 @@ packetScripts =
     ∷ c takePacket ∷ c takePacket ∷ c takePacket ∷ c takePacket ∷ [])
     (ok 0 0x2 0x2 ∷ ok 0 0x2 0x2 ∷ ok 0 0x2 0x2 ∷ ok 0 0x2 0x2 ∷ ok 0 0x30 0x30
     ∷ took 1 0x20 0x20 0x30 0x30 ∷ took 2 0x10 0x12 0x30 0x30 ∷ took 3 0x20 0x30 0x30 0x30 ∷ took 4 0x10 0x30 0x30 0x30 ∷ [])
-    -- a closed end's waits vanish and its packets stay; the survivor's waits fire
+    -- a close removes the end's waits and keeps its packets; waits of the other end fire
     ∷ script stream 7 (c (wait 2 1 2 0) ∷ c (wait 2 2 4 0) ∷ c (wait 1 3 4 0) ∷ on (close 2) ∷ c takePacket ∷ c takePacket ∷ c takePacket ∷ [])
     (ok 0 0x2 0x2 ∷ ok 0 0x2 0x2 ∷ ok 0 0x2 0x2 ∷ ok1 0 0x4 ∷ took1 1 2 2 0x4 ∷ took1 3 4 4 0x4 ∷ no1 22 0x4 ∷ [])
     ∷ []

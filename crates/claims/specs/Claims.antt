@@ -1,4 +1,4 @@
--- All that is claimed of runs of calls, as one record. proofs/Claims has its proof.
+-- All that is claimed of runs of calls, as one record. proofs/Claims has its proof. 01 "Two runs", "Status and answer word", "At the edges".
 use Rattle.runs.specs.Match.{CallsMatch, RunsMatch, RunsExist}
 use Rattle.claims.specs.TwoRuns.{TwoRuns}
 use Rattle.claims.specs.Laws.{RefusedChangesNothing, RunsAreSound}

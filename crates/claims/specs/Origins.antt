@@ -56,7 +56,7 @@ abbrev pub withPeerLine : Bool → Line → Lines → Lines
 withPeerLine true l ln = record { one = ln .one; two = l }
 withPeerLine false l ln = record { one = l; two = ln .two }
 
--- call w, a write by end t that is done with m, adds m origins at the back of the peer's line, as one group
+-- after a write of m bytes by end t, call number w: one more group of m origins, the last of the peer's line
 unfoldable pub added : (t : Bool) → (w m : ℕ) → Lines → Lines
 added t w m ln = pick (eqb m 0) ln (withPeerLine t (peerLine t ln ++ (origins w 0 m ∷ [])) ln)
 
@@ -96,7 +96,7 @@ sourcesFrom dg w ln (c ∷ cs) (r ∷ rs) = sourceOf ln c r ∷ sourcesFrom dg (
 unfoldable pub sources : (datagram : Bool) → List Call → List Answer → List (List Origin)
 sources dg cs rs = sourcesFrom dg 0 noLines cs rs
 
--- the byte that an origin's call found on entry, so many bytes past its address or its plain slice's start; none where there is none
+-- the byte at an origin: what its call was passed in memory, at the origin's offset from where its bytes begin; none where there is none
 unfoldable pub byteAt : Option Input → (offset : ℕ) → Option ℕ
 byteAt none o = none
 byteAt (some i) o = getElem? (bytesOf i) o

@@ -17,17 +17,17 @@ use Rattle.ends.specs.Outcome.{noVisits, outcomeOf, keptEnds, unchangedEnds}
 use Rattle.ends.specs.Tests.{openingTest}
 use Rattle.control.specs.Signal.{changedEnd, firstOnly}
 
--- an open peer loses WRITABLE and gains PEER_CLOSED
+-- one change at a peer that is open: WRITABLE is cleared and PEER_CLOSED set
 unfoldable pub closeVisit : Bool → (word : ℕ) → Pending
 closeVisit t w = record { one = t; word = w; clear = WRITABLE; set = «PEER_CLOSED» }
 
--- the end's queue vanishes; an open peer loses WRITABLE and gains PEER_CLOSED
+-- the end's queue is emptied, and a peer that is open has its change
 unfoldable pub closeMoved : Bool → (own peer : Endpoint) → Moved
 closeMoved t a b =
     let first = closeVisit (not t) (b .signals) in
     pick (b .closed) (keptEnds (closedEnd a) b) (firstOnly (closedEnd a) (changedEnd first b) first)
 
--- a close looks at the waits wherever there are any, as those of its end vanish
+-- a close looks at the waits wherever there are any, since it removes those of its end
 unfoldable pub closeOutcome : (waits : ℕ) → Bool → Answer → Moved → Outcome
 closeOutcome waits t a m =
     let r : Outcome = outcomeOf waits t a m noVisits in

@@ -29,7 +29,7 @@ shutVisit t w read write =
 unfoldable pub shutEnd : Bool → (read write : Bool) → Endpoint → Endpoint
 shutEnd t read write e = changedEnd (shutVisit t (e .signals) read write) (pick read (withReadDisabled true e) e)
 
--- an open peer then gets the same with both flags negated
+-- after the caller, a peer that is open is shut by the opposite of each flag
 unfoldable pub shutMoved : Bool → (own peer : Endpoint) → (read write : Bool) → Moved
 shutMoved t a b read write =
     let first = shutVisit t (a .signals) read write in

@@ -34,7 +34,7 @@ fn close_moved(one: bool, own: Endpoint, peer: Endpoint) -> Moved
     change::first_only(gone, change::changed_end(peer, first), first)
 }
 
-// A close looks at the waits wherever there are any, as those of its end vanish.
+// A close looks at the waits wherever there are any, since it removes those of its end.
 fn close_outcome(waits: usize, one: bool, answer: Answer, moved: Moved) -> Outcome
     ensures { λ r. ⌜ r ≡ closeOutcome waits one answer moved ⌝ }
 {

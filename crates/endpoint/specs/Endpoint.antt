@@ -43,7 +43,7 @@ unfoldable pub withThresholds : Thresholds → Endpoint → Endpoint
 withThresholds t e =
     record { closed = e .closed; «read_disabled» = e .«read_disabled»; rights = e .rights; signals = e .signals; thresholds = t; queue = e .queue }
 
--- 01 "Delivered bytes", close: the queue vanishes and its starts become 0; the rest of the record stays
+-- 01 "Delivered bytes", close: the queue is emptied and both its starts are 0; the rest of the record stays
 unfoldable pub closedEnd : Endpoint → Endpoint
 closedEnd e =
     record { closed = true; «read_disabled» = e .«read_disabled»; rights = e .rights; signals = e .signals; thresholds = e .thresholds; queue = noQueue }

@@ -42,6 +42,6 @@ hasLength datagram q = datagram and ltb 0 (q .lengths .count)
 unfoldable pub firstLength : Bool → Queue → List ℕ → ℕ
 firstLength datagram q table = pick (hasLength datagram q) (getD table (q .lengths .start) 0) 0
 
--- 01 "Status and answer word": a first length of 0 or above the queued bytes is INTERNAL
+-- 01 "Status and answer word": a datagram of no bytes, or of more than are queued, is INTERNAL
 unfoldable pub badFirst : Bool → Queue → ℕ → Bool
 badFirst datagram q first = hasLength datagram q and (eqb first 0 or ltb (q .bytes .count) first)

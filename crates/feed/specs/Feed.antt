@@ -1,4 +1,4 @@
--- What a block of a script does, and what the function says that feeds it.
+-- What a block of a script does, and what the function says that feeds it. 01 "Script program".
 use Prim.Native.Nat.{ℕ, zero, suc, _+_, _-_, _≤_}
 use mathlib.Core.Path.{_≡_}
 use mathlib.Core.Bool.{Bool}

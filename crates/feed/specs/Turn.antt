@@ -1,4 +1,4 @@
--- What the functions say that make one move of the machine.
+-- What the functions say that make one move of the machine. 01 "Script program".
 use Prim.Native.Nat.{ℕ, _+_, _≤_}
 use mathlib.Core.Path.{_≡_}
 use mathlib.Core.Bool.{Bool, true, false}

@@ -116,7 +116,7 @@ pub extern "C" fn murgwethan_set_write_threshold(p: &mut Pair, handle: u32, thre
     kept_pair::outcome(p, r)
 }
 
-// Registers a wait of an end: tested at once against the present word unless edge is 1.
+// Registers a wait of an end. It may fire now, by the word as it is; with edge 1 only a later change fires it.
 #[no_mangle]
 pub extern "C" fn murgwethan_wait(p: &mut Pair, handle: u32, key: u64, mask: u32, edge: u8) -> i64
     ensures { λ w. ⌜ Answered (Steps (now (p .entry)) (waitAnswer (now (p .entry)) handle edge) (waited (isOne handle) key mask edge (now (p .entry)))) (now (p .exit)) w ⌝ }

@@ -1,4 +1,5 @@
--- The records that a call leaves in a lent array. A refused call leaves the array as it is.
+-- The records that a call leaves in a lent array. A refused call leaves the array as it is. 01 "Info record", "Signal word and packets", "Delivered
+-- bytes" (thresholds).
 use Prim.Native.Nat.{ℕ}
 use mathlib.Core.Path.{_≡_}
 use mathlib.Core.List.{List, [], _∷_}

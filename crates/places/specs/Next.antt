@@ -1,4 +1,4 @@
--- What an operation on the table of places answers where it is refused, and where it is done without a record.
+-- What an operation on the table of places answers where it is refused, and where it is done without a record. 01 "Status and answer word".
 use Rattle.status.specs.Answer.{ok}
 use Rattle.status.specs.declared.Status.{Status}
 use Rattle.status.specs.declared.Answer.the-variants.{Refused}

@@ -35,7 +35,7 @@ insertedOf p t = tableOf (packetsOf t ++ (p ∷ [])) (waitsOf t) (drop 1 (unused
 unfoldable pub appendedOf : Place → Places → Places
 appendedOf p t = tableOf (packetsOf t) (waitsOf t ++ (p ∷ [])) (drop 1 (unusedOf t))
 
--- 01 "Signal word and packets": the wait is tested at once against the present word, unless the edge flag is set
+-- 01 "Signal word and packets": a wait without the edge flag may fire as it is registered, by the word as it is
 unfoldable pub registeredOf : Place → ℕ → Bool → Places → Places
 registeredOf p w edge t = pick edge (appendedOf p t) (pick (meets w (p .mask)) (insertedOf (observe w p) t) (appendedOf p t))
 
@@ -53,6 +53,6 @@ registerOf one w key mask edge t =
     (pick (eqb (used t) 128) (refused NoResources t) (done (registeredOf (waitOf one key mask) w edge t)))
     (refused Internal t)
 
--- 01 "Signal word and packets": an end's waits vanish as it closes; packets outlive the end. A table with more than 128 used places is INTERNAL.
+-- 01 "Signal word and packets": a close removes the end's waits and keeps its packets. A table with more than 128 used places is INTERNAL.
 unfoldable pub dropOf : Bool → Places → Next
 dropOf one t = pick (sound t) (done (droppedOf one t)) (refused Internal t)

@@ -64,7 +64,7 @@ shutEnd t read write p =
     signalChange t (bitIf write WRITABLE) (bitOr (bitIf read «PEER_WRITE_DISABLED») (bitIf write «WRITE_DISABLED»))
     (pick read (switchReading t true p) p)
 
--- an open peer then gets the same with both flags negated
+-- after the caller, a peer that is open is shut by the opposite of each flag
 unfoldable pub shut : Bool → (read write : Bool) → Pair → Pair
 shut t read write p =
     let p₁ = shutEnd t read write p in

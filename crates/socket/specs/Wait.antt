@@ -23,7 +23,7 @@ use Rattle.socket.specs.Tests.{soundTest, openingTest}
 abbrev pub waitAnswer : Pair → (h edge : ℕ) → Answer
 waitAnswer p h edge = E.waitAnswer (endsOf p) h edge
 
--- 01 "Signal word and packets": the wait is tested at once against the end's present word, unless edge is 1
+-- 01 "Signal word and packets": a wait with edge 0 may fire as it is registered, by the end's word as it is
 unfoldable pub waited : Bool → (key mask edge : ℕ) → Pair → Pair
 waited t key mask edge p = withPlaces (registeredOf (waitOf t key mask) (own t p .signals) (eqb edge 1) (p .places)) p
 
@@ -42,7 +42,8 @@ took p = withPlaces (takenOf (p .places)) p
 unfoldable pub closeAnswer : Pair → (h : ℕ) → Answer
 closeAnswer p h = openingTest p h
 
--- 01 "Delivered bytes", close: the end's queue and waits vanish, its packets stay; an open peer loses WRITABLE and gains PEER_CLOSED
+-- 01 "Delivered bytes", close: queue and waits of the end are removed, its packets kept; one change at a peer that is open clears WRITABLE and
+-- sets PEER_CLOSED
 unfoldable pub closed : Bool → Pair → Pair
 closed t p =
     let p₁ = withPlaces (droppedOf t (p .places)) (withEnd t (closedEnd (own t p)) p) in

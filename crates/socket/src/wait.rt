@@ -80,7 +80,7 @@ pub fn taken_only(p: Pair, a: Answer) -> Pair
 }
 
 impl Pair {
-    // Registers a wait of an end: tested at once against the present word unless edge is 1.
+    // Registers a wait of an end. It may fire now, by the word as it is; with edge 1 only a later change fires it.
     pub fn wait(self, handle: u32, key: u64, mask: u32, edge: u8) -> Step
         ensures { λ r. ⌜ Steps self (waitAnswer self handle edge) (waited (isOne handle) key mask edge self) r ⌝ }
     {

@@ -29,7 +29,7 @@ recordCount (Info i) = 0
 recordCount (Limits t) = 0
 recordCount (Packet k) = 0
 
--- the answer word: the count when zero or more, else the status as a negative number
+-- 01 "Status and answer word": an answer as one signed number
 unfoldable pub answerWord : Answer → ℤ
 answerWord (Done d) = pos (recordCount d)
 answerWord (Refused s) = negℤ (pos (statusNumber s))

@@ -24,7 +24,7 @@ unfoldable pub littleEndian : (k n : ℕ) → List ℕ
 littleEndian zero n = []
 littleEndian (suc k) n = n % 256 ∷ littleEndian k (n / 256)
 
--- 01 "Calls over user memory", write: the count lands as 8 bytes little-endian, unless its address is 0
+-- 01 "Calls over user memory", write: memory once the count has landed in its 8 bytes; address 0 asks for no count
 unfoldable pub countLanded : (base countAt n : ℕ) → (memory : List ℕ) → List ℕ
 countLanded base countAt n memory = pick (eqb countAt 0) memory (paste memory (countAt - base) (littleEndian 8 n) 8)
 
