@@ -9,7 +9,7 @@ ghost use Rattle.delivered.specs.Delivered.{BASE, deliveredCount, settle
 // Where the memory begins.
 const MEMORY: u64 = 65536;
 
-// How far an address lies behind the memory's begin, 0 before it.
+// How far an address lies past the start of memory, 0 before it.
 pub fn place_of(address: u64) -> usize
     ensures { λ r. ⌜ r ≡ address - BASE ⌝ }
 {

@@ -83,7 +83,7 @@ fn feed_ready(
     }
 }
 
-// Feeds a block, of which `offset` bytes came before. The caller puts out the text, and feeds again from the first byte that is not done with: at once
+// Feeds a block before which `offset` bytes came. The caller puts out the text, and feeds again from the first byte that is not done with: at once
 // if there was text, else with more bytes behind.
 pub fn feed(
     st: State,

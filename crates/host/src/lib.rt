@@ -92,6 +92,7 @@ pub extern "C" fn murgwethan_set_disposition(
     kept_pair::outcome(p, r)
 }
 
+// Prevents reading or writing by the end of a handle; a peer that is open is shut by the opposite of each flag.
 #[no_mangle]
 pub extern "C" fn murgwethan_shutdown(p: &mut Pair, handle: u32, read: bool, write: bool) -> i64
     ensures { λ w. ⌜ Answered (Steps (now (p .entry)) (shutdownAnswer (now (p .entry)) handle) (shut (isOne handle) read write (now (p .entry)))) (now (p .exit)) w ⌝ }

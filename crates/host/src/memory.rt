@@ -84,7 +84,8 @@ pub extern "C" fn murgwethan_user_set_disposition(
     kept_pair::outcome(p, r)
 }
 
-// Prevents reading or writing by the end of a handle: bit 0x1 of the options is write, 0x2 read.
+// Prevents reading or writing by the end of a handle: bit 0x1 of the options is write, 0x2 read, others are ignored. A peer that is open is shut by
+// the opposite of each.
 #[no_mangle]
 pub extern "C" fn murgwethan_user_shutdown(p: &mut Pair, handle: u32, options: u32) -> i64
     ensures { λ w. ⌜ Answered (Steps (now (p .entry)) (userShutdownAnswer (now (p .entry)) handle) (shut (isOne handle) (shutsRead options) (shutsWrite options) (now (p .entry)))) (now (p .exit)) w ⌝ }

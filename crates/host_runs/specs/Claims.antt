@@ -10,7 +10,7 @@ pub record Claims : Type 0 where
   pub refused : RefusedChangesNothing
   -- a done create starts a run, and a refused one changes nothing
   pub create : CreateStarts
-  -- a run of exported calls is a run of claims
+  -- a run of exported calls is a run of the crate runs
   pub runs : RunsAreRuns
   -- every list of exported calls has a run
   pub exist : RunsExist

@@ -1,4 +1,4 @@
--- A run of exported calls, one after the other, is a run of crates/claims. 01 "Two runs".
+-- A run of exported calls, one after the other, is a run of the crate runs. 01 "Two runs".
 use Prim.Native.Nat.{ℕ}
 use mathlib.Core.Path.{_≡_}
 use mathlib.Core.Bool.{true}
@@ -53,7 +53,7 @@ arraysAfter (c ∷ cs) [] outs = []
 arraysAfter (c ∷ cs) (r ∷ rs) [] = []
 arraysAfter (c ∷ cs) (r ∷ rs) (out ∷ outs) = arrayAfter c r out ∷ arraysAfter cs rs outs
 
--- what the calls give, from the outcomes of a run of claims
+-- what the calls give, from the outcomes of a run of the crate runs
 pub record Gives (xs : List Passed) (ys : List Returned) (os : List Outcome) : Type 0 where
   pub words : wordsOf ys ≡ map answerWord (answers os)
   pub pairs : pairsOf ys ≡ map (λ (o : Outcome). o .seen .pair) os

@@ -1,4 +1,4 @@
--- Each exported call is a step of a run of crates/claims, and a done create starts one. 01 "Two runs", "Status and answer word".
+-- Each exported call is a step of a run of the crate runs, and a done create starts one. 01 "Two runs", "Status and answer word".
 use mathlib.Core.Path.{_≡_}
 use mathlib.Core.Bool.{true, false}
 use mathlib.Core.List.{List}
@@ -14,7 +14,7 @@ use Rattle.host_runs.specs.Exported.{Exported}
 
 -- ---- one call
 
--- An exported call is a step of claims, with an outcome whose answer has the word returned. The pair, the bytes and the memory are those of the
+-- An exported call is a step of the crate runs, with an outcome whose answer has the word returned. The pair, the bytes and the memory are those of the
 -- outcome, and the array has the numbers of the answer's record.
 pub record StepOf (s : State) (x : Passed) (s′ : State) (y : Returned) : Type 0 where
   pub outcome : Outcome
@@ -39,7 +39,7 @@ RefusedChangesNothing = (s : State) (x : Passed) (s′ : State) (y : Returned) �
 
 -- ---- create
 
--- A done create starts a run of claims with the pair at exit. A refused one leaves the record as it was, while a run of claims has the record of
+-- A done create starts a run of the crate runs with the pair at exit. A refused one leaves the record as it was, while a run of the crate runs has the record of
 -- capacity 0 there, on which every call is −1; so a run of exported calls starts with a done create.
 pub record Created (p : Pair) (c : Create) (one two : Slices) (p′ : Pair) (w : ℤ) : Type 0 where
   pub word : w ≡ answerWord (createdBy c one two)

@@ -1,4 +1,5 @@
-// By value, what the exported calls need beside the calls of the pair: numbers for enums, and records put into a lent array.
+// By value, what the exported calls need beside the calls of the pair: numbers for enums, records put into a lent array, and the answer of
+// create by the lengths of its slices.
 use endpoint::SignalWord;
 use ends::Ends;
 use ends::Outcome;

@@ -68,7 +68,7 @@ waitStep p b = stepOf p (waitAnswer p (four b 0) (getD b 16 0)) (waited (isOne (
 unfoldable pub takeStep : Pair → Step
 takeStep p = stepOf p (takeAnswer p) (took p)
 
--- by the tag: 0, and 3 to 10
+-- by the tag: 0, and 3 to 10; 1 and 2 are as 3, those above 10 as 10
 unfoldable pub plainStep : Rings → Pair → (tag : ℕ) → (body : List ℕ) → Step
 plainStep z p tag b =
     pick (ltb tag 1) (createStep z b)

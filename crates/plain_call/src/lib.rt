@@ -98,7 +98,7 @@ fn wait(p: Pair, body: &[u8]) -> Step
     p.wait(handle, key, mask, edge)
 }
 
-// The calls that change neither memory nor a ring: tags 0 and 3 to 10.
+// By the tag: 0, and 3 to 10. Tags 1 and 2 are taken as 3, those above 10 as 10; `call` passes neither.
 pub fn plain(
     p: Pair,
     tag: u8,

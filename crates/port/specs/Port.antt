@@ -1,4 +1,5 @@
--- Registering a wait and dropping an end's waits: what each answers and leaves. 01 "Signal word and packets".
+-- Registering a wait and dropping an end's waits: what each leaves, and what it answers; the answer of a wait is `waitAnswer` of the crate
+-- answers. 01 "Signal word and packets".
 -- Each is settled for every table, also for one with more than 128 used places, and on all of the next table.
 use Prim.Native.Nat.{ℕ, _-_}
 use mathlib.Core.Bool.{Bool, not}

@@ -146,7 +146,7 @@ fn counted(t: Tally, o: Outcome) -> Tally
     }
 }
 
-// Runs the entries from the input's begin on, until its end or an entry that is cut.
+// Runs the entries from the start of the input, until its end or an entry that is cut.
 pub fn replay(s: &[u8], out: &mut [u8]) -> Replayed
     ensures { λ r. ⌜ AgreeTo (now (s .entry)) (now (out .entry)) (now (out .exit)) r ⌝ }
 {

@@ -7,7 +7,7 @@
 --   Delivered bytes           Write, Read, Threshold, Disposition (and shutdown); Wait: close
 --   Info record               Info
 --   Script program            Pair: shownBy, the word that a line shows
---   Calls over user memory    the crate syscall
+--   Calls over user memory    the crate syscall, with the answers in user_answers
 -- Deferred: a call that changes words and visits the waits last.
 pub mod Pair
 pub mod Tests

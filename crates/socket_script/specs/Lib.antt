@@ -1,2 +1,2 @@
--- Drain: what the program's function says that feeds the bytes in its buffer
+-- Drain: when the program reads on, what reading leaves, and what feeding the bytes in the buffer leaves
 pub mod Drain

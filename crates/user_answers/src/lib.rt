@@ -164,7 +164,7 @@ pub fn read_answer(
     )
 }
 
-// What a number asks for an end's writing. The numbers above 2 are refused before.
+// What a number asks for an end's writing. A number above 2 asks for nothing: `dispose_answer` refuses it, and the host's plain call takes it as 0.
 pub fn disposition_of(n: u32) -> Disposition
     ensures { λ r. ⌜ r ≡ dispositionOf n ⌝ }
 {
