@@ -1,12 +1,15 @@
 -- Whether an element of a part of a list passes a test, looked for from the front of the part. Assumes nothing.
-use Prim.Native.Nat.{ℕ, _+_, _≤_, _<_}
-use mathlib.Core.Path.{_≡_, refl, sym, ap, _∙_}
+use Prim.Native.Nat.{ℕ, _+_, _≤_, _<_, min}
+use mathlib.Core.Path.{_≡_, refl, sym, ap, _∙_, subst}
 use mathlib.Core.Bool.{Bool, true, false}
 use mathlib.Core.List.{List}
 use native.Mathlib.Omega.{arith}
 use native.Mathlib.Numerals.{add-one}
 use lib.ListN.{length, getD}
+use lib.Dec.{ltb}
 use lib.Seq.{slice, slice-cons, slice-empty}
+use borrow.Author.Tests.{ltb-true, ltb-false}
+use Rattle.status.specs.Choice.{_and_}
 use Rattle.places.specs.Lists.{any}
 use Rattle.places.proofs.Lists.{any-yes, any-no}
 
@@ -37,3 +40,21 @@ module _ {A : Type 0} where
     search-none i c h =
         let e : i ≡ u = omega (arith, c) in
         sym (ap (any f) (slice-empty u tab)) ∙ rw e at (c .rest)
+
+  -- the same where places up to a fixed number are looked at, of which those from w on have no element
+  pub few-miss : (f : A → Bool) (tab : List A) (p w i : ℕ) (d : A) → Searched f tab p (p + w) (min i w) → (ltb i w and f (getD tab i d)) ≡ false
+      → Searched f tab p (p + w) (min (i + 1) w)
+  unfolding _and_
+  few-miss f tab p w i d c e = by (ltb i w) refl
+    where
+      by : (b : Bool) → ltb i w ≡ b → Searched f tab p (p + w) (min (i + 1) w)
+      by true l =
+          let h : i < w = ltb-true i w l in
+          let to : i + 1 ≡ min (i + 1) w = omega (arith, h) in
+          let from : min i w ≡ i = omega (arith, h) in
+          subst (Searched f tab p (p + w)) to
+          (search-miss f tab p (p + w) i d (subst (Searched f tab p (p + w)) from c) (omega (arith, h)) (rw l at e))
+      by false l =
+          let h : w ≤ i = ltb-false i w l in
+          let same : min i w ≡ min (i + 1) w = omega (arith, h) in
+          subst (Searched f tab p (p + w)) same c

@@ -1,7 +1,9 @@
-use borrow.Author.Needs.{needs}
-use borrow.Author.Tests.{leb-true}
-use mathlib.Core.Path.{refl, sym, _∙_}
 use Rattle.status.specs.Choice.{_and_}
+use borrow.Author.Needs.{needs}
+use borrow.Author.Tests.{leb-true, eqb-true}
+use mathlib.Core.Path.{refl}
+use Rattle.status.proofs.Rules.{via, via-not, via-not-not}
+use Rattle.status.proofs.Chains.{both}
 use Rattle.firing.specs.Firing.{firesOf}
 use Rattle.firing.proofs.fires.Statement.{statement}
 use Rattle.firing.proofs.fires.Tie as tie
@@ -9,16 +11,28 @@ use Rattle.firing.proofs.fires.Tie as tie
 is-sound-requires : tie.Need-is-sound-requires
 is-sound-requires c κs = search needs
 
-any-fires-requires : tie.Need-any-fires-requires
-any-fires-requires c κs = leb-true _ _ (sym (c .before .is-sound .ensures) ∙ c .if1 .taken)
-
 returns : tie.Need-returns
 unfolding firesOf _and_
-returns c = rw (sym (c .before .before .is-sound .ensures) ∙ c .before .if1 .taken) (c .any-fires .ensures)
+returns c = rw (via-not (c .before .is-sound .ensures) (c .if1 .taken)) refl
+
+has-few-requires : tie.Need-has-few-requires
+has-few-requires c κs = search needs
+
+few-fire-requires : tie.Need-few-fire-requires
+few-fire-requires c κs =
+    let w = both _ _ (via (c .before .has-few .ensures) (c .if2 .taken)) in
+    (eqb-true _ _ (w .0), leb-true _ _ (w .1))
 
 returns-2 : tie.Need-returns-2
 unfolding firesOf _and_
-returns-2 c = rw (sym (c .before .is-sound .ensures) ∙ c .if1 .left) refl
+returns-2 c = rw (via-not-not (c .before .before .before .before .is-sound .ensures) (c .before .before .before .if1 .left)) (c .few-fire .ensures)
+
+any-fires-requires : tie.Need-any-fires-requires
+any-fires-requires c κs = leb-true _ _ (via-not-not (c .before .before .before .is-sound .ensures) (c .before .before .if1 .left))
+
+returns-3 : tie.Need-returns-3
+unfolding firesOf _and_
+returns-3 c = rw (via-not-not (c .before .before .before .before .is-sound .ensures) (c .before .before .before .if1 .left)) (c .any-fires .ensures)
 
 pub fires-spec : {M : Type 1} → statement M
-fires-spec = tie.close (tie.spec is-sound-requires any-fires-requires returns returns-2)
+fires-spec = tie.close (tie.spec is-sound-requires returns has-few-requires few-fire-requires returns-2 any-fires-requires returns-3)
