@@ -29,7 +29,7 @@ pub fn keeps_word(a: Pending) -> bool
 }
 
 // Whether a visit can fire a wait: there are waits, and a word has changed.
-fn can_fire(waits: usize, v: Visits) -> bool
+pub fn can_fire(waits: usize, v: Visits) -> bool
     ensures { λ r. ⌜ r ≡ canFire waits v ⌝ }
 {
     if waits == 0 {

@@ -44,7 +44,8 @@ fn span_if(test: bool, yes: Span, no: Span) -> Span
     }
 }
 
-fn queue_if(test: bool, yes: Queue, no: Queue) -> Queue
+// The first queue if the test holds, else the second.
+pub fn queue_if(test: bool, yes: Queue, no: Queue) -> Queue
     ensures { λ r. ⌜ r ≡ pick test yes no ⌝ }
 {
     let bytes = span_if(test, yes.bytes, no.bytes);

@@ -9,11 +9,13 @@ mod change;
 mod choice;
 mod tests;
 
+pub use change::can_fire;
 pub use change::keeps_word;
 pub use change::kept_ends;
 pub use change::no_visits;
 pub use change::put_back;
 pub use change::unchanged;
+pub use choice::queue_if;
 pub use tests::handle_test;
 pub use tests::is_handle;
 pub use tests::opening_test;

@@ -28,6 +28,9 @@ use denote.Triple.Clauses.{ensured, lasts}
 use Rattle.status.specs.declared.Answer.{Answer}
 use Rattle.ends.specs.declared.Ends.{Ends}
 use Rattle.ends.specs.declared.Outcome.{Outcome}
+use Rattle.transfer.specs.declared.Transfer.{Transfer}
+use Rattle.transfer.proofs.Transfer as X
+use Rattle.transfer.proofs.Transfer.Laws as X′
 use Rattle.socket.specs.declared.Pair.{Pair}
 use Rattle.socket.proofs.Pair as T
 use Rattle.socket.proofs.Pair.Laws as T′
@@ -56,6 +59,8 @@ use Rattle.syscall.proofs.dispose_ends as user-dispose-ends
 use Rattle.syscall.proofs.shutdown_ends as user-shutdown-ends
 use Rattle.kept_pair.proofs.outcome as outcome
 use Rattle.kept_pair.proofs.close as close
+use Rattle.kept_pair.proofs.wrote as wrote
+use Rattle.kept_pair.proofs.read as read
 use Rattle.kept_places.proofs.create as create
 use Rattle.kept_places.proofs.wait as wait
 use Rattle.kept_places.proofs.take as take
@@ -172,6 +177,18 @@ module _ {M : Type 1} (𝓤 : URA M) (H : Heap 𝓤) (A : Atoms 𝓤) (at-mem : 
   abbrev pub to-take : Lft → Share → ℕ → ℕ → GName → Pair → Answer → take-contract .Ghost
   to-take κ q b o γ h a₁ = (((κ, tt), (q, tt), tt, (record { ptr = (b, o); name = γ; now = h }, (a₁, tt)), (vptr b o ∷ [], ((EL.vals N.the-type N′.the-laws) a₁, tt))), tt)
 
+  abbrev pub wrote-contract : Contract 𝓤
+  wrote-contract = tripleOf 𝓤 H A wrote.signature (wrote.spec 𝓤 H A at-mem run)
+
+  abbrev pub to-wrote : Lft → Share → ℕ → ℕ → GName → Pair → ℕ → Transfer → wrote-contract .Ghost
+  to-wrote κ q b o γ h a₁ a₂ = (((κ, tt), (q, tt), tt, (record { ptr = (b, o); name = γ; now = h }, (a₁, (a₂, tt))), (vptr b o ∷ [], (vint w32 a₁ ∷ [], ((LL.vals X.the-type X′.the-laws) a₂, tt)))), tt)
+
+  abbrev pub read-contract : Contract 𝓤
+  read-contract = tripleOf 𝓤 H A read.signature (read.spec 𝓤 H A at-mem run)
+
+  abbrev pub to-read : Lft → Share → ℕ → ℕ → GName → Pair → ℕ → Transfer → read-contract .Ghost
+  to-read κ q b o γ h a₁ a₂ = (((κ, tt), (q, tt), tt, (record { ptr = (b, o); name = γ; now = h }, (a₁, (a₂, tt))), (vptr b o ∷ [], (vint w32 a₁ ∷ [], ((LL.vals X.the-type X′.the-laws) a₂, tt)))), tt)
+
   module _ (W : Given 𝓤 H A) where
     pub goes-ends : (a₁ : Pair) → Is T.the-row a₁ ((LL.vals T.the-type T′.the-laws) a₁) → ent 𝓤 (sem 𝓤 H A ftrue) (ends-contract .pre (to-ends a₁))
     goes-ends a₁ i₁ = qed W (‵ ftrue ∷ []) ∵ owned ! T.the-row (Is T.the-row) ((LL.makes T.the-type T′.the-plain) 𝓤 H A) a₁ _ i₁ $ join ! $ nothing ! $ join ! $ frame ! $ done !
@@ -214,3 +231,9 @@ module _ {M : Type 1} (𝓤 : URA M) (H : Heap 𝓤) (A : Atoms 𝓤) (at-mem : 
 
     pub goes-take : (κ : Lft) (q : Share) (b o : ℕ) (γ : GName) (h : Pair) (a₁ : Answer) → Is N.the-row a₁ ((EL.vals N.the-type N′.the-laws) a₁) → ent 𝓤 (⋆ 𝓤 H A ((‵ (MutRef (named 0) κ T.the-row .own (record { ptr = (b, o); name = γ; now = h }) (vptr b o ∷ [])) ⊛ (‵ (flft κ q) ⊛ ‵ ftrue)) ∷ [])) (take-contract .pre (to-take κ q b o γ h a₁))
     goes-take κ q b o γ h a₁ i₁ = qed W ((‵ (MutRef (named 0) κ T.the-row .own (record { ptr = (b, o); name = γ; now = h }) (vptr b o ∷ [])) ⊛ (‵ (flft κ q) ⊛ ‵ ftrue)) ∷ []) ∵ split ! $ nothing ! $ owned ! N.the-row (Is N.the-row) ((EL.makes N.the-type N′.the-plain) 𝓤 H A) a₁ _ i₁ $ join ! $ move ! (1 ∷ 0 ∷ []) $ join ! $ move ! (1 ∷ 0 ∷ []) $ join ! $ frame ! $ done !
+
+    pub goes-wrote : (κ : Lft) (q : Share) (b o : ℕ) (γ : GName) (h : Pair) (a₁ : ℕ) (a₂ : Transfer) → Is u32 a₁ (vint w32 a₁ ∷ []) → Is X.the-row a₂ ((LL.vals X.the-type X′.the-laws) a₂) → ent 𝓤 (⋆ 𝓤 H A ((‵ (MutRef (named 0) κ T.the-row .own (record { ptr = (b, o); name = γ; now = h }) (vptr b o ∷ [])) ⊛ (‵ (flft κ q) ⊛ ‵ ftrue)) ∷ [])) (wrote-contract .pre (to-wrote κ q b o γ h a₁ a₂))
+    goes-wrote κ q b o γ h a₁ a₂ i₁ i₂ = qed W ((‵ (MutRef (named 0) κ T.the-row .own (record { ptr = (b, o); name = γ; now = h }) (vptr b o ∷ [])) ⊛ (‵ (flft κ q) ⊛ ‵ ftrue)) ∷ []) ∵ split ! $ nothing ! $ owned ! X.the-row (Is X.the-row) ((LL.makes X.the-type X′.the-plain) 𝓤 H A) a₂ _ i₂ $ join ! $ owned ! u32 (Is u32) (uint-makes 𝓤 H A W w32) a₁ _ i₁ $ join ! $ move ! (1 ∷ 0 ∷ []) $ join ! $ move ! (1 ∷ 0 ∷ []) $ join ! $ frame ! $ done !
+
+    pub goes-read : (κ : Lft) (q : Share) (b o : ℕ) (γ : GName) (h : Pair) (a₁ : ℕ) (a₂ : Transfer) → Is u32 a₁ (vint w32 a₁ ∷ []) → Is X.the-row a₂ ((LL.vals X.the-type X′.the-laws) a₂) → ent 𝓤 (⋆ 𝓤 H A ((‵ (MutRef (named 0) κ T.the-row .own (record { ptr = (b, o); name = γ; now = h }) (vptr b o ∷ [])) ⊛ (‵ (flft κ q) ⊛ ‵ ftrue)) ∷ [])) (read-contract .pre (to-read κ q b o γ h a₁ a₂))
+    goes-read κ q b o γ h a₁ a₂ i₁ i₂ = qed W ((‵ (MutRef (named 0) κ T.the-row .own (record { ptr = (b, o); name = γ; now = h }) (vptr b o ∷ [])) ⊛ (‵ (flft κ q) ⊛ ‵ ftrue)) ∷ []) ∵ split ! $ nothing ! $ owned ! X.the-row (Is X.the-row) ((LL.makes X.the-type X′.the-plain) 𝓤 H A) a₂ _ i₂ $ join ! $ owned ! u32 (Is u32) (uint-makes 𝓤 H A W w32) a₁ _ i₁ $ join ! $ move ! (1 ∷ 0 ∷ []) $ join ! $ move ! (1 ∷ 0 ∷ []) $ join ! $ frame ! $ done !

@@ -9,10 +9,17 @@ use Rattle.status.proofs.Rules.{on-pick, off-pick}
 use Rattle.places.specs.Table.{onlyWait}
 use Rattle.ends.specs.declared.Outcome.{Outcome}
 use Rattle.socket.specs.declared.Pair.{Pair}
-use Rattle.socket.specs.declared.Step.{Step}
-use Rattle.socket.specs.Pair.{isOne, withPlaces}
-use Rattle.socket.specs.Deferred.{needsVisit, visitedAll, withEnds, withOutcome, settled, withoutWaits, closedWaits, settledClose}
+use Rattle.transfer.specs.declared.Transfer.{Transfer}
+use Rattle.transfer.specs.Transfer.{fedMoved, wroteBy, drainedMoved, readBy}
+use Rattle.ends.specs.declared.Ends.{Ends}
+use Rattle.ends.specs.Ends.{own as end-own, peer}
+use Rattle.ends.specs.Outcome.{noVisits, outcomeOf, unchangedEnds}
+use Rattle.socket.specs.Pair.{isOne, endsOf}
+use Rattle.socket.specs.Transferred.{transferredPair, wrotePair, writeWithoutVisit, readWithoutVisit}
+use Rattle.socket.proofs.NoVisit.{no-visit-wrote, no-visit-read}
+use Rattle.socket.specs.Deferred.{needsVisit, visitedAll, withOutcome, settled, withoutWaits, closedWaits, settledClose}
 use Rattle.socket.proofs.Needed.{need}
+use Rattle.socket.proofs.Closed.{closed-later}
 
 -- ---- the visit
 
@@ -42,11 +49,6 @@ settled-as r p q e = ap (λ (k : Pair). record { pair = k; answer = r .answer })
 
 -- ---- a close
 
--- the waits may be dropped before or after the ends are replaced
-swapped : (t : Bool) (r : Outcome) (p : Pair) → withoutWaits t (withOutcome r p) ≡ withOutcome r (withoutWaits t p)
-unfolding withoutWaits withPlaces withEnds
-swapped t r p = refl
-
 pub dropped-on : (h : ℕ) (r : Outcome) (p q : Pair) (f : Bool) → f ≡ r .fires → T f → q ≡ visitedAll r (withoutWaits (isOne h) p)
     → q ≡ closedWaits (isOne h) r p
 unfolding closedWaits
@@ -57,14 +59,44 @@ unfolding closedWaits
 dropped-off h r p f e t = off-pick (r .fires) f (visitedAll r (withoutWaits (isOne h) p)) p e t
 
 pub close-settled : (h : ℕ) (r : Outcome) (p q q′ : Pair) → q ≡ withOutcome r p → q′ ≡ closedWaits (isOne h) r q → q′ ≡ settledClose (isOne h) r p .pair
-unfolding settledClose settled closedWaits pick
-close-settled h r p q q′ e g = g ∙ ap (λ (k : Pair). pick (r .fires) (visitedAll r (withoutWaits (isOne h) k)) k) e ∙ by (r .fires)
-  where
-    by : (f : Bool) → pick f (visitedAll r (withoutWaits (isOne h) (withOutcome r p))) (withOutcome r p)
-        ≡ pick f (visitedAll r (withOutcome r (pick f (withoutWaits (isOne h) p) p))) (withOutcome r (pick f (withoutWaits (isOne h) p) p))
-    by true = ap (visitedAll r) (swapped (isOne h) r p)
-    by false = refl
+close-settled h r p q q′ e g = g ∙ ap (closedWaits (isOne h) r) e ∙ closed-later (isOne h) r p
 
 pub closed-as : (h : ℕ) (r : Outcome) (p q : Pair) → q ≡ settledClose (isOne h) r p .pair → settledClose (isOne h) r p ≡ record { pair = q; answer = r .answer }
 unfolding settledClose
 closed-as h r p q e = settled-as r (pick (r .fires) (withoutWaits (isOne h) p) p) q e
+
+-- ---- a write and a read
+
+holds : (n b : Bool) → n ≡ b → T n → b ≡ true
+holds true b e u = sym e
+holds false b e u = absurd u
+
+pub wrote-unvisited : (h : ℕ) (t : Transfer) (p q : Pair) (n : Bool) → n ≡ writeWithoutVisit h t p → T n → q ≡ wrotePair (isOne h) t p
+    → q ≡ settled (wroteBy (endsOf p) h t) p .pair
+wrote-unvisited h t p q n e u f = no-visit-wrote h t p q (holds n (writeWithoutVisit h t p) e u) f
+
+pub read-unvisited : (h : ℕ) (t : Transfer) (p q : Pair) (n : Bool) → n ≡ readWithoutVisit h t p → T n
+    → q ≡ transferredPair (isOne h) (isOne h) t p → q ≡ settled (readBy (endsOf p) h t) p .pair
+read-unvisited h t p q n e u f = no-visit-read h t p q (holds n (readWithoutVisit h t p) e u) f
+
+-- the outcome was settled
+pub passed-on : (r s : Outcome) (p q : Pair) → s ≡ r → q ≡ settled s p .pair → q ≡ settled r p .pair
+passed-on r s p q e f = f ∙ ap (λ (k : Outcome). settled k p .pair) e
+
+pub wrote-answer : (e : Ends) (h : ℕ) (t : Transfer) → t .answer ≡ wroteBy e h t .answer
+unfolding wroteBy outcomeOf unchangedEnds pick
+wrote-answer e h t = by (t .moves)
+  where
+    by : (b : Bool) → t .answer
+        ≡ pick b (outcomeOf (e .waits) (isOne h) (t .answer) (fedMoved (isOne h) (end-own (isOne h) e) (peer (isOne h) e) t) noVisits) (unchangedEnds e (t .answer)) .answer
+    by true = refl
+    by false = refl
+
+pub read-answer : (e : Ends) (h : ℕ) (t : Transfer) → t .answer ≡ readBy e h t .answer
+unfolding readBy outcomeOf unchangedEnds pick
+read-answer e h t = by (t .moves)
+  where
+    by : (b : Bool) → t .answer
+        ≡ pick b (outcomeOf (e .waits) (isOne h) (t .answer) (drainedMoved (isOne h) (end-own (isOne h) e) (peer (isOne h) e) t) noVisits) (unchangedEnds e (t .answer)) .answer
+    by true = refl
+    by false = refl

@@ -34,7 +34,7 @@ use Rattle.socket.specs.declared.Pair.{Pair}
 use Rattle.socket.specs.Pair.{isOne, own, peer, endsOf, withEnd, withPlaces, signalChange}
 use Rattle.socket.specs.Tests.{Steps}
 use Rattle.socket.specs.Wait.{closeAnswer, closed}
-use Rattle.socket.specs.Deferred.{visited, visitedPair, visitedAll, withEnds, withOutcome, settled, withoutWaits, settledClose}
+use Rattle.socket.specs.Deferred.{visited, visitedPair, visitedAll, withEnds, withOutcome, settled, withoutWaits, closedWaits, settledClose}
 use Rattle.socket.proofs.Visiting.{visited-none, visited-idle, no-visits, signal-visited, settled-pair}
 use Rattle.socket.proofs.Steps.{steps-refused, steps-done}
 
@@ -135,3 +135,13 @@ close-whole p h e r l i g = by (isDone (closeAnswer p h)) refl
         subst (Steps p (closeAnswer p h) (closed (isOne h) p))
         (sym (ap (λ (k : Outcome). settledClose (isOne h) k p) (is ∙ sym (pick-off _ _ _ _ _ c refl)) ∙ unchanged-settled (isOne h) p (closeAnswer p h)))
         (steps-refused p p _ _ _ refl c refl)
+
+-- the waits may be dropped once the ends are replaced
+pub closed-later : (t : Bool) (r : Outcome) (p : Pair) → closedWaits t r (withOutcome r p) ≡ settledClose t r p .pair
+unfolding closedWaits settledClose settled withoutWaits withPlaces withEnds pick
+closed-later t r p = by (r .fires)
+  where
+    by : (f : Bool) → pick f (visitedAll r (withoutWaits t (withOutcome r p))) (withOutcome r p)
+        ≡ pick f (visitedAll r (withOutcome r (pick f (withoutWaits t p) p))) (withOutcome r (pick f (withoutWaits t p) p))
+    by true = refl
+    by false = refl

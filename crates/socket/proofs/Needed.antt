@@ -4,7 +4,8 @@ use mathlib.Core.Path.{_≡_, refl, sym, ap, _∙_, subst}
 use mathlib.Core.Bool.{Bool, true, false, not}
 use mathlib.Core.Logic.{_⊎_, inl, inr, ⊎-elim}
 use native.Mathlib.Omega.{arith}
-use lib.ListN.{length, getD, set, length-set}
+use lib.ListN.{length, getD, set, length-set, take, drop}
+use lib.Seq.{slice}
 use lib.Dec.{eqb}
 use Rattle.status.specs.Choice.{pick, _and_, _or_}
 use Rattle.status.proofs.Chains.{neither}
@@ -14,16 +15,28 @@ use Rattle.places.specs.declared.Place.{Place}
 use Rattle.places.specs.Table.{free, observe}
 use Rattle.firing.specs.Firing.{fires}
 use Rattle.places.specs.Table.{onlyWait}
+use Rattle.places.specs.Lists.{any}
 use Rattle.places.proofs.Lists.{either}
 use Rattle.firing.proofs.Only.{only-on, only-off}
 use Rattle.ends.specs.declared.Pending.{Pending}
 use Rattle.ends.specs.declared.Outcome.{Outcome}
 use Rattle.socket.specs.declared.Pair.{Pair}
 use Rattle.socket.specs.Pair.{withPlaces}
-use Rattle.socket.specs.Deferred.{due, anyDue, needsVisit, visited, visitedPair, visitedAll, withEnds, withOutcome, settled}
+use Rattle.socket.specs.Deferred.{changesOf, due, anyDue, needsVisit, visited, visitedPair, visitedAll, withEnds, withOutcome, settled}
 use Rattle.socket.proofs.Visiting.{visited-idle, not-due}
 
 -- ---- where no change fires a wait
+
+or-false : (b : Bool) → (b or false) ≡ b
+unfolding _or_
+or-false true = refl
+or-false false = refl
+
+-- the four changes, asked as a list
+pub all-due : (r : Outcome) (t : Places) → any (λ (a : Pending). due a t) (slice 0 4 (changesOf r)) ≡ anyDue r t
+unfolding anyDue changesOf any slice take drop
+all-due r t =
+    ap (λ (d : Bool). due (r .visits .first) t or due (r .visits .second) t or due (r .more .first) t or d) (or-false (due (r .more .second) t))
 
 none-due : (r : Outcome) (p : Pair) → length (p .places .table) ≡ 128 → anyDue r (p .places) ≡ false → visitedAll r p ≡ p
 unfolding anyDue visitedAll visitedPair withPlaces

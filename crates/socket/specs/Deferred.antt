@@ -2,6 +2,7 @@
 -- a change of a word visits the end's waits. The laws of proofs/ say that the visits can wait until all words have changed.
 use Prim.Native.Nat.{ℕ}
 use mathlib.Core.Bool.{Bool, false}
+use mathlib.Core.List.{List, [], _∷_}
 use lib.Dec.{eqb}
 use Rattle.status.specs.Choice.{pick, _and_, _or_}
 use Rattle.places.specs.declared.Places.{Places}
@@ -34,6 +35,10 @@ visitedPair v p = withPlaces (visited (v .second) (visited (v .first) (p .places
 -- of all changes of a call
 unfoldable pub visitedAll : Outcome → Pair → Pair
 visitedAll r p = visitedPair (r .more) (visitedPair (r .visits) p)
+
+-- all changes of a call, in their order
+unfoldable pub changesOf : Outcome → List Pending
+changesOf r = r .visits .first ∷ r .visits .second ∷ r .more .first ∷ r .more .second ∷ []
 
 -- whether one of all changes of a call fires a wait
 unfoldable pub anyDue : Outcome → Places → Bool

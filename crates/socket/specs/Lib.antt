@@ -8,7 +8,7 @@
 --   Info record               Info
 --   Script program            Pair: shownBy, the word that a line shows
 --   Calls over user memory    the crate syscall, with the answers in user_answers
--- Deferred: a call that changes words and visits the waits last.
+-- Deferred: a call that changes words and visits the waits last. Transferred: a write and a read that visit none.
 pub mod Pair
 pub mod Tests
 pub mod Write
@@ -18,3 +18,4 @@ pub mod Disposition
 pub mod Info
 pub mod Wait
 pub mod Deferred
+pub mod Transferred

@@ -9,10 +9,13 @@ use ends::Pending;
 use places::Places;
 use signal::changed;
 ghost use mathlib.Core.Path.{_≡_};
+ghost use Prim.Native.Nat.{_<_};
+ghost use lib.ListN.{getD};
 ghost use Rattle.status.specs.Choice.{pick};
 ghost use Rattle.places.specs.Table.{onlyWait};
+ghost use Rattle.ends.specs.Outcome.{noVisit};
 ghost use Rattle.socket.specs.Pair.{isOne};
-ghost use Rattle.socket.specs.Deferred.{due, anyDue, needsVisit, visited, visitedAll, withEnds, withOutcome, settled, withoutWaits};
+ghost use Rattle.socket.specs.Deferred.{changesOf, due, anyDue, needsVisit, visited, visitedAll, withEnds, withOutcome, settled, withoutWaits};
 
 // Whether a change fires a wait. The table is only read.
 fn is_due(t: Places, a: Pending) -> bool
@@ -24,20 +27,40 @@ fn is_due(t: Places, a: Pending) -> bool
     firing::fires(t, a.one, changed(a.word, a.clear, a.set))
 }
 
-// Whether one of all changes of a call fires a wait.
+// One of the four changes of a call, by its place in their order.
+fn change_at(r: Outcome, i: usize) -> Pending
+    requires { ⌜ i < 4 ⌝ }
+    ensures { λ a. ⌜ a ≡ getD (changesOf r) i noVisit ⌝ }
+{
+    if i == 0 {
+        let a = r.visits.first;
+        return a;
+    }
+    if i == 1 {
+        let a = r.visits.second;
+        return a;
+    }
+    if i == 2 {
+        let a = r.more.first;
+        return a;
+    }
+    let a = r.more.second;
+    a
+}
+
+// Whether one of all changes of a call fires a wait. It is asked in one place, in a loop, so that the compiler inlines it.
 fn any_due(t: Places, r: Outcome) -> bool
     ensures { λ d. ⌜ d ≡ anyDue r t ⌝ }
 {
-    if is_due(t, r.visits.first) {
-        return true;
+    let mut i = 0;
+    while i < 4 {
+        let a = change_at(r, i);
+        i = i + 1;
+        if is_due(t, a) {
+            return true;
+        }
     }
-    if is_due(t, r.visits.second) {
-        return true;
-    }
-    if is_due(t, r.more.first) {
-        return true;
-    }
-    is_due(t, r.more.second)
+    false
 }
 
 // Whether the only place used is a wait.

@@ -2,3 +2,4 @@
 -- in the crate transfer_answers.
 pub mod Write
 pub mod Read
+pub mod Transfer

@@ -52,3 +52,48 @@ pub fn read_answer(p: Ends, handle: u32, ring: &[u8], table: &[u32], n: usize) -
     let first = q.first_length(p.datagram, table);
     read_size(p.datagram, from, p.peer(handle == 1), first, n)
 }
+
+// The same for the plain write that a kernel links. It stands here a second time because the compiler inlines a function that is called in one place, and
+// the calls over user memory call the other: shared, a write and a read of 64 bytes took 54 ns and not 42.
+pub fn plain_write_answer(p: Ends, handle: u32, ring: &[u8], table: &[u32], n: usize) -> Answer
+    ensures { λ r. ⌜ r ≡ writeAnswer p (lentOf (p .datagram) (peer (isOne handle) p .queue) (now (ring .entry)) (now (table .entry))) handle n ⌝ }
+{
+    let sound = ends::sound_test(p);
+    if !status::is_done(sound) {
+        return sound;
+    }
+    let to = p.peer(handle == 1);
+    let q = to.queue;
+    let lent = ends::slices_test(p.datagram, p.capacity, handle, q, ring, table);
+    if !status::is_done(lent) {
+        return lent;
+    }
+    let opened = ends::handle_test(p, handle);
+    if !status::is_done(opened) {
+        return opened;
+    }
+    write_size(p.datagram, p.capacity, p.own(handle == 1), to, n)
+}
+
+// The same for the plain read that a kernel links. It stands here a second time because the compiler inlines a function that is called in one place, and
+// the calls over user memory call the other: shared, a write and a read of 64 bytes took 54 ns and not 42.
+pub fn plain_read_answer(p: Ends, handle: u32, ring: &[u8], table: &[u32], n: usize) -> Answer
+    ensures { λ r. ⌜ r ≡ readAnswer p (lentOf (p .datagram) (own (isOne handle) p .queue) (now (ring .entry)) (now (table .entry))) handle n ⌝ }
+{
+    let sound = ends::sound_test(p);
+    if !status::is_done(sound) {
+        return sound;
+    }
+    let from = p.own(handle == 1);
+    let q = from.queue;
+    let lent = ends::slices_test(p.datagram, p.capacity, handle, q, ring, table);
+    if !status::is_done(lent) {
+        return lent;
+    }
+    let opened = ends::handle_test(p, handle);
+    if !status::is_done(opened) {
+        return opened;
+    }
+    let first = q.first_length(p.datagram, table);
+    read_size(p.datagram, from, p.peer(handle == 1), first, n)
+}

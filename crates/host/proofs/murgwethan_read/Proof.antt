@@ -1,6 +1,6 @@
--- `host::murgwethan_read` meets its contract: a walk of its MIR, by hand. The ends are copied out and passed on, and the outcome is stored.
+-- `host::murgwethan_read` meets its contract: a walk of its MIR, by hand. The ends are copied out and passed on, and the reference with what changes.
 -- Assumes nothing.
-use mathlib.Core.Path.{_≡_, refl, ap, subst}
+use mathlib.Core.Path.{_≡_, refl, ap, subst, sym, _∙_}
 use mathlib.Core.Bool.{Bool}
 use Prim.Native.Nat.{ℕ}
 use lib.IntN.{ℤ}
@@ -45,36 +45,36 @@ use denote.Triple.Walked.{says, Stays, stay-dropped, gave-ref, gave-slice, walkO
 use denote.Triple.Clauses.{ensured, lasts}
 use Rattle.status.specs.Answer.{answerWord}
 use Rattle.ends.specs.declared.Ends.{Ends}
-use Rattle.ends.specs.declared.Outcome.{Outcome}
+use Rattle.transfer.specs.declared.Transfer.{Transfer}
+use Rattle.transfer.specs.Transfer.{readBy, TransferRead}
 use Rattle.socket.specs.declared.Pair.{Pair}
 use Rattle.socket.specs.declared.Step.{Step}
 use Rattle.socket.proofs.Pair as T
 use Rattle.socket.proofs.Pair.Laws as T′
-use Rattle.ends.proofs.Outcome as K
-use Rattle.ends.proofs.Outcome.Laws as K′
+use Rattle.transfer.proofs.Transfer as K
+use Rattle.transfer.proofs.Transfer.Laws as K′
 use Rattle.ends.proofs.Ends as E
 use Rattle.ends.proofs.Ends.Laws as E′
-use Rattle.host.proofs.Callees.{ends-contract, to-ends, goes-ends, ends-told, outcome-contract, to-outcome, goes-outcome}
+use Rattle.host.proofs.Callees.{ends-contract, to-ends, goes-ends, ends-told, read-contract, to-read, goes-read}
 use Rattle.socket.specs.Pair.{own, endsOf}
 use Rattle.socket.specs.Deferred.{settled}
 use Rattle.host.specs.Host.{Answered}
 use Rattle.socket.proofs.Visiting.{places-128}
-use Rattle.kept_pair.proofs.Stored.{settled-as}
-use Rattle.transfer.specs.Read.{EndsRead}
+use Rattle.kept_pair.proofs.Stored.{settled-as, passed-on, read-answer}
 use Rattle.socket.specs.Read.{Read}
 use Rattle.socket.proofs.Settled.{read-whole}
-use Rattle.transfer.proofs.read_ends as step
-use Rattle.transfer.proofs.read_ends.Symbol as step-def
-use Rattle.transfer.proofs.read_ends.Symbol.{name as #step}
-use Rattle.transfer.proofs.read_ends.Met as step-thm
+use Rattle.transfer.proofs.read_transfer as step
+use Rattle.transfer.proofs.read_transfer.Symbol as step-def
+use Rattle.transfer.proofs.read_transfer.Symbol.{name as #step}
+use Rattle.transfer.proofs.read_transfer.Met as step-thm
 use Rattle.socket.proofs.ends_of as ends
 use Rattle.socket.proofs.ends_of.Symbol as ends-def
 use Rattle.socket.proofs.ends_of.Symbol.{name as #ends}
 use Rattle.socket.proofs.ends_of.Met as ends-thm
-use Rattle.kept_pair.proofs.outcome as outcome
-use Rattle.kept_pair.proofs.outcome.Symbol as outcome-def
-use Rattle.kept_pair.proofs.outcome.Symbol.{name as #outcome}
-use Rattle.kept_pair.proofs.outcome.Met as outcome-thm
+use Rattle.kept_pair.proofs.read as read
+use Rattle.kept_pair.proofs.read.Symbol as read-def
+use Rattle.kept_pair.proofs.read.Symbol.{name as #read}
+use Rattle.kept_pair.proofs.read.Met as read-thm
 use Rattle.host.proofs.murgwethan_read.Key.{name as #own}
 use Rattle.host.proofs.murgwethan_read as f
 use Rattle.host.proofs.murgwethan_read.Statement as stated
@@ -134,7 +134,7 @@ module _ {M : Type 1} (𝓤 : URA M) (H : Heap 𝓤) (A : Atoms 𝓤) (W : Given
   goes-step : (j : Ends) → Is E.the-row j ((LL.vals E.the-type E′.the-laws) j) → Is u32 x₁ (vint w32 x₁ ∷ []) → ent 𝓤 (⋆ 𝓤 H A (((((‵ (flft κ₁ q₁) ⊛ ‵ (flft κ₂ q₂) ⊛ ‵ (flft κ₃ q₃) ⊛ ‵ ftrue) ⊛ ‵ Own₃) ⊛ ‵ Own₄) ⊛ ‵ Own₅) ∷ [])) (Called 𝓤 H A at-mem run .pre (to-step j))
   goes-step j c₀ c₁ = qed W (((((‵ (flft κ₁ q₁) ⊛ ‵ (flft κ₂ q₂) ⊛ ‵ (flft κ₃ q₃) ⊛ ‵ ftrue) ⊛ ‵ Own₃) ⊛ ‵ Own₄) ⊛ ‵ Own₅) ∷ []) ∵ split ! $ split ! $ split ! $ nothing ! $ move ! (4 ∷ 0 ∷ []) $ join ! $ move ! (3 ∷ 0 ∷ []) $ join ! $ move ! (2 ∷ 0 ∷ []) $ join ! $ owned ! bool (Is bool) (bool-makes 𝓤 H A W) x₂ _ refl $ join ! $ owned ! u32 (Is u32) (uint-makes 𝓤 H A W w32) x₁ _ c₁ $ join ! $ owned ! E.the-row (Is E.the-row) ((LL.makes E.the-type E′.the-plain) 𝓤 H A) j _ c₀ $ join ! $ move ! (1 ∷ 0 ∷ []) $ join ! $ frame ! $ done !
 
-  module _ (C : Calls 𝓤 H) (Λ : Loops 𝓤 H) (fm : FmC 𝓤 H (W .laws) C) (known-step : Triple 𝓤 (C #step) (Called 𝓤 H A at-mem run)) (known-ends : Triple 𝓤 (C #ends) (ends-contract 𝓤 H A at-mem run)) (known-outcome : Triple 𝓤 (C #outcome) (outcome-contract 𝓤 H A at-mem run)) where
+  module _ (C : Calls 𝓤 H) (Λ : Loops 𝓤 H) (fm : FmC 𝓤 H (W .laws) C) (known-step : Triple 𝓤 (C #step) (Called 𝓤 H A at-mem run)) (known-ends : Triple 𝓤 (C #ends) (ends-contract 𝓤 H A at-mem run)) (known-read : Triple 𝓤 (C #read) (read-contract 𝓤 H A at-mem run)) where
     walk : Room u8 (length (x₃ .now)) → Room u32 (length (x₄ .now)) → Room u8 (length ys₅) → ent 𝓤 (onEntry 𝓤 H A f.signature bound (q, (q₁, (q₂, (q₃, tt)))) x at) (WpFn 𝓤 H C Λ code.function (vptr b o ∷ vint w32 x₁ ∷ vbool x₂ ∷ s₃ ∷ s₄ ∷ s₅ ∷ []) Post)
     walk room₃ room₄ room₅ =
         qed W ((‵ (flft κ q) ⊛ (‵ (flft κ₁ q₁) ⊛ ‵ (flft κ₂ q₂) ⊛ ‵ (flft κ₃ q₃) ⊛ ‵ ftrue)) ∷ ‵ (owns (MutRef (named 0) κ T.the-row ∷ u32 ∷ bool ∷ ShrSlice (named 1) κ₁ u8 ∷ ShrSlice (named 2) κ₂ u32 ∷ MutSlice (named 3) κ₃ u8 ∷ []) x at) ∷ []) ∵ split ! $ move ! (2 ∷ []) $ fsplit ! $ move ! (1 ∷ []) $ fsplit ! $ peeks ! u32 (Is u32) (shows 𝓤 H A u32) x₁ (vint w32 x₁ ∷ []) (λ g₁. move ! (1 ∷ []) $ fsplit ! $ move ! (1 ∷ []) $ fsplit ! $ move ! (1 ∷ []) $ fsplit ! $ move ! (1 ∷ []) $ fsplit ! $ move ! (6 ∷ []) $ fsplit3 ! $ drop ! $
@@ -149,21 +149,21 @@ module _ {M : Type 1} (𝓤 : URA M) (H : Heap 𝓤) (A : Atoms 𝓤) (W : Given
         assigns ! (addr ! (from ! (fld ! refl (hop ! (look-in ! 16 (sub ! 0 refl (whole !))) (stop !))))) (from ! (stop !)) (init ! 8 refl (tt, tt)) $ assigns ! (agg ! (and-then ! (load ! (from ! (stop !)) (look ! 8 refl)) (and-then ! (load ! (from ! (fld ! refl (stop !))) (look-in ! 16 (sub ! 1 refl (whole !)))) (no-more !)))) (from ! (stop !)) (init ! 6 refl (tt, (tt, (record { fits = room₅ .0 }, tt)))) $
         move ! (36 ∷ 33 ∷ 32 ∷ 30 ∷ []) $ join ! $ join ! $ join ! $ use1 W (raw (Called 𝓤 H A at-mem run .pre (to-step y₈))) (goes-step y₈ s₈ g₁) $
         calls-at ! fm (Called 𝓤 H A at-mem run) known-step (to-step y₈) (and-then ! (load ! (from ! (stop !)) (look ! 13 refl)) (and-then ! (load ! (from ! (stop !)) (look ! 25 refl)) (and-then ! (load ! (from ! (stop !)) (look ! 23 refl)) (and-then ! (load ! (from ! (stop !)) (look ! 21 refl)) (and-then ! (load ! (from ! (stop !)) (look ! 19 refl)) (and-then ! (load ! (from ! (stop !)) (look ! 7 refl)) (no-more !))))))) (λ v₇.
-        use1 W (later (some (λ (y₇ : Outcome). ((‵ (flft κ₁ q₁) ⊛ ‵ (flft κ₂ q₂) ⊛ ‵ (flft κ₃ q₃) ⊛ ‵ ftrue) ⊛ ‵ (K.the-row .own y₇ (v₇ ∷ []))) ⊛ raw (ensured 𝓤 H A step.ended (step.clauses 𝓤 H A at-mem run) (κ₁, (κ₂, (κ₃, tt))) (y₈, (x₁, (x₂, (x₃, (x₄, (r₅, tt)))))) tt y₇)))) (id⊢ 𝓤 _) $ await ! tt $ pick ! (λ y₇. split ! $ move ! (1 ∷ []) $
-        use1 W (some (λ (zs : (Unit {0} × (Unit {0} × (Unit {0} × (Unit {0} × (Unit {0} × (List ℕ × Unit {0}))))))). ‵ (lasts step.ended (κ₁, (κ₂, (κ₃, tt))) (y₈, (x₁, (x₂, (x₃, (x₄, (r₅, tt)))))) zs) ⊛ raw (fact 𝓤 (EndsRead y₈ x₁ x₂ (x₃ .now) (x₄ .now) ys₅ (zs .1 .1 .1 .1 .1 .0) y₇)))) (id⊢ 𝓤 _) $ pick ! (λ zs. split ! $ move ! (1 ∷ []) $ heard ! (EndsRead y₈ x₁ x₂ (x₃ .now) (x₄ .now) ys₅ (zs .1 .1 .1 .1 .1 .0) y₇) (λ e₇.
+        use1 W (later (some (λ (y₇ : Transfer). ((‵ (flft κ₁ q₁) ⊛ ‵ (flft κ₂ q₂) ⊛ ‵ (flft κ₃ q₃) ⊛ ‵ ftrue) ⊛ ‵ (K.the-row .own y₇ (v₇ ∷ []))) ⊛ raw (ensured 𝓤 H A step.ended (step.clauses 𝓤 H A at-mem run) (κ₁, (κ₂, (κ₃, tt))) (y₈, (x₁, (x₂, (x₃, (x₄, (r₅, tt)))))) tt y₇)))) (id⊢ 𝓤 _) $ await ! tt $ pick ! (λ y₇. split ! $ move ! (1 ∷ []) $
+        use1 W (some (λ (zs : (Unit {0} × (Unit {0} × (Unit {0} × (Unit {0} × (Unit {0} × (List ℕ × Unit {0}))))))). ‵ (lasts step.ended (κ₁, (κ₂, (κ₃, tt))) (y₈, (x₁, (x₂, (x₃, (x₄, (r₅, tt)))))) zs) ⊛ raw (fact 𝓤 (TransferRead y₈ x₁ x₂ (x₃ .now) (x₄ .now) ys₅ (zs .1 .1 .1 .1 .1 .0) y₇)))) (id⊢ 𝓤 _) $ pick ! (λ zs. split ! $ move ! (1 ∷ []) $ heard ! (TransferRead y₈ x₁ x₂ (x₃ .now) (x₄ .now) ys₅ (zs .1 .1 .1 .1 .1 .0) y₇) (λ e₇.
         fsplit ! $ move ! (1 ∷ []) $ fsplit ! $ move ! (1 ∷ []) $ fsplit ! $ move ! (1 ∷ []) $ fsplit ! $ move ! (1 ∷ []) $ fsplit ! $ move ! (1 ∷ []) $ fsplit ! $ fsplit ! $ move ! (1 ∷ []) $ feqL ! (λ len₅. move ! (7 ∷ []) $ split ! $ move ! (1 ∷ []) $
         peeks ! K.the-row (Is K.the-row) (shows 𝓤 H A K.the-row) y₇ (v₇ ∷ []) (λ i₇. land ! (from ! (stop !)) (init ! 23 refl (LL.lawful K.the-type K′.the-laws 𝓤 H A W .typed y₇ _ i₇ .0)) $ rewrite ! 23 (λ (u : Val). ‵ (fat fullShare K′.mir l₇ 0 u)) (ap only (LL.tells K.the-type K′.the-laws y₇ (v₇ ∷ []) i₇)) refl $ rewrite ! 0 (λ (us : List Val). ‵ (K.the-row .own y₇ us)) (LL.tells K.the-type K′.the-laws y₇ (v₇ ∷ []) i₇) refl $ peeks ! K.the-row (Is K.the-row) (shows 𝓤 H A K.the-row) y₇ ((LL.vals K.the-type K′.the-laws) y₇) (λ s₇. drop ! $
         owned ! T.the-row (Is T.the-row) ((LL.makes T.the-type T′.the-plain) 𝓤 H A) h _ was $ move ! (9 ∷ 0 ∷ 10 ∷ 11 ∷ 12 ∷ []) $ closes ! tt T.the-row h (LL.vals T.the-type T′.the-laws h) b o $
-        assigns ! (addr ! (from ! (hop ! (look ! 33 refl) (stop !)))) (from ! (stop !)) (init ! 11 refl (tt, tt)) $ feqI ! (List Val) (vptr b o ∷ []) (vptr b o ∷ []) refl $ fjoin3 ! $ nothing ! $ move ! (2 ∷ 0 ∷ []) $ join ! $ move ! (1 ∷ 0 ∷ []) $ join ! $ use1 W (raw (outcome-contract 𝓤 H A at-mem run .pre (to-outcome 𝓤 H A at-mem run κ q b o γ h y₇))) (goes-outcome 𝓤 H A at-mem run W κ q b o γ h y₇ s₇) $
-        calls-at ! fm (outcome-contract 𝓤 H A at-mem run) known-outcome (to-outcome 𝓤 H A at-mem run κ q b o γ h y₇) (and-then ! (load ! (from ! (stop !)) (look ! 9 refl)) (and-then ! (load ! (from ! (stop !)) (look ! 19 refl)) (no-more !))) (λ v₀.
-        use1 W (later (some (λ (z₀ : ℤ). ((‵ (flft κ q) ⊛ ‵ ftrue) ⊛ ‵ (i64 .own z₀ (v₀ ∷ []))) ⊛ raw (ensured 𝓤 H A outcome.ended (outcome.clauses 𝓤 H A at-mem run) (κ, tt) (record { ptr = (b, o); name = γ; now = h }, (y₇, tt)) tt z₀)))) (id⊢ 𝓤 _) $ await ! tt $ pick ! (λ z₀. split ! $ move ! (1 ∷ []) $ use1 W (some (λ (ws : (Pair × (Unit {0} × Unit {0}))). ‵ (lasts outcome.ended (κ, tt) (record { ptr = (b, o); name = γ; now = h }, (y₇, tt)) ws) ⊛ raw (fact 𝓤 ((z₀ ≡ answerWord (y₇ .answer)) × (ws .0 ≡ settled y₇ h .pair))))) (id⊢ 𝓤 _) $ pick ! (λ ws. split ! $ move ! (1 ∷ []) $ heard ! ((z₀ ≡ answerWord (y₇ .answer)) × (ws .0 ≡ settled y₇ h .pair)) (λ e₀. fsplit ! $
+        assigns ! (addr ! (from ! (hop ! (look ! 33 refl) (stop !)))) (from ! (stop !)) (init ! 11 refl (tt, tt)) $ feqI ! (List Val) (vptr b o ∷ []) (vptr b o ∷ []) refl $ fjoin3 ! $ nothing ! $ move ! (2 ∷ 0 ∷ []) $ join ! $ move ! (1 ∷ 0 ∷ []) $ join ! $ use1 W (raw (read-contract 𝓤 H A at-mem run .pre (to-read 𝓤 H A at-mem run κ q b o γ h x₁ y₇))) (goes-read 𝓤 H A at-mem run W κ q b o γ h x₁ y₇ g₁ s₇) $
+        calls-at ! fm (read-contract 𝓤 H A at-mem run) known-read (to-read 𝓤 H A at-mem run κ q b o γ h x₁ y₇) (and-then ! (load ! (from ! (stop !)) (look ! 9 refl)) (and-then ! (load ! (from ! (stop !)) (look ! 29 refl)) (and-then ! (load ! (from ! (stop !)) (look ! 19 refl)) (no-more !)))) (λ v₀.
+        use1 W (later (some (λ (z₀ : ℤ). ((‵ (flft κ q) ⊛ ‵ ftrue) ⊛ ‵ (i64 .own z₀ (v₀ ∷ []))) ⊛ raw (ensured 𝓤 H A read.ended (read.clauses 𝓤 H A at-mem run) (κ, tt) (record { ptr = (b, o); name = γ; now = h }, (x₁, (y₇, tt))) tt z₀)))) (id⊢ 𝓤 _) $ await ! tt $ pick ! (λ z₀. split ! $ move ! (1 ∷ []) $ use1 W (some (λ (ws : (Pair × (Unit {0} × (Unit {0} × Unit {0})))). ‵ (lasts read.ended (κ, tt) (record { ptr = (b, o); name = γ; now = h }, (x₁, (y₇, tt))) ws) ⊛ raw (fact 𝓤 ((z₀ ≡ answerWord (y₇ .answer)) × (ws .0 ≡ settled (readBy (endsOf h) x₁ y₇) h .pair))))) (id⊢ 𝓤 _) $ pick ! (λ ws. split ! $ move ! (1 ∷ []) $ heard ! ((z₀ ≡ answerWord (y₇ .answer)) × (ws .0 ≡ settled (readBy (endsOf h) x₁ y₇) h .pair)) (λ e₀. fsplit ! $
         move ! (2 ∷ []) $ split ! $ move ! (1 ∷ []) $ peeks ! i64 (Is i64) (shows 𝓤 H A i64) z₀ (v₀ ∷ []) (λ i₀. land ! (from ! (stop !)) (init ! 36 refl (sint-lawful 𝓤 H A W w64 .typed z₀ _ i₀ .0)) $
         returns ! (look ! 36 refl) $ forget ! 12 refl $ forget ! 14 refl $ forget ! 16 refl $ forget ! 18 refl $ forget ! 20 refl $ forget ! 22 refl $ forget ! 24 refl $ forget ! 26 refl $ forget ! 28 refl $ forget ! 30 refl $ forget ! 32 refl $ forget ! 34 refl $ forget ! 36 refl $
         move ! (36 ∷ 37 ∷ []) $ free1 ! $ move ! (34 ∷ 35 ∷ []) $ free1 ! $ move ! (32 ∷ 33 ∷ []) $ free1 ! $ move ! (30 ∷ 31 ∷ []) $ free1 ! $ move ! (28 ∷ 29 ∷ []) $ free1 ! $ move ! (26 ∷ 27 ∷ []) $ free1 ! $ move ! (24 ∷ 25 ∷ []) $ free1 ! $ move ! (22 ∷ 23 ∷ []) $ free1 ! $ move ! (20 ∷ 21 ∷ []) $ free1 ! $ move ! (18 ∷ 19 ∷ []) $ free1 ! $ move ! (16 ∷ 17 ∷ []) $ free1 ! $ move ! (14 ∷ 15 ∷ []) $ free1 ! $ move ! (12 ∷ 13 ∷ []) $ free1 ! $ free0 ! $
-        keep ! (2 ∷ 1 ∷ 4 ∷ 5 ∷ 0 ∷ []) $ by ! (exits (ws .0) z₀ v₀ (zs .1 .1 .1 .1 .1 .0) (record { answer = y₇ .answer; word = e₀ .0; kept = subst (λ (k : Step). Read h x₁ x₂ (x₃ .now) (x₄ .now) ys₅ (zs .1 .1 .1 .1 .1 .0) k) (settled-as y₇ h (ws .0) (e₀ .1)) (read-whole h x₁ x₂ (x₃ .now) (x₄ .now) ys₅ (zs .1 .1 .1 .1 .1 .0) y₈ y₇ (places-128 h _ was) e₈ e₇) }) len₅))))))))))))))))))))))))))))))))))
+        keep ! (2 ∷ 1 ∷ 4 ∷ 5 ∷ 0 ∷ []) $ by ! (exits (ws .0) z₀ v₀ (zs .1 .1 .1 .1 .1 .0) (record { answer = readBy y₈ x₁ y₇ .answer; word = e₀ .0 ∙ ap answerWord (read-answer y₈ x₁ y₇); kept = subst (λ (k : Step). Read h x₁ x₂ (x₃ .now) (x₄ .now) ys₅ (zs .1 .1 .1 .1 .1 .0) k) (settled-as (readBy y₈ x₁ y₇) h (ws .0) (passed-on (readBy y₈ x₁ y₇) (readBy (endsOf h) x₁ y₇) h (ws .0) (ap (λ (k : Ends). readBy k x₁ y₇) (sym e₈)) (e₀ .1))) (read-whole h x₁ x₂ (x₃ .now) (x₄ .now) ys₅ (zs .1 .1 .1 .1 .1 .0) y₈ (readBy y₈ x₁ y₇) (places-128 h _ was) e₈ (e₇ .outcome)) }) len₅))))))))))))))))))))))))))))))))))
 
 module _ {M : Type 1} (𝓤 : URA M) (H : Heap 𝓤) (A : Atoms 𝓤) (W : Given 𝓤 H A) (at-mem : Memory → SProp 𝓤) (run : Routine → Fun 𝓤) where
-  walks : (C : Calls 𝓤 H) (Λ : Loops 𝓤 H) → FmC 𝓤 H (W .laws) C → Triple 𝓤 (C #step) (Called 𝓤 H A at-mem run) → Triple 𝓤 (C #ends) (ends-contract 𝓤 H A at-mem run) → Triple 𝓤 (C #outcome) (outcome-contract 𝓤 H A at-mem run) → Walks 𝓤 H A f.ended stayed (WpFn 𝓤 H C Λ code.function) (f.clauses 𝓤 H A at-mem run)
+  walks : (C : Calls 𝓤 H) (Λ : Loops 𝓤 H) → FmC 𝓤 H (W .laws) C → Triple 𝓤 (C #step) (Called 𝓤 H A at-mem run) → Triple 𝓤 (C #ends) (ends-contract 𝓤 H A at-mem run) → Triple 𝓤 (C #read) (read-contract 𝓤 H A at-mem run) → Walks 𝓤 H A f.ended stayed (WpFn 𝓤 H C Λ code.function) (f.clauses 𝓤 H A at-mem run)
   walks C Λ fm k₀ k₁ k₂ = walked 𝓤 H A f.ended stayed (f.clauses 𝓤 H A at-mem run) (WpFn 𝓤 H C Λ code.function) (λ κs. (ptr-vals, (uint-vals w32, (bool-vals, (slice-vals, (slice-vals, (slice-vals, tt))))))) (λ κs. (mut-tells (named 0) (κs .0) T.the-row, (uint-tells w32, (bool-tells, (shr-slice-tells (named 1) (κs .1 .0) u8, (shr-slice-tells (named 2) (κs .1 .1 .0) u32, (mut-slice-tells (named 3) (κs .1 .1 .1 .0) u8, tt)))))))
       (λ κs qs bounds a _ are. via 𝓤 _ (fst∗ 𝓤 _ (emp 𝓤)) (walk 𝓤 H A W at-mem run (κs .0) (κs .1 .0) (κs .1 .1 .0) (κs .1 .1 .1 .0) (qs .0) (qs .1 .0) (qs .1 .1 .0) (qs .1 .1 .1 .0) (a .0 .ptr .0) (a .0 .ptr .1) (a .0 .name) (a .0 .now) (a .1 .0) (a .1 .1 .0) (a .1 .1 .1 .0) (a .1 .1 .1 .1 .0) (a .1 .1 .1 .1 .1 .0 .ptr .0) (a .1 .1 .1 .1 .1 .0 .ptr .1) (a .1 .1 .1 .1 .1 .0 .name) (a .1 .1 .1 .1 .1 .0 .now) C Λ fm k₀ k₁ k₂ (are .1 .1 .1 .0 .0 .1) (are .1 .1 .1 .1 .0 .0 .1) (are .1 .1 .1 .1 .1 .0 .0 .1)))
 
@@ -171,7 +171,7 @@ module _ {M : Type 1} (𝓤 : URA M) (H : Heap 𝓤) (A : Atoms 𝓤) (W : Given
   goes = (goes-gave-ref 𝓤 H A W 4 0 tt (plain (λ _. T.the-row)), (goes-dropped 𝓤 H A W 4 (plain (λ _. u32)) yes (λ κs x f. refl), (goes-dropped 𝓤 H A W 4 (plain (λ _. bool)) yes (λ κs x f. refl), (goes-dropped 𝓤 H A W 4 (shrSliceOf (1 ∷ []) tt (plain (λ _. u8))) yes (λ κs x f. refl), (goes-dropped 𝓤 H A W 4 (shrSliceOf (2 ∷ []) tt (plain (λ _. u32))) yes (λ κs x f. refl), (goes-gave-slice 𝓤 H A W 4 3 tt (plain (λ _. u8)), tt))))))
 
 meets : {M : Type 1} (𝓤 : URA M) (H : Heap 𝓤) (A : Atoms 𝓤) (W : Given 𝓤 H A) (at-mem : Memory → SProp 𝓤) (run : Routine → Fun 𝓤) (𝓣 : Tables 𝓤 H)
-    → Triple 𝓤 (𝓣 .C #step) (Called 𝓤 H A at-mem run) → Triple 𝓤 (𝓣 .C #ends) (ends-contract 𝓤 H A at-mem run) → Triple 𝓤 (𝓣 .C #outcome) (outcome-contract 𝓤 H A at-mem run) → Meets 𝓤 H A f.signature (WpFn 𝓤 H (𝓣 .C) (𝓣 .Λ) code.function) (f.spec 𝓤 H A at-mem run)
+    → Triple 𝓤 (𝓣 .C #step) (Called 𝓤 H A at-mem run) → Triple 𝓤 (𝓣 .C #ends) (ends-contract 𝓤 H A at-mem run) → Triple 𝓤 (𝓣 .C #read) (read-contract 𝓤 H A at-mem run) → Meets 𝓤 H A f.signature (WpFn 𝓤 H (𝓣 .C) (𝓣 .Λ) code.function) (f.spec 𝓤 H A at-mem run)
 meets 𝓤 H A W at-mem run 𝓣 k₀ k₁ k₂ = walk-meets 𝓤 H A f.ended stayed W (goes 𝓤 H A W at-mem run) (f.clauses 𝓤 H A at-mem run) (WpFn 𝓤 H (𝓣 .C) (𝓣 .Λ) code.function) (WpFn-mono 𝓤 H (W .laws) 𝓣 code.function)
     (walks 𝓤 H A W at-mem run (𝓣 .C) (𝓣 .Λ) (fmOf 𝓤 H (W .laws) 𝓣) k₀ k₁ k₂)
 
@@ -181,6 +181,6 @@ murgwethan-read-spec 𝓤 H 𝓜 𝓖 𝓡 =
     entered 𝓤 H (tripleOf 𝓤 H (𝓖 .A) f.signature (f.spec 𝓤 H (𝓖 .A) (𝓜 .mem) (𝓡 .run)))
     (tables 𝓤 H 𝓜 𝓡 code.env .C) (tables 𝓤 H 𝓜 𝓡 code.env .Λ) #own code.function (code.unfolded 𝓤 H 𝓜 𝓡)
     (meets 𝓤 H (𝓖 .A) (givenOf 𝓤 H 𝓜 𝓖) (𝓜 .mem) (𝓡 .run) (tablesOf 𝓤 H 𝓜 (tables 𝓤 H 𝓜 𝓡 code.env))
-    (cited 𝓤 H (Called 𝓤 H (𝓖 .A) (𝓜 .mem) (𝓡 .run)) 𝓜 𝓡 code.env #step step-def.routine code.calls-transfer·read-ends (step-thm.met 𝓤 H 𝓜 𝓖 𝓡))
+    (cited 𝓤 H (Called 𝓤 H (𝓖 .A) (𝓜 .mem) (𝓡 .run)) 𝓜 𝓡 code.env #step step-def.routine code.calls-transfer·read-transfer (step-thm.met 𝓤 H 𝓜 𝓖 𝓡))
     (cited 𝓤 H (ends-contract 𝓤 H (𝓖 .A) (𝓜 .mem) (𝓡 .run)) 𝓜 𝓡 code.env #ends ends-def.routine code.calls-socket·ends-of (ends-thm.met 𝓤 H 𝓜 𝓖 𝓡))
-    (cited 𝓤 H (outcome-contract 𝓤 H (𝓖 .A) (𝓜 .mem) (𝓡 .run)) 𝓜 𝓡 code.env #outcome outcome-def.routine code.calls-kept-pair·outcome (outcome-thm.met 𝓤 H 𝓜 𝓖 𝓡)))
+    (cited 𝓤 H (read-contract 𝓤 H (𝓖 .A) (𝓜 .mem) (𝓡 .run)) 𝓜 𝓡 code.env #read read-def.routine code.calls-kept-pair·read (read-thm.met 𝓤 H 𝓜 𝓖 𝓡)))

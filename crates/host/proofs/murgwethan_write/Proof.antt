@@ -1,6 +1,6 @@
--- `host::murgwethan_write` meets its contract: a walk of its MIR, by hand. The ends are copied out and passed on, and the outcome is stored.
+-- `host::murgwethan_write` meets its contract: a walk of its MIR, by hand. The ends are copied out and passed on, and the reference with what changes.
 -- Assumes nothing.
-use mathlib.Core.Path.{_≡_, refl, ap, subst}
+use mathlib.Core.Path.{_≡_, refl, ap, subst, sym, _∙_}
 use Prim.Native.Nat.{ℕ}
 use lib.IntN.{ℤ}
 use lib.ListN.{length}
@@ -44,36 +44,36 @@ use denote.Triple.Walked.{says, Stays, stay-dropped, gave-ref, gave-slice, walkO
 use denote.Triple.Clauses.{ensured, lasts}
 use Rattle.status.specs.Answer.{answerWord}
 use Rattle.ends.specs.declared.Ends.{Ends}
-use Rattle.ends.specs.declared.Outcome.{Outcome}
+use Rattle.transfer.specs.declared.Transfer.{Transfer}
+use Rattle.transfer.specs.Transfer.{wroteBy, TransferWrote}
 use Rattle.socket.specs.declared.Pair.{Pair}
 use Rattle.socket.specs.declared.Step.{Step}
 use Rattle.socket.proofs.Pair as T
 use Rattle.socket.proofs.Pair.Laws as T′
-use Rattle.ends.proofs.Outcome as K
-use Rattle.ends.proofs.Outcome.Laws as K′
+use Rattle.transfer.proofs.Transfer as K
+use Rattle.transfer.proofs.Transfer.Laws as K′
 use Rattle.ends.proofs.Ends as E
 use Rattle.ends.proofs.Ends.Laws as E′
-use Rattle.host.proofs.Callees.{ends-contract, to-ends, goes-ends, ends-told, outcome-contract, to-outcome, goes-outcome}
+use Rattle.host.proofs.Callees.{ends-contract, to-ends, goes-ends, ends-told, wrote-contract, to-wrote, goes-wrote}
 use Rattle.socket.specs.Pair.{own, endsOf}
 use Rattle.socket.specs.Deferred.{settled}
 use Rattle.host.specs.Host.{Answered}
 use Rattle.socket.proofs.Visiting.{places-128}
-use Rattle.kept_pair.proofs.Stored.{settled-as}
-use Rattle.transfer.specs.Write.{EndsWrote}
+use Rattle.kept_pair.proofs.Stored.{settled-as, passed-on, wrote-answer}
 use Rattle.socket.specs.Write.{Wrote}
 use Rattle.socket.proofs.Settled.{wrote-whole}
-use Rattle.transfer.proofs.write_ends as step
-use Rattle.transfer.proofs.write_ends.Symbol as step-def
-use Rattle.transfer.proofs.write_ends.Symbol.{name as #step}
-use Rattle.transfer.proofs.write_ends.Met as step-thm
+use Rattle.transfer.proofs.write_transfer as step
+use Rattle.transfer.proofs.write_transfer.Symbol as step-def
+use Rattle.transfer.proofs.write_transfer.Symbol.{name as #step}
+use Rattle.transfer.proofs.write_transfer.Met as step-thm
 use Rattle.socket.proofs.ends_of as ends
 use Rattle.socket.proofs.ends_of.Symbol as ends-def
 use Rattle.socket.proofs.ends_of.Symbol.{name as #ends}
 use Rattle.socket.proofs.ends_of.Met as ends-thm
-use Rattle.kept_pair.proofs.outcome as outcome
-use Rattle.kept_pair.proofs.outcome.Symbol as outcome-def
-use Rattle.kept_pair.proofs.outcome.Symbol.{name as #outcome}
-use Rattle.kept_pair.proofs.outcome.Met as outcome-thm
+use Rattle.kept_pair.proofs.wrote as wrote
+use Rattle.kept_pair.proofs.wrote.Symbol as wrote-def
+use Rattle.kept_pair.proofs.wrote.Symbol.{name as #wrote}
+use Rattle.kept_pair.proofs.wrote.Met as wrote-thm
 use Rattle.host.proofs.murgwethan_write.Key.{name as #own}
 use Rattle.host.proofs.murgwethan_write as f
 use Rattle.host.proofs.murgwethan_write.Statement as stated
@@ -136,7 +136,7 @@ module _ {M : Type 1} (𝓤 : URA M) (H : Heap 𝓤) (A : Atoms 𝓤) (W : Given
   goes-step : (j : Ends) → Is E.the-row j ((LL.vals E.the-type E′.the-laws) j) → Is u32 x₁ (vint w32 x₁ ∷ []) → ent 𝓤 (⋆ 𝓤 H A (((((‵ (flft κ₁ q₁) ⊛ ‵ (flft κ₂ q₂) ⊛ ‵ (flft κ₃ q₃) ⊛ ‵ ftrue) ⊛ ‵ Own₂) ⊛ ‵ Own₃) ⊛ ‵ Own₄) ∷ [])) (Called 𝓤 H A at-mem run .pre (to-step j))
   goes-step j c₀ c₁ = qed W (((((‵ (flft κ₁ q₁) ⊛ ‵ (flft κ₂ q₂) ⊛ ‵ (flft κ₃ q₃) ⊛ ‵ ftrue) ⊛ ‵ Own₂) ⊛ ‵ Own₃) ⊛ ‵ Own₄) ∷ []) ∵ split ! $ split ! $ split ! $ nothing ! $ move ! (4 ∷ 0 ∷ []) $ join ! $ move ! (3 ∷ 0 ∷ []) $ join ! $ move ! (2 ∷ 0 ∷ []) $ join ! $ owned ! u32 (Is u32) (uint-makes 𝓤 H A W w32) x₁ _ c₁ $ join ! $ owned ! E.the-row (Is E.the-row) ((LL.makes E.the-type E′.the-plain) 𝓤 H A) j _ c₀ $ join ! $ move ! (1 ∷ 0 ∷ []) $ join ! $ frame ! $ done !
 
-  module _ (C : Calls 𝓤 H) (Λ : Loops 𝓤 H) (fm : FmC 𝓤 H (W .laws) C) (known-step : Triple 𝓤 (C #step) (Called 𝓤 H A at-mem run)) (known-ends : Triple 𝓤 (C #ends) (ends-contract 𝓤 H A at-mem run)) (known-outcome : Triple 𝓤 (C #outcome) (outcome-contract 𝓤 H A at-mem run)) where
+  module _ (C : Calls 𝓤 H) (Λ : Loops 𝓤 H) (fm : FmC 𝓤 H (W .laws) C) (known-step : Triple 𝓤 (C #step) (Called 𝓤 H A at-mem run)) (known-ends : Triple 𝓤 (C #ends) (ends-contract 𝓤 H A at-mem run)) (known-wrote : Triple 𝓤 (C #wrote) (wrote-contract 𝓤 H A at-mem run)) where
     walk : Room u8 (length ys₂) → Room u32 (length ys₃) → Room u8 (length (x₄ .now)) → ent 𝓤 (onEntry 𝓤 H A f.signature bound (q, (q₁, (q₂, (q₃, tt)))) x at) (WpFn 𝓤 H C Λ code.function (vptr b o ∷ vint w32 x₁ ∷ s₂ ∷ s₃ ∷ s₄ ∷ []) Post)
     walk room₂ room₃ room₄ =
         qed W ((‵ (flft κ q) ⊛ (‵ (flft κ₁ q₁) ⊛ ‵ (flft κ₂ q₂) ⊛ ‵ (flft κ₃ q₃) ⊛ ‵ ftrue)) ∷ ‵ (owns (MutRef (named 0) κ T.the-row ∷ u32 ∷ MutSlice (named 1) κ₁ u8 ∷ MutSlice (named 2) κ₂ u32 ∷ ShrSlice (named 3) κ₃ u8 ∷ []) x at) ∷ []) ∵ split ! $ move ! (2 ∷ []) $ fsplit ! $ move ! (1 ∷ []) $ fsplit ! $ peeks ! u32 (Is u32) (shows 𝓤 H A u32) x₁ (vint w32 x₁ ∷ []) (λ g₁. move ! (1 ∷ []) $ fsplit ! $ move ! (1 ∷ []) $ fsplit ! $ move ! (1 ∷ []) $ fsplit ! $ move ! (5 ∷ []) $ fsplit3 ! $ drop ! $
@@ -152,21 +152,21 @@ module _ {M : Type 1} (𝓤 : URA M) (H : Heap 𝓤) (A : Atoms 𝓤) (W : Given
         assigns ! (addr ! (from ! (fld ! refl (hop ! (look-in ! 22 (sub ! 0 refl (whole !))) (stop !))))) (from ! (stop !)) (init ! 8 refl (tt, tt)) $ assigns ! (agg ! (and-then ! (load ! (from ! (stop !)) (look ! 8 refl)) (and-then ! (load ! (from ! (fld ! refl (stop !))) (look-in ! 22 (sub ! 1 refl (whole !)))) (no-more !)))) (from ! (stop !)) (init ! 6 refl (tt, (tt, (record { fits = room₃ .0 }, tt)))) $
         move ! (37 ∷ 35 ∷ 34 ∷ 32 ∷ []) $ join ! $ join ! $ join ! $ use1 W (raw (Called 𝓤 H A at-mem run .pre (to-step y₇))) (goes-step y₇ s₇ g₁) $
         calls-at ! fm (Called 𝓤 H A at-mem run) known-step (to-step y₇) (and-then ! (load ! (from ! (stop !)) (look ! 17 refl)) (and-then ! (load ! (from ! (stop !)) (look ! 27 refl)) (and-then ! (load ! (from ! (stop !)) (look ! 11 refl)) (and-then ! (load ! (from ! (stop !)) (look ! 7 refl)) (and-then ! (load ! (from ! (stop !)) (look ! 21 refl)) (no-more !)))))) (λ v₆.
-        use1 W (later (some (λ (y₆ : Outcome). ((‵ (flft κ₁ q₁) ⊛ ‵ (flft κ₂ q₂) ⊛ ‵ (flft κ₃ q₃) ⊛ ‵ ftrue) ⊛ ‵ (K.the-row .own y₆ (v₆ ∷ []))) ⊛ raw (ensured 𝓤 H A step.ended (step.clauses 𝓤 H A at-mem run) (κ₁, (κ₂, (κ₃, tt))) (y₇, (x₁, (r₂, (r₃, (x₄, tt))))) tt y₆)))) (id⊢ 𝓤 _) $ await ! tt $ pick ! (λ y₆. split ! $ move ! (1 ∷ []) $
-        use1 W (some (λ (zs : (Unit {0} × (Unit {0} × (List ℕ × (List ℕ × (Unit {0} × Unit {0})))))). ‵ (lasts step.ended (κ₁, (κ₂, (κ₃, tt))) (y₇, (x₁, (r₂, (r₃, (x₄, tt))))) zs) ⊛ raw (fact 𝓤 (EndsWrote y₇ x₁ (x₄ .now) ys₂ (zs .1 .1 .0) ys₃ (zs .1 .1 .1 .0) y₆)))) (id⊢ 𝓤 _) $ pick ! (λ zs. split ! $ move ! (1 ∷ []) $ heard ! (EndsWrote y₇ x₁ (x₄ .now) ys₂ (zs .1 .1 .0) ys₃ (zs .1 .1 .1 .0) y₆) (λ e₆.
+        use1 W (later (some (λ (y₆ : Transfer). ((‵ (flft κ₁ q₁) ⊛ ‵ (flft κ₂ q₂) ⊛ ‵ (flft κ₃ q₃) ⊛ ‵ ftrue) ⊛ ‵ (K.the-row .own y₆ (v₆ ∷ []))) ⊛ raw (ensured 𝓤 H A step.ended (step.clauses 𝓤 H A at-mem run) (κ₁, (κ₂, (κ₃, tt))) (y₇, (x₁, (r₂, (r₃, (x₄, tt))))) tt y₆)))) (id⊢ 𝓤 _) $ await ! tt $ pick ! (λ y₆. split ! $ move ! (1 ∷ []) $
+        use1 W (some (λ (zs : (Unit {0} × (Unit {0} × (List ℕ × (List ℕ × (Unit {0} × Unit {0})))))). ‵ (lasts step.ended (κ₁, (κ₂, (κ₃, tt))) (y₇, (x₁, (r₂, (r₃, (x₄, tt))))) zs) ⊛ raw (fact 𝓤 (TransferWrote y₇ x₁ (x₄ .now) ys₂ (zs .1 .1 .0) ys₃ (zs .1 .1 .1 .0) y₆)))) (id⊢ 𝓤 _) $ pick ! (λ zs. split ! $ move ! (1 ∷ []) $ heard ! (TransferWrote y₇ x₁ (x₄ .now) ys₂ (zs .1 .1 .0) ys₃ (zs .1 .1 .1 .0) y₆) (λ e₆.
         fsplit ! $ move ! (1 ∷ []) $ fsplit ! $ move ! (1 ∷ []) $ fsplit ! $ fsplit ! $ move ! (1 ∷ []) $ feqL ! (λ len₂. move ! (1 ∷ []) $ fsplit ! $ fsplit ! $ move ! (1 ∷ []) $ feqL ! (λ len₃. move ! (1 ∷ []) $ fsplit ! $ move ! (6 ∷ []) $ split ! $ move ! (1 ∷ []) $
         peeks ! K.the-row (Is K.the-row) (shows 𝓤 H A K.the-row) y₆ (v₆ ∷ []) (λ i₆. land ! (from ! (stop !)) (init ! 26 refl (LL.lawful K.the-type K′.the-laws 𝓤 H A W .typed y₆ _ i₆ .0)) $ rewrite ! 26 (λ (u : Val). ‵ (fat fullShare K′.mir l₆ 0 u)) (ap only (LL.tells K.the-type K′.the-laws y₆ (v₆ ∷ []) i₆)) refl $ rewrite ! 0 (λ (us : List Val). ‵ (K.the-row .own y₆ us)) (LL.tells K.the-type K′.the-laws y₆ (v₆ ∷ []) i₆) refl $ peeks ! K.the-row (Is K.the-row) (shows 𝓤 H A K.the-row) y₆ ((LL.vals K.the-type K′.the-laws) y₆) (λ s₆. drop ! $
         owned ! T.the-row (Is T.the-row) ((LL.makes T.the-type T′.the-plain) 𝓤 H A) h _ was $ move ! (8 ∷ 0 ∷ 9 ∷ 10 ∷ 11 ∷ []) $ closes ! tt T.the-row h (LL.vals T.the-type T′.the-laws h) b o $
-        assigns ! (addr ! (from ! (hop ! (look ! 34 refl) (stop !)))) (from ! (stop !)) (init ! 10 refl (tt, tt)) $ feqI ! (List Val) (vptr b o ∷ []) (vptr b o ∷ []) refl $ fjoin3 ! $ nothing ! $ move ! (2 ∷ 0 ∷ []) $ join ! $ move ! (1 ∷ 0 ∷ []) $ join ! $ use1 W (raw (outcome-contract 𝓤 H A at-mem run .pre (to-outcome 𝓤 H A at-mem run κ q b o γ h y₆))) (goes-outcome 𝓤 H A at-mem run W κ q b o γ h y₆ s₆) $
-        calls-at ! fm (outcome-contract 𝓤 H A at-mem run) known-outcome (to-outcome 𝓤 H A at-mem run κ q b o γ h y₆) (and-then ! (load ! (from ! (stop !)) (look ! 8 refl)) (and-then ! (load ! (from ! (stop !)) (look ! 22 refl)) (no-more !))) (λ v₀.
-        use1 W (later (some (λ (z₀ : ℤ). ((‵ (flft κ q) ⊛ ‵ ftrue) ⊛ ‵ (i64 .own z₀ (v₀ ∷ []))) ⊛ raw (ensured 𝓤 H A outcome.ended (outcome.clauses 𝓤 H A at-mem run) (κ, tt) (record { ptr = (b, o); name = γ; now = h }, (y₆, tt)) tt z₀)))) (id⊢ 𝓤 _) $ await ! tt $ pick ! (λ z₀. split ! $ move ! (1 ∷ []) $ use1 W (some (λ (ws : (Pair × (Unit {0} × Unit {0}))). ‵ (lasts outcome.ended (κ, tt) (record { ptr = (b, o); name = γ; now = h }, (y₆, tt)) ws) ⊛ raw (fact 𝓤 ((z₀ ≡ answerWord (y₆ .answer)) × (ws .0 ≡ settled y₆ h .pair))))) (id⊢ 𝓤 _) $ pick ! (λ ws. split ! $ move ! (1 ∷ []) $ heard ! ((z₀ ≡ answerWord (y₆ .answer)) × (ws .0 ≡ settled y₆ h .pair)) (λ e₀. fsplit ! $
+        assigns ! (addr ! (from ! (hop ! (look ! 34 refl) (stop !)))) (from ! (stop !)) (init ! 10 refl (tt, tt)) $ feqI ! (List Val) (vptr b o ∷ []) (vptr b o ∷ []) refl $ fjoin3 ! $ nothing ! $ move ! (2 ∷ 0 ∷ []) $ join ! $ move ! (1 ∷ 0 ∷ []) $ join ! $ use1 W (raw (wrote-contract 𝓤 H A at-mem run .pre (to-wrote 𝓤 H A at-mem run κ q b o γ h x₁ y₆))) (goes-wrote 𝓤 H A at-mem run W κ q b o γ h x₁ y₆ g₁ s₆) $
+        calls-at ! fm (wrote-contract 𝓤 H A at-mem run) known-wrote (to-wrote 𝓤 H A at-mem run κ q b o γ h x₁ y₆) (and-then ! (load ! (from ! (stop !)) (look ! 8 refl)) (and-then ! (load ! (from ! (stop !)) (look ! 30 refl)) (and-then ! (load ! (from ! (stop !)) (look ! 22 refl)) (no-more !)))) (λ v₀.
+        use1 W (later (some (λ (z₀ : ℤ). ((‵ (flft κ q) ⊛ ‵ ftrue) ⊛ ‵ (i64 .own z₀ (v₀ ∷ []))) ⊛ raw (ensured 𝓤 H A wrote.ended (wrote.clauses 𝓤 H A at-mem run) (κ, tt) (record { ptr = (b, o); name = γ; now = h }, (x₁, (y₆, tt))) tt z₀)))) (id⊢ 𝓤 _) $ await ! tt $ pick ! (λ z₀. split ! $ move ! (1 ∷ []) $ use1 W (some (λ (ws : (Pair × (Unit {0} × (Unit {0} × Unit {0})))). ‵ (lasts wrote.ended (κ, tt) (record { ptr = (b, o); name = γ; now = h }, (x₁, (y₆, tt))) ws) ⊛ raw (fact 𝓤 ((z₀ ≡ answerWord (y₆ .answer)) × (ws .0 ≡ settled (wroteBy (endsOf h) x₁ y₆) h .pair))))) (id⊢ 𝓤 _) $ pick ! (λ ws. split ! $ move ! (1 ∷ []) $ heard ! ((z₀ ≡ answerWord (y₆ .answer)) × (ws .0 ≡ settled (wroteBy (endsOf h) x₁ y₆) h .pair)) (λ e₀. fsplit ! $
         move ! (2 ∷ []) $ split ! $ move ! (1 ∷ []) $ peeks ! i64 (Is i64) (shows 𝓤 H A i64) z₀ (v₀ ∷ []) (λ i₀. land ! (from ! (stop !)) (init ! 37 refl (sint-lawful 𝓤 H A W w64 .typed z₀ _ i₀ .0)) $
         returns ! (look ! 37 refl) $ forget ! 11 refl $ forget ! 13 refl $ forget ! 15 refl $ forget ! 17 refl $ forget ! 19 refl $ forget ! 21 refl $ forget ! 23 refl $ forget ! 25 refl $ forget ! 27 refl $ forget ! 29 refl $ forget ! 31 refl $ forget ! 33 refl $ forget ! 35 refl $ forget ! 37 refl $
         move ! (37 ∷ 38 ∷ []) $ free1 ! $ move ! (35 ∷ 36 ∷ []) $ free1 ! $ move ! (33 ∷ 34 ∷ []) $ free1 ! $ move ! (31 ∷ 32 ∷ []) $ free1 ! $ move ! (29 ∷ 30 ∷ []) $ free1 ! $ move ! (27 ∷ 28 ∷ []) $ free1 ! $ move ! (25 ∷ 26 ∷ []) $ free1 ! $ move ! (23 ∷ 24 ∷ []) $ free1 ! $ move ! (21 ∷ 22 ∷ []) $ free1 ! $ move ! (19 ∷ 20 ∷ []) $ free1 ! $ move ! (17 ∷ 18 ∷ []) $ free1 ! $ move ! (15 ∷ 16 ∷ []) $ free1 ! $ move ! (13 ∷ 14 ∷ []) $ free1 ! $ move ! (11 ∷ 12 ∷ []) $ free1 ! $ free0 ! $
-        keep ! (2 ∷ 1 ∷ 4 ∷ 8 ∷ 7 ∷ 0 ∷ []) $ by ! (exits (ws .0) z₀ v₀ (zs .1 .1 .0) (zs .1 .1 .1 .0) (record { answer = y₆ .answer; word = e₀ .0; kept = subst (λ (k : Step). Wrote h x₁ (x₄ .now) ys₂ (zs .1 .1 .0) ys₃ (zs .1 .1 .1 .0) k) (settled-as y₆ h (ws .0) (e₀ .1)) (wrote-whole h x₁ (x₄ .now) ys₂ (zs .1 .1 .0) ys₃ (zs .1 .1 .1 .0) y₇ y₆ (places-128 h _ was) e₇ e₆) }) len₂ len₃))))))))))))))))))))))))))))))))))))
+        keep ! (2 ∷ 1 ∷ 4 ∷ 8 ∷ 7 ∷ 0 ∷ []) $ by ! (exits (ws .0) z₀ v₀ (zs .1 .1 .0) (zs .1 .1 .1 .0) (record { answer = wroteBy y₇ x₁ y₆ .answer; word = e₀ .0 ∙ ap answerWord (wrote-answer y₇ x₁ y₆); kept = subst (λ (k : Step). Wrote h x₁ (x₄ .now) ys₂ (zs .1 .1 .0) ys₃ (zs .1 .1 .1 .0) k) (settled-as (wroteBy y₇ x₁ y₆) h (ws .0) (passed-on (wroteBy y₇ x₁ y₆) (wroteBy (endsOf h) x₁ y₆) h (ws .0) (ap (λ (k : Ends). wroteBy k x₁ y₆) (sym e₇)) (e₀ .1))) (wrote-whole h x₁ (x₄ .now) ys₂ (zs .1 .1 .0) ys₃ (zs .1 .1 .1 .0) y₇ (wroteBy y₇ x₁ y₆) (places-128 h _ was) e₇ (e₆ .outcome)) }) len₂ len₃))))))))))))))))))))))))))))))))))))
 
 module _ {M : Type 1} (𝓤 : URA M) (H : Heap 𝓤) (A : Atoms 𝓤) (W : Given 𝓤 H A) (at-mem : Memory → SProp 𝓤) (run : Routine → Fun 𝓤) where
-  walks : (C : Calls 𝓤 H) (Λ : Loops 𝓤 H) → FmC 𝓤 H (W .laws) C → Triple 𝓤 (C #step) (Called 𝓤 H A at-mem run) → Triple 𝓤 (C #ends) (ends-contract 𝓤 H A at-mem run) → Triple 𝓤 (C #outcome) (outcome-contract 𝓤 H A at-mem run) → Walks 𝓤 H A f.ended stayed (WpFn 𝓤 H C Λ code.function) (f.clauses 𝓤 H A at-mem run)
+  walks : (C : Calls 𝓤 H) (Λ : Loops 𝓤 H) → FmC 𝓤 H (W .laws) C → Triple 𝓤 (C #step) (Called 𝓤 H A at-mem run) → Triple 𝓤 (C #ends) (ends-contract 𝓤 H A at-mem run) → Triple 𝓤 (C #wrote) (wrote-contract 𝓤 H A at-mem run) → Walks 𝓤 H A f.ended stayed (WpFn 𝓤 H C Λ code.function) (f.clauses 𝓤 H A at-mem run)
   walks C Λ fm k₀ k₁ k₂ = walked 𝓤 H A f.ended stayed (f.clauses 𝓤 H A at-mem run) (WpFn 𝓤 H C Λ code.function) (λ κs. (ptr-vals, (uint-vals w32, (slice-vals, (slice-vals, (slice-vals, tt)))))) (λ κs. (mut-tells (named 0) (κs .0) T.the-row, (uint-tells w32, (mut-slice-tells (named 1) (κs .1 .0) u8, (mut-slice-tells (named 2) (κs .1 .1 .0) u32, (shr-slice-tells (named 3) (κs .1 .1 .1 .0) u8, tt))))))
       (λ κs qs bounds a _ are. via 𝓤 _ (fst∗ 𝓤 _ (emp 𝓤)) (walk 𝓤 H A W at-mem run (κs .0) (κs .1 .0) (κs .1 .1 .0) (κs .1 .1 .1 .0) (qs .0) (qs .1 .0) (qs .1 .1 .0) (qs .1 .1 .1 .0) (a .0 .ptr .0) (a .0 .ptr .1) (a .0 .name) (a .0 .now) (a .1 .0) (a .1 .1 .0 .ptr .0) (a .1 .1 .0 .ptr .1) (a .1 .1 .0 .name) (a .1 .1 .0 .now) (a .1 .1 .1 .0 .ptr .0) (a .1 .1 .1 .0 .ptr .1) (a .1 .1 .1 .0 .name) (a .1 .1 .1 .0 .now) (a .1 .1 .1 .1 .0) C Λ fm k₀ k₁ k₂ (are .1 .1 .0 .0 .1) (are .1 .1 .1 .0 .0 .1) (are .1 .1 .1 .1 .0 .0 .1)))
 
@@ -174,7 +174,7 @@ module _ {M : Type 1} (𝓤 : URA M) (H : Heap 𝓤) (A : Atoms 𝓤) (W : Given
   goes = (goes-gave-ref 𝓤 H A W 4 0 tt (plain (λ _. T.the-row)), (goes-dropped 𝓤 H A W 4 (plain (λ _. u32)) yes (λ κs x f. refl), (goes-gave-slice 𝓤 H A W 4 1 tt (plain (λ _. u8)), (goes-gave-slice 𝓤 H A W 4 2 tt (plain (λ _. u32)), (goes-dropped 𝓤 H A W 4 (shrSliceOf (3 ∷ []) tt (plain (λ _. u8))) yes (λ κs x f. refl), tt)))))
 
 meets : {M : Type 1} (𝓤 : URA M) (H : Heap 𝓤) (A : Atoms 𝓤) (W : Given 𝓤 H A) (at-mem : Memory → SProp 𝓤) (run : Routine → Fun 𝓤) (𝓣 : Tables 𝓤 H)
-    → Triple 𝓤 (𝓣 .C #step) (Called 𝓤 H A at-mem run) → Triple 𝓤 (𝓣 .C #ends) (ends-contract 𝓤 H A at-mem run) → Triple 𝓤 (𝓣 .C #outcome) (outcome-contract 𝓤 H A at-mem run) → Meets 𝓤 H A f.signature (WpFn 𝓤 H (𝓣 .C) (𝓣 .Λ) code.function) (f.spec 𝓤 H A at-mem run)
+    → Triple 𝓤 (𝓣 .C #step) (Called 𝓤 H A at-mem run) → Triple 𝓤 (𝓣 .C #ends) (ends-contract 𝓤 H A at-mem run) → Triple 𝓤 (𝓣 .C #wrote) (wrote-contract 𝓤 H A at-mem run) → Meets 𝓤 H A f.signature (WpFn 𝓤 H (𝓣 .C) (𝓣 .Λ) code.function) (f.spec 𝓤 H A at-mem run)
 meets 𝓤 H A W at-mem run 𝓣 k₀ k₁ k₂ = walk-meets 𝓤 H A f.ended stayed W (goes 𝓤 H A W at-mem run) (f.clauses 𝓤 H A at-mem run) (WpFn 𝓤 H (𝓣 .C) (𝓣 .Λ) code.function) (WpFn-mono 𝓤 H (W .laws) 𝓣 code.function)
     (walks 𝓤 H A W at-mem run (𝓣 .C) (𝓣 .Λ) (fmOf 𝓤 H (W .laws) 𝓣) k₀ k₁ k₂)
 
@@ -184,6 +184,6 @@ murgwethan-write-spec 𝓤 H 𝓜 𝓖 𝓡 =
     entered 𝓤 H (tripleOf 𝓤 H (𝓖 .A) f.signature (f.spec 𝓤 H (𝓖 .A) (𝓜 .mem) (𝓡 .run)))
     (tables 𝓤 H 𝓜 𝓡 code.env .C) (tables 𝓤 H 𝓜 𝓡 code.env .Λ) #own code.function (code.unfolded 𝓤 H 𝓜 𝓡)
     (meets 𝓤 H (𝓖 .A) (givenOf 𝓤 H 𝓜 𝓖) (𝓜 .mem) (𝓡 .run) (tablesOf 𝓤 H 𝓜 (tables 𝓤 H 𝓜 𝓡 code.env))
-    (cited 𝓤 H (Called 𝓤 H (𝓖 .A) (𝓜 .mem) (𝓡 .run)) 𝓜 𝓡 code.env #step step-def.routine code.calls-transfer·write-ends (step-thm.met 𝓤 H 𝓜 𝓖 𝓡))
+    (cited 𝓤 H (Called 𝓤 H (𝓖 .A) (𝓜 .mem) (𝓡 .run)) 𝓜 𝓡 code.env #step step-def.routine code.calls-transfer·write-transfer (step-thm.met 𝓤 H 𝓜 𝓖 𝓡))
     (cited 𝓤 H (ends-contract 𝓤 H (𝓖 .A) (𝓜 .mem) (𝓡 .run)) 𝓜 𝓡 code.env #ends ends-def.routine code.calls-socket·ends-of (ends-thm.met 𝓤 H 𝓜 𝓖 𝓡))
-    (cited 𝓤 H (outcome-contract 𝓤 H (𝓖 .A) (𝓜 .mem) (𝓡 .run)) 𝓜 𝓡 code.env #outcome outcome-def.routine code.calls-kept-pair·outcome (outcome-thm.met 𝓤 H 𝓜 𝓖 𝓡)))
+    (cited 𝓤 H (wrote-contract 𝓤 H (𝓖 .A) (𝓜 .mem) (𝓡 .run)) 𝓜 𝓡 code.env #wrote wrote-def.routine code.calls-kept-pair·wrote (wrote-thm.met 𝓤 H 𝓜 𝓖 𝓡)))

@@ -1,57 +1,70 @@
-use mathlib.Core.Path.{_≡_, refl, sym, ap, _∙_}
-use Rattle.status.proofs.Rules.{via}
-use Rattle.status.specs.Choice.{_or_}
-use Rattle.socket.specs.Deferred.{anyDue}
+use Prim.Native.Nat.{_-_}
+use mathlib.Core.Path.{sym, ap, _∙_}
+use native.Mathlib.Omega.{arith}
+use lib.ListN.{length}
+use Rattle.firing.proofs.Any.{Searched, search-start, search-hit, search-miss, search-none}
+use Rattle.ends.specs.declared.Pending.{Pending}
+use Rattle.ends.specs.Outcome.{noVisit}
+use Rattle.socket.specs.Deferred.{changesOf, due}
+use Rattle.socket.proofs.Needed.{all-due}
 use borrow.Author.Needs.{needs}
 use Rattle.socket.proofs.deferred.any_due.Statement.{statement}
 use Rattle.socket.proofs.deferred.any_due.Tie as tie
 
-is-due-requires : tie.Need-is-due-requires
+-- No change below i is due.
+abbrev Inv-loop : tie.InvT-loop
+Inv-loop t r i₀ i = Searched (λ (a : Pending). due a t) (changesOf r) 0 4 i
+
+abbrev μ-loop : tie.MeasureT-loop
+μ-loop t r i₀ i = 4 - i
+
+loop-holds : tie.Need-loop-holds Inv-loop μ-loop
+unfolding changesOf length
+loop-holds c = search-start (λ (a : Pending). due a (c .args .t)) (changesOf (c .args .r)) 0 4 (omega arith) (omega arith)
+
+change-at-requires : tie.Need-change-at-requires Inv-loop μ-loop
+change-at-requires c κs = search needs
+
+add-i : tie.Need-add-i Inv-loop μ-loop
+add-i c = search needs
+
+is-due-requires : tie.Need-is-due-requires Inv-loop μ-loop
 is-due-requires c κs = search needs
 
-returns : tie.Need-returns
-unfolding anyDue _or_
-returns c = rw (via (c .before .is-due .ensures) (c .if1 .taken)) refl
+returns : tie.Need-returns Inv-loop μ-loop
+returns c =
+    let a = c .before .before .before .before .before .args in
+    let o = c .before .before .before .before .loop in
+    search-hit (λ (k : Pending). due k (a .t)) (changesOf (a .r)) 0 4 (o .i) noVisit (o .inv) (c .before .before .before .loop-test .taken)
+    (ap (λ (k : Pending). due k (a .t)) (sym (c .before .before .change-at .ensures)) ∙ sym (c .before .is-due .ensures) ∙ c .if1 .taken)
+    ∙ all-due (a .r) (a .t)
 
-is-due-requires-2 : tie.Need-is-due-requires-2
-is-due-requires-2 c κs = search needs
+loop-less : tie.Need-loop-less Inv-loop μ-loop
+loop-less c = search needs
 
-returns-2 : tie.Need-returns-2
-unfolding anyDue _or_
+loop-again : tie.Need-loop-again Inv-loop μ-loop
+loop-again c =
+    let a = c .before .before .before .before .before .args in
+    let o = c .before .before .before .before .loop in
+    search-miss (λ (k : Pending). due k (a .t)) (changesOf (a .r)) 0 4 (o .i) noVisit (o .inv) (c .before .before .before .loop-test .taken)
+    (ap (λ (k : Pending). due k (a .t)) (sym (c .before .before .change-at .ensures)) ∙ sym (c .before .is-due .ensures) ∙ c .if1 .left)
+
+returns-2 : tie.Need-returns-2 Inv-loop μ-loop
 returns-2 c =
-    let one = c .before .before in
-    rw (via (one .before .is-due .ensures) (one .if1 .left), via (c .before .is-due2 .ensures) (c .if2 .taken)) refl
-
-is-due-requires-3 : tie.Need-is-due-requires-3
-is-due-requires-3 c κs = search needs
-
-returns-3 : tie.Need-returns-3
-unfolding anyDue _or_
-returns-3 c =
-    let two = c .before .before in
-    let one = two .before .before in
-    rw (via (one .before .is-due .ensures) (one .if1 .left), via (two .before .is-due2 .ensures) (two .if2 .left), via (c .before .is-due3 .ensures) (c .if3 .taken)) refl
-
-is-due-requires-4 : tie.Need-is-due-requires-4
-is-due-requires-4 c κs = search needs
-
-returns-4 : tie.Need-returns-4
-unfolding anyDue _or_
-returns-4 c =
-    let three = c .before in
-    let two = three .before .before in
-    let one = two .before .before in
-    rw (via (one .before .is-due .ensures) (one .if1 .left), via (two .before .is-due2 .ensures) (two .if2 .left), via (three .before .is-due3 .ensures) (three .if3 .left)) (c .is-due4 .ensures)
+    let a = c .before .before .args in
+    search-none (λ (k : Pending). due k (a .t)) (changesOf (a .r)) 0 4 (c .before .loop .i) (c .before .loop .inv) (c .loop-test .left) ∙ all-due (a .r) (a .t)
 
 pub any-due-spec : {M : Type 1} → statement M
 any-due-spec =
     tie.close
     (tie.spec
+    Inv-loop
+    μ-loop
+    loop-holds
+    change-at-requires
+    add-i
     is-due-requires
     returns
-    is-due-requires-2
-    returns-2
-    is-due-requires-3
-    returns-3
-    is-due-requires-4
-    returns-4)
+    loop-less
+    loop-again
+    returns-2)

@@ -1,0 +1,11 @@
+use mathlib.Core.Path.{_≡_, refl, sym, ap, _∙_}
+use Rattle.transfer.specs.Transfer.{keptTransfer}
+use Rattle.transfer.proofs.kept.Statement.{statement}
+use Rattle.transfer.proofs.kept.Tie as tie
+
+returns : tie.Need-returns
+unfolding keptTransfer
+returns c = refl
+
+pub kept-spec : {M : Type 1} → statement M
+kept-spec = tie.close (tie.spec returns)
