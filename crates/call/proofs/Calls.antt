@@ -1,7 +1,7 @@
 -- What a call says is what its definition says. Assumes nothing.
 use Prim.Native.Nat.{ℕ, _+_, _-_, _≤_, _<_}
 use native.Mathlib.Omega.{arith}
-use mathlib.Core.Path.{_≡_, refl, sym, ap, _∙_}
+use mathlib.Core.Path.{_≡_, refl, sym, ap, _∙_, subst}
 use mathlib.Core.Bool.{Bool, true, false, cond}
 use mathlib.Core.List.{List}
 use lib.ListN.{length, take, drop, length-drop}
@@ -19,6 +19,13 @@ use Rattle.socket.specs.declared.Step.{Step}
 use Rattle.socket.specs.Pair.{isOne, own}
 use Rattle.socket.specs.Write.{pairWritten, ringWritten, tableWritten}
 use Rattle.socket.specs.Read.{pairRead}
+use Rattle.ends.specs.declared.Outcome.{Outcome}
+use Rattle.socket.specs.Deferred.{settled}
+use Rattle.pair_outcome.specs.declared.PairOutcome.{PairOutcome}
+use Rattle.pair_outcome.specs.declared.TableChange.the-variants.{Visit}
+use Rattle.pair_outcome.specs.PairOutcome.{unchangedPair, outcomeStep}
+use Rattle.pair_outcome.proofs.Steps.{visit-step, unchanged-is}
+use Rattle.pair_outcome.proofs.Steps.{mk as mkOutcome}
 use Rattle.endpoint.specs.Queue.{firstLength}
 use Rattle.user_memory.specs.Memory.{fits, countLanded}
 use Rattle.syscall.specs.Write.{UserWrote}
@@ -28,7 +35,7 @@ use Rattle.record.specs.declared.fields.Transfer.{Transfer}
 use Rattle.record.specs.Fields.{eight, transferOf}
 use Rattle.record.specs.Record.{isBody}
 use Rattle.delivered.specs.Delivered.{BASE}
-use Rattle.call.specs.Transfer.{writeAnswerOf, wroteBy, writeCall, readAnswerOf, gotBy, readCall, fillAnswer, filled, fillCall, CallDone}
+use Rattle.call.specs.Transfer.{Called, writeAnswerOf, wroteBy, writeCall, readAnswerOf, gotBy, readCall, fillAnswer, filled, fillCall, CallDone}
 use Rattle.plain_call.specs.Rings.{Rings, ownRing, ownTable, peerRing, peerTable, withPeer}
 use Rattle.plain_call.specs.Plain.{plainStep}
 use Rattle.plain_call.proofs.Steps.{mk, same-step}
@@ -182,5 +189,17 @@ module _ {memory : List ℕ} {z : Rings} {p : Pair} {tag : ℕ} {b : List ℕ} w
       → CallMade memory z p tag b memory′ z′ r
   made e d = record { made = λ f. d; none = λ f. absurd (never (sym f ∙ e)) }
 
-  pub no-call : isBody tag (length b) ≡ false → CallMade memory z p tag b memory z (mk p (Refused InvalidArgs))
-  no-call e = record { made = λ f. absurd (never (sym e ∙ f)); none = λ f. (refl, refl, refl) }
+  pub no-call : {r : Step} → isBody tag (length b) ≡ false → r ≡ mk p (Refused InvalidArgs) → CallMade memory z p tag b memory z r
+  no-call e g = record { made = λ f. absurd (never (sym e ∙ f)); none = λ f. (g, refl, refl) }
+
+-- ---- a call whose table is rebuilt last
+
+-- the waits of its changes are visited
+pub visit-done : (d : Called) (memory′ : List ℕ) (z′ : Rings) (r : Outcome) (p : Pair) (k : PairOutcome) → length (p .places .table) ≡ 128 → k ≡ mkOutcome r Visit
+    → CallDone d memory′ z′ (settled r p) → CallDone d memory′ z′ (outcomeStep k p)
+visit-done d memory′ z′ r p k l e = subst (CallDone d memory′ z′) (sym (ap (λ (x : PairOutcome). outcomeStep x p) e ∙ visit-step r p l))
+
+-- nothing changes
+pub unchanged-done : (d : Called) (memory′ : List ℕ) (z′ : Rings) (p : Pair) (a : Answer) (k : PairOutcome) → k ≡ unchangedPair p a
+    → CallDone d memory′ z′ (mk p a) → CallDone d memory′ z′ (outcomeStep k p)
+unchanged-done d memory′ z′ p a k e = subst (CallDone d memory′ z′) (sym (unchanged-is p a k e))

@@ -1,14 +1,18 @@
 // The call that a record makes on the pair, on memory, and on the rings and tables of both ends.
+use pair_outcome::PairOutcome;
+use pair_outcome::unchanged;
+use pair_outcome::visits;
 use record::fields;
 use record::fields::Transfer;
 use socket::Pair;
-use socket::Step;
+use socket::ends_of;
 use status::Answer;
 use status::Record;
 use status::Status;
 ghost use Prim.Native.Nat.{_≤_};
 ghost use mathlib.Core.Path.{_≡_};
 ghost use lib.ListN.{length};
+ghost use Rattle.pair_outcome.specs.PairOutcome.{outcomeStep};
 ghost use Rattle.plain_call.specs.Rings.{rings};
 ghost use Rattle.call.specs.Transfer.{writeCall, readCall, fillAnswer, filled, CallDone};
 ghost use Rattle.call.specs.Call.{CallMade};
@@ -25,12 +29,12 @@ fn write(
     table_one: &mut [u32],
     ring_two: &mut [u8],
     table_two: &mut [u32],
-) -> Step
-    ensures { λ r. ⌜ CallDone (writeCall (now (memory .entry)) (rings (now («ring_one» .entry)) (now («table_one» .entry)) (now («ring_two» .entry)) (now («table_two» .entry))) p t) (now (memory .exit)) (rings (now («ring_one» .exit)) (now («table_one» .exit)) (now («ring_two» .exit)) (now («table_two» .exit))) r ⌝ }
+) -> PairOutcome
+    ensures { λ r. ⌜ CallDone (writeCall (now (memory .entry)) (rings (now («ring_one» .entry)) (now («table_one» .entry)) (now («ring_two» .entry)) (now («table_two» .entry))) p t) (now (memory .exit)) (rings (now («ring_one» .exit)) (now («table_one» .exit)) (now («ring_two» .exit)) (now («table_two» .exit))) (outcomeStep r p) ⌝ }
 {
     if t.handle == 1 {
-        return syscall::write(
-            p,
+        return visits(syscall::write_ends(
+            ends_of(p),
             t.handle,
             t.options,
             BASE,
@@ -40,10 +44,10 @@ fn write(
             t.count_at,
             ring_two,
             table_two,
-        );
+        ));
     }
-    syscall::write(
-        p,
+    visits(syscall::write_ends(
+        ends_of(p),
         t.handle,
         t.options,
         BASE,
@@ -53,7 +57,7 @@ fn write(
         t.count_at,
         ring_one,
         table_one,
-    )
+    ))
 }
 
 // A read is lent the ring and the table of its own end. Its count does not land yet.
@@ -65,12 +69,12 @@ fn read(
     table_one: &[u32],
     ring_two: &[u8],
     table_two: &[u32],
-) -> Step
-    ensures { λ r. ⌜ CallDone (readCall (now (memory .entry)) (rings (now («ring_one» .entry)) (now («table_one» .entry)) (now («ring_two» .entry)) (now («table_two» .entry))) p t) (now (memory .exit)) (rings (now («ring_one» .entry)) (now («table_one» .entry)) (now («ring_two» .entry)) (now («table_two» .entry))) r ⌝ }
+) -> PairOutcome
+    ensures { λ r. ⌜ CallDone (readCall (now (memory .entry)) (rings (now («ring_one» .entry)) (now («table_one» .entry)) (now («ring_two» .entry)) (now («table_two» .entry))) p t) (now (memory .exit)) (rings (now («ring_one» .entry)) (now («table_one» .entry)) (now («ring_two» .entry)) (now («table_two» .entry))) (outcomeStep r p) ⌝ }
 {
     if t.handle == 1 {
-        return syscall::read_bytes(
-            p,
+        return visits(syscall::read_bytes_ends(
+            ends_of(p),
             t.handle,
             t.options,
             BASE,
@@ -80,10 +84,10 @@ fn read(
             t.count_at,
             ring_one,
             table_one,
-        );
+        ));
     }
-    syscall::read_bytes(
-        p,
+    visits(syscall::read_bytes_ends(
+        ends_of(p),
         t.handle,
         t.options,
         BASE,
@@ -93,7 +97,7 @@ fn read(
         t.count_at,
         ring_two,
         table_two,
-    )
+    ))
 }
 
 // Puts bytes into memory where their range fits.
@@ -112,7 +116,8 @@ fn fill(memory: &mut [u8], address: u64, bytes: &[u8]) -> Answer
     Answer::Refused(Status::InvalidArgs)
 }
 
-// By the tag; the count of a read does not land yet. With a body that is not right for the tag no call is made.
+// By the tag; the count of a read does not land yet, and the table of places is rebuilt last. What it leaves of the pair may be said in several ways;
+// each has this step. With a body that is not right for the tag no call is made.
 pub fn call(
     p: Pair,
     tag: u8,
@@ -122,14 +127,11 @@ pub fn call(
     table_one: &mut [u32],
     ring_two: &mut [u8],
     table_two: &mut [u32],
-) -> Step
-    ensures { λ r. ⌜ CallMade (now (memory .entry)) (rings (now («ring_one» .entry)) (now («table_one» .entry)) (now («ring_two» .entry)) (now («table_two» .entry))) p tag (now (body .entry)) (now (memory .exit)) (rings (now («ring_one» .exit)) (now («table_one» .exit)) (now («ring_two» .exit)) (now («table_two» .exit))) r ⌝ }
+) -> PairOutcome
+    ensures { λ r. ⌜ CallMade (now (memory .entry)) (rings (now («ring_one» .entry)) (now («table_one» .entry)) (now («ring_two» .entry)) (now («table_two» .entry))) p tag (now (body .entry)) (now (memory .exit)) (rings (now («ring_one» .exit)) (now («table_one» .exit)) (now («ring_two» .exit)) (now («table_two» .exit))) (outcomeStep r p) ⌝ }
 {
     if !record::is_body(tag, body.len()) {
-        return Step {
-            pair: p,
-            answer: Answer::Refused(Status::InvalidArgs),
-        };
+        return unchanged(p, Answer::Refused(Status::InvalidArgs));
     }
     match tag {
         1 => write(
@@ -153,7 +155,7 @@ pub fn call(
         11..=255 => {
             let address = fields::u64_at(body, 0);
             let answer = fill(memory, address, &body[8..]);
-            Step { pair: p, answer }
+            unchanged(p, answer)
         }
         0 | 3..=10 => plain_call::plain(p, tag, body, ring_one, table_one, ring_two, table_two),
     }

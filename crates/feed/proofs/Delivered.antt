@@ -6,8 +6,6 @@ use mathlib.Core.List.{List}
 use lib.ListN.{length, take, drop, length-take, length-drop}
 use Rattle.status.specs.declared.Answer.{Answer}
 use Rattle.endpoint.specs.declared.SignalWord.{SignalWord}
-use Rattle.socket.specs.declared.Pair.{Pair}
-use Rattle.socket.specs.Pair.{shownBy}
 use Rattle.record.specs.Fields.{eight}
 use Rattle.line.specs.Line.{lineOf}
 use Rattle.delivered.specs.Delivered.{BASE}
@@ -18,12 +16,12 @@ part-small n from l bs h e = rw e (simp (length-take, length-drop) (omega arith)
 
 -- ---- the line of a call
 
-pub call-line : (number tag n from address : ℕ) (a : Answer) (p : Pair) (b memory bs : List ℕ) (one two : SignalWord) → one ≡ shownBy p 1 → two ≡ shownBy p 2
+pub call-line : (number tag n from address : ℕ) (a : Answer) (b memory bs : List ℕ) (one two one′ two′ : SignalWord) → one ≡ one′ → two ≡ two′
     → address ≡ eight b 8 → from ≡ address - BASE → n ≡ deliveredCount tag a → bs ≡ take n (drop from memory)
-    → lineOf number a one two bs ≡ lineOf number a (shownBy p 1) (shownBy p 2) (delivered tag b a memory)
+    → lineOf number a one two bs ≡ lineOf number a one′ two′ (delivered tag b a memory)
 unfolding delivered
-call-line number tag n from address a p b memory bs one two e₁ e₂ e₃ e₄ e₅ e₆ =
+call-line number tag n from address a b memory bs one two one′ two′ e₁ e₂ e₃ e₄ e₅ e₆ =
     ap (λ (x : SignalWord). lineOf number a x two bs) e₁
-    ∙ ap (λ (x : SignalWord). lineOf number a (shownBy p 1) x bs) e₂
-    ∙ ap (λ (x : List ℕ). lineOf number a (shownBy p 1) (shownBy p 2) x)
+    ∙ ap (λ (x : SignalWord). lineOf number a one′ x bs) e₂
+    ∙ ap (λ (x : List ℕ). lineOf number a one′ two′ x)
     (e₆ ∙ ap (λ (k : ℕ). take k (drop from memory)) e₅ ∙ ap (λ (k : ℕ). take (deliveredCount tag a) (drop k memory)) (e₄ ∙ ap (λ (k : ℕ). k - BASE) e₃))

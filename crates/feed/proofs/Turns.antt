@@ -6,14 +6,21 @@ use mathlib.Core.Bool.{Bool, true, false}
 use mathlib.Core.List.{List, []}
 use lib.ListN.{length, take, drop, length-drop}
 use lib.Seq.{drop-drop, length-take-le}
-use Rattle.status.specs.Choice.{pick}
+use Rattle.status.specs.declared.Answer.{Answer}
+use Rattle.status.specs.Choice.{pick, _or_}
+use Rattle.endpoint.specs.declared.SignalWord.{SignalWord}
+use Rattle.endpoint.specs.Endpoint.{shown}
 use Rattle.text.proofs.Place.{nothing, upTo, same}
 use Rattle.text.specs.Put.{Fit}
 use Rattle.socket.specs.declared.Pair.{Pair}
 use Rattle.socket.specs.declared.Step.{Step}
-use Rattle.socket.specs.Pair.{shownBy}
+use Rattle.socket.specs.Pair.{isHandle, shownBy}
+use Rattle.pair_outcome.specs.declared.PairOutcome.{PairOutcome}
+use Rattle.pair_outcome.specs.PairOutcome.{unchangedPair, nextPair, outcomeStep}
+use Rattle.pair_outcome.proofs.Steps.{unchanged-step, next-one, next-two}
 use Rattle.call.proofs.Calls.{part-all}
 use Rattle.feed.specs.declared.State.{State}
+use Rattle.feed.specs.declared.turn.StateChange.{StateChange}
 use Rattle.feed.specs.declared.turn.Stepped.{Stepped}
 use Rattle.feed.specs.declared.turn.Turned.{Turned}
 use Rattle.record.specs.declared.Decoded.{Decoded}
@@ -27,7 +34,7 @@ use Rattle.call.specs.Call.{callOf}
 use Rattle.call.specs.Transfer.{CallDone}
 use Rattle.feed.specs.Machine.{Machine, machine, Move, stay, halt, go, moveOf, isMisplaced, isLast, steppedState, stepped, calledLine, stepLine}
 use Rattle.feed.proofs.Moves.{move-ended, move-cut, move-bad, move-misplaced, move-step}
-use Rattle.feed.specs.Turn.{placed, nextOf, machineAfter, textOf, takenBy, goesOn, StepDone, StopDone, TurnDone}
+use Rattle.feed.specs.Turn.{changedState, placed, nextOf, machineAfter, textOf, takenBy, goesOn, StepDone, StopDone, TurnDone}
 
 -- ---- what the bytes begin with
 
@@ -113,12 +120,12 @@ body-at from n l =
     ap (λ (k : ℕ). take k (drop (from + 3) l)) e ∙ ap (λ (z : List ℕ). take n z) (sym (drop-drop 3 from l))
 
 module _ (m : Machine) (mv : Move) (offset from at : ℕ) (out : List ℕ) where
-  pub turn-stay : mv ≡ stay
-      → TurnDone m mv offset from at (m .memory) (m .lent) out out (record { state = m .state; from = from; at = at; more = false })
+  pub turn-stay : (a : StateChange) → mv ≡ stay → changedState (m .state) a ≡ m .state
+      → TurnDone m mv offset from at (m .memory) (m .lent) out out (record { change = a; from = from; at = at; more = false })
   unfolding machineAfter textOf takenBy goesOn
-  turn-stay e =
-      subst (λ (v : Move). TurnDone m v offset from at (m .memory) (m .lent) out out (record { state = m .state; from = from; at = at; more = false })) (sym e)
-      (record { state = refl; memory = refl; lent = refl; next = omega arith; more = refl; text = nothing LINE at out })
+  turn-stay a e f =
+      subst (λ (v : Move). TurnDone m v offset from at (m .memory) (m .lent) out out (record { change = a; from = from; at = at; more = false })) (sym e)
+      (record { state = f; memory = refl; lent = refl; next = omega arith; more = refl; text = nothing LINE at out })
 
   pub turn-stop : (out′ : List ℕ) (r : Turned) → mv ≡ halt → StopDone (m .state) offset from at out out′ r
       → TurnDone m mv offset from at (m .memory) (m .lent) out out′ r
@@ -136,11 +143,11 @@ module _ (m : Machine) (mv : Move) (offset from at : ℕ) (out : List ℕ) where
 
   pub turn-step : (tag n : ℕ) (body body′ memory′ : List ℕ) (z′ : Rings) (out′ : List ℕ) (q : Stepped)
       → mv ≡ go (stepped m tag body′) (stepLine m tag body′) (3 + n) → body ≡ body′ → StepDone m tag body at memory′ z′ out out′ q
-      → TurnDone m mv offset from at memory′ z′ out out′ (record { state = q .state; from = from + 3 + n; at = q .at; more = true })
+      → TurnDone m mv offset from at memory′ z′ out out′ (record { change = q .change; from = from + 3 + n; at = q .at; more = true })
   unfolding machineAfter textOf takenBy goesOn
   turn-step tag n body body′ memory′ z′ out′ q e b d =
       let f : StepDone m tag body′ at memory′ z′ out out′ q = subst (λ (x : List ℕ). StepDone m tag x at memory′ z′ out out′ q) b d in
-      subst (λ (v : Move). TurnDone m v offset from at memory′ z′ out out′ (record { state = q .state; from = from + 3 + n; at = q .at; more = true })) (sym e)
+      subst (λ (v : Move). TurnDone m v offset from at memory′ z′ out out′ (record { change = q .change; from = from + 3 + n; at = q .at; more = true })) (sym e)
       (record {
         state = f .state;
         memory = f .memory;
@@ -155,31 +162,67 @@ module _ (m : Machine) (mv : Move) (offset from at : ℕ) (out : List ℕ) where
 abbrev pub mkState : Pair → ℕ → Bool → State
 mkState p number ended = record { pair = p; number = number; ended = ended }
 
-module _ (st : State) (tag at to : ℕ) (b memory memory₁ memory₂ out out′ : List ℕ) (z z₁ : Rings) (s : Step) (last : Bool)
-    (w : CallDone (callOf memory z (st .pair) tag b) memory₁ z₁ s) (f : Fit LINE at (lineOf (st .number) (s .answer) (shownBy (s .pair) 1) (shownBy (s .pair) 2) (delivered tag b (s .answer) memory₁)) to out out′)
-    (l : memory₂ ≡ settled tag b (s .answer) memory₁) (i : last ≡ isLast tag (s .answer)) where
-  step-state : mkState (s .pair) (st .number + 1) last ≡ steppedState st tag (callOf memory z (st .pair) tag b)
-  unfolding steppedState
+unchanged-pair : (p : Pair) (a : Answer) → nextPair (unchangedPair p a) p ≡ p
+unfolding outcomeStep
+unchanged-pair p a = ap (λ (k : Step). k .pair) (unchanged-step p a)
+
+-- no record is run
+pub no-record-state : (st : State) (a : Answer) (d : PairOutcome) (ended : Bool) → d ≡ unchangedPair (st .pair) a
+    → changedState st (record { pair = d; number = st .number; ended = ended }) ≡ mkState (st .pair) (st .number) ended
+unfolding changedState
+no-record-state st a d ended e =
+    ap (λ (k : PairOutcome). mkState (nextPair k (st .pair)) (st .number) ended) e
+    ∙ ap (λ (p : Pair). mkState p (st .number) ended) (unchanged-pair (st .pair) a)
+
+-- the words that both ends show
+pub shown-one : (d : PairOutcome) (p : Pair) → shown (d .outcome .one) ≡ shownBy (nextPair d p) 1
+unfolding shownBy isHandle pick _or_
+shown-one d p = ap shown (sym (next-one d p))
+
+pub shown-two : (d : PairOutcome) (p : Pair) → shown (d .outcome .two) ≡ shownBy (nextPair d p) 2
+unfolding shownBy isHandle pick _or_
+shown-two d p = ap shown (sym (next-two d p))
+
+module _ (st : State) (tag at to : ℕ) (b memory memory₁ memory₂ out out′ : List ℕ) (z z₁ : Rings) (d : PairOutcome) (last : Bool)
+    (w : CallDone (callOf memory z (st .pair) tag b) memory₁ z₁ (outcomeStep d (st .pair)))
+    (f : Fit LINE at (lineOf (st .number) (d .outcome .answer) (shown (d .outcome .one)) (shown (d .outcome .two)) (delivered tag b (d .outcome .answer) memory₁)) to out out′)
+    (l : memory₂ ≡ settled tag b (d .outcome .answer) memory₁) (i : last ≡ isLast tag (d .outcome .answer)) where
+  -- the answer and the pair are those of the call
+  answer-is : d .outcome .answer ≡ callOf memory z (st .pair) tag b .step .answer
+  unfolding outcomeStep
+  answer-is = ap (λ (x : Step). x .answer) (w .step)
+
+  pair-is : nextPair d (st .pair) ≡ callOf memory z (st .pair) tag b .step .pair
+  unfolding outcomeStep
+  pair-is = ap (λ (x : Step). x .pair) (w .step)
+
+  step-state : changedState st (record { pair = d; number = st .number + 1; ended = last }) ≡ steppedState st tag (callOf memory z (st .pair) tag b)
+  unfolding changedState steppedState
   step-state =
-      ap (λ (x : Bool). mkState (s .pair) (st .number + 1) x) i
-      ∙ ap (λ (x : Step). mkState (x .pair) (st .number + 1) (isLast tag (x .answer))) (w .step)
+      ap (λ (x : Bool). mkState (nextPair d (st .pair)) (st .number + 1) x) (i ∙ ap (isLast tag) answer-is)
+      ∙ ap (λ (x : Pair). mkState x (st .number + 1) (isLast tag (callOf memory z (st .pair) tag b .step .answer))) pair-is
 
   step-memory : memory₂ ≡ settled tag b (callOf memory z (st .pair) tag b .step .answer) (callOf memory z (st .pair) tag b .memory)
   step-memory =
-      l ∙ ap (λ (x : Step). settled tag b (x .answer) memory₁) (w .step)
+      l ∙ ap (λ (x : Answer). settled tag b x memory₁) answer-is
       ∙ ap (λ (x : List ℕ). settled tag b (callOf memory z (st .pair) tag b .step .answer) x) (w .memory)
 
-  step-text : lineOf (st .number) (s .answer) (shownBy (s .pair) 1) (shownBy (s .pair) 2) (delivered tag b (s .answer) memory₁)
+  step-text : lineOf (st .number) (d .outcome .answer) (shown (d .outcome .one)) (shown (d .outcome .two)) (delivered tag b (d .outcome .answer) memory₁)
       ≡ calledLine (st .number) tag b (callOf memory z (st .pair) tag b)
   unfolding calledLine
   step-text =
-      ap (λ (x : Step). lineOf (st .number) (x .answer) (shownBy (x .pair) 1) (shownBy (x .pair) 2) (delivered tag b (x .answer) memory₁)) (w .step)
-      ∙ ap (λ (x : List ℕ).
-      lineOf (st .number) (callOf memory z (st .pair) tag b .step .answer) (shownBy (callOf memory z (st .pair) tag b .step .pair) 1)
-      (shownBy (callOf memory z (st .pair) tag b .step .pair) 2)
+      ap (λ (x : SignalWord). lineOf (st .number) (d .outcome .answer) x (shown (d .outcome .two)) (delivered tag b (d .outcome .answer) memory₁)) (shown-one d (st .pair))
+      ∙ ap (λ (x : SignalWord). lineOf (st .number) (d .outcome .answer) (shownBy (nextPair d (st .pair)) 1) x (delivered tag b (d .outcome .answer) memory₁)) (shown-two d (st .pair))
+      ∙ ap (λ (x : Pair). lineOf (st .number) (d .outcome .answer) (shownBy x 1) (shownBy x 2) (delivered tag b (d .outcome .answer) memory₁)) pair-is
+      ∙ ap (λ (x : Answer). lineOf (st .number) x (shownBy called 1) (shownBy called 2) (delivered tag b x memory₁)) answer-is
+      ∙ ap (λ (x : List ℕ). lineOf (st .number) (callOf memory z (st .pair) tag b .step .answer) (shownBy called 1) (shownBy called 2)
       (delivered tag b (callOf memory z (st .pair) tag b .step .answer) x))
       (w .memory)
+    where
+      called : Pair
+      called = callOf memory z (st .pair) tag b .step .pair
 
-  pub step-done : StepDone (machine st memory z) tag b at memory₂ z₁ out out′ (record { state = mkState (s .pair) (st .number + 1) last; at = to })
+  pub step-done : StepDone (machine st memory z) tag b at memory₂ z₁ out out′
+      (record { change = record { pair = d; number = st .number + 1; ended = last }; at = to })
   unfolding stepped stepLine
   step-done = record { state = step-state; memory = step-memory; lent = w .lent; text = same _ step-text f }

@@ -8,11 +8,14 @@ use Rattle.status.specs.Choice.{pick}
 use Rattle.text.specs.Put.{Fit}
 use Rattle.text.specs.Answer.{stopOf}
 use Rattle.feed.specs.declared.State.{State}
+use Rattle.feed.specs.declared.turn.StateChange.{StateChange}
 use Rattle.feed.specs.declared.turn.Stepped.{Stepped}
 use Rattle.feed.specs.declared.turn.Turned.{Turned}
 use Rattle.record.specs.declared.Decoded.{Decoded}
 use Rattle.record.specs.declared.Decoded.the-variants.{Whole, Bad, Cut}
 use Rattle.record.specs.Record.{isBody, recordOf}
+use Rattle.socket.specs.Deferred.{withOutcome}
+use Rattle.pair_outcome.specs.PairOutcome.{withTable, nextPair}
 use Rattle.line.specs.Line.{LINE}
 use Rattle.plain_call.specs.Rings.{Rings}
 use Rattle.feed.specs.Machine.{Machine, machine, isMisplaced, stepped, stepLine, stoppedState, Move, stay, halt, go}
@@ -20,6 +23,22 @@ use Rattle.feed.specs.Machine.{Machine, machine, isMisplaced, stepped, s
 -- the numbers that a block may begin with are a quarter of what 64 bits count, so that sums of two of them fit
 abbrev pub LIMIT : ℕ
 LIMIT = 4611686018427387904
+
+-- ---- what a move leaves of the state
+
+-- the state after it
+unfoldable pub changedState : State → StateChange → State
+changedState st a = record { pair = nextPair (a .pair) (st .pair); number = a .number; ended = a .ended }
+
+-- once both ends are replaced, before the table is rebuilt
+unfoldable pub withEndsState : State → StateChange → State
+withEndsState st a = record { pair = withOutcome (a .pair .outcome) (st .pair); number = a .number; ended = a .ended }
+
+-- once the table is rebuilt
+unfoldable pub withTableState : State → StateChange → State
+withTableState st a = record { pair = withTable (a .pair) (st .pair); number = st .number; ended = st .ended }
+
+-- ---- what the functions say
 
 -- what a step asks for: a body that is right for its tag, so that a record is run and its line put out
 pub record StepMay (st : State) (tag : ℕ) (b memory : List ℕ) : Type 0 where
@@ -29,14 +48,14 @@ pub record StepMay (st : State) (tag : ℕ) (b memory : List ℕ) : Type 0 where
 
 -- a step: state, memory and what is lent are those after the record, and its line is put out
 pub record StepDone (m : Machine) (tag : ℕ) (body : List ℕ) (at : ℕ) (memory′ : List ℕ) (z′ : Rings) (out out′ : List ℕ) (r : Stepped) : Type 0 where
-  pub state : r .state ≡ stepped m tag body .state
+  pub state : changedState (m .state) (r .change) ≡ stepped m tag body .state
   pub memory : memory′ ≡ stepped m tag body .memory
   pub lent : z′ ≡ stepped m tag body .lent
   pub text : Fit LINE at (stepLine m tag body) (r .at) out out′
 
 -- the line that stops a script
 pub record StopDone (st : State) (offset from at : ℕ) (out out′ : List ℕ) (r : Turned) : Type 0 where
-  pub state : r .state ≡ stoppedState st
+  pub state : changedState st (r .change) ≡ stoppedState st
   pub next : r .from ≡ from
   pub more : r .more ≡ false
   pub text : Fit 26 at (stopOf (offset + from)) (r .at) out out′
@@ -87,7 +106,7 @@ pub record TurnMay (st : State) (o : ℕ) (s : List ℕ) (from : ℕ) (memory : 
 
 -- a turn: the move that the bytes make from a place of the input on
 pub record TurnDone (m : Machine) (mv : Move) (offset from at : ℕ) (memory′ : List ℕ) (z′ : Rings) (out out′ : List ℕ) (r : Turned) : Type 0 where
-  pub state : r .state ≡ machineAfter m mv .state
+  pub state : changedState (m .state) (r .change) ≡ machineAfter m mv .state
   pub memory : memory′ ≡ machineAfter m mv .memory
   pub lent : z′ ≡ machineAfter m mv .lent
   pub next : r .from ≡ from + takenBy mv

@@ -71,7 +71,11 @@ fn feed_ready(
             out,
             at,
         );
-        s = t.state;
+        let a = t.change;
+        s = turn::with_ends(s, a);
+        if turn::rebuilds_table(s, a) {
+            s = turn::with_table(s, a);
+        }
         from = t.from;
         at = t.at;
         more = t.more;

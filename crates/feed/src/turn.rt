@@ -1,29 +1,40 @@
 // One move of the machine that a script drives: a record is run and its line put out, or the script stops.
 use crate::State;
+use ends::Outcome;
+use pair_outcome::PairOutcome;
+use pair_outcome::unchanged;
 use record::Decoded;
 use record::fields;
-use socket::Pair;
 use status::Answer;
+use status::Status;
 ghost use Prim.Native.Nat.{_+_, _≤_};
 ghost use mathlib.Core.Path.{_≡_};
 ghost use lib.ListN.{length, drop};
 ghost use Rattle.text.specs.Put.{Fit};
-ghost use Rattle.socket.specs.Pair.{shownBy};
+ghost use Rattle.endpoint.specs.Endpoint.{shown};
+ghost use Rattle.pair_outcome.specs.PairOutcome.{rebuildsTable};
 ghost use Rattle.line.specs.Line.{LINE, lineOf};
 ghost use Rattle.plain_call.specs.Rings.{rings};
 ghost use Rattle.delivered.specs.Delivered.{delivered};
 ghost use Rattle.feed.specs.Machine.{machine, isMisplaced, isLast, moveOf};
-ghost use Rattle.feed.specs.Turn.{LIMIT, nextOf, StepMay, StepDone, StopDone, TurnMay, TurnDone};
+ghost use Rattle.feed.specs.Turn.{LIMIT, changedState, withEndsState, withTableState, nextOf, StepMay, StepDone, StopDone, TurnMay, TurnDone};
 
-// After a step: the state, and the place in the output.
+// What a move leaves of the state: what its call leaves of the pair, how many records have been run, and whether the script has ended.
+pub struct StateChange {
+    pub pair: PairOutcome,
+    pub number: u64,
+    pub ended: bool,
+}
+
+// After a step: what it leaves of the state, and the place in the output.
 pub struct Stepped {
-    pub state: State,
+    pub change: StateChange,
     pub at: usize,
 }
 
-// After a move: the state, the place in the input, the place in the output, and whether another move may follow.
+// After a move: what it leaves of the state, the place in the input, the place in the output, and whether another move may follow.
 pub struct Turned {
-    pub state: State,
+    pub change: StateChange,
     pub from: usize,
     pub at: usize,
     pub more: bool,
@@ -54,15 +65,17 @@ fn print(
     number: u64,
     tag: u8,
     body: &[u8],
-    a: Answer,
-    p: Pair,
+    r: Outcome,
     memory: &[u8],
 ) -> usize
     requires { ⌜ length (now memory) ≤ 4096 ⌝ }
-    ensures { λ r. ⌜ Fit LINE at (lineOf number a (shownBy p 1) (shownBy p 2) (delivered tag (now (body .entry)) a (now (memory .entry)))) r (now (out .entry)) (now (out .exit)) ⌝ }
+    ensures { λ n. ⌜ Fit LINE at (lineOf number (r .answer) (shown (r .one)) (shown (r .two)) (delivered tag (now (body .entry)) (r .answer) (now (memory .entry)))) n (now (out .entry)) (now (out .exit)) ⌝ }
 {
-    let one = p.signal(1);
-    let two = p.signal(2);
+    let a = r.answer;
+    let e = r.one;
+    let one = e.shown();
+    let f = r.two;
+    let two = f.shown();
     let from = delivered::place_of(fields::u64_at(body, 8));
     let n = delivered::count(tag, a);
     let bytes = delivered::part(memory, from, n);
@@ -86,7 +99,7 @@ fn step(
     ensures { λ r. ⌜ StepDone (machine st (now (memory .entry)) (rings (now («ring_one» .entry)) (now («table_one» .entry)) (now («ring_two» .entry)) (now («table_two» .entry)))) tag (now (body .entry)) at (now (memory .exit)) (rings (now («ring_one» .exit)) (now («table_one» .exit)) (now («ring_two» .exit)) (now («table_two» .exit))) (now (out .entry)) (now (out .exit)) r ⌝ }
 {
     let p = st.pair;
-    let s = call::call(
+    let d = call::call(
         p,
         tag,
         body,
@@ -96,17 +109,29 @@ fn step(
         ring_two,
         table_two,
     );
-    let next = s.pair;
-    let a = s.answer;
-    let to = print(out, at, st.number, tag, body, a, next, memory);
+    let r = d.outcome;
+    let a = r.answer;
+    let to = print(out, at, st.number, tag, body, r, memory);
     delivered::settle(tag, body, a, memory);
     Stepped {
-        state: State {
-            pair: next,
+        change: StateChange {
+            pair: d,
             number: st.number + 1,
             ended: is_last(tag, a),
         },
         at: to,
+    }
+}
+
+// No record is run: the pair stays. The answer in it is not looked at.
+fn no_record(st: State, ended: bool) -> StateChange
+    ensures { λ r. ⌜ changedState st r ≡ record { pair = st .pair; number = st .number; ended = ended } ⌝ }
+{
+    let p = st.pair;
+    StateChange {
+        pair: unchanged(p, Answer::Refused(Status::ShouldWait)),
+        number: st.number,
+        ended,
     }
 }
 
@@ -116,10 +141,8 @@ fn stop(st: State, offset: u64, from: usize, out: &mut [u8], at: usize) -> Turne
     ensures { λ r. ⌜ StopDone st offset from at (now (out .entry)) (now (out .exit)) r ⌝ }
 {
     let to = text::stop(out, at, offset + from as u64);
-    let mut state = st;
-    state.ended = true;
     Turned {
-        state,
+        change: no_record(st, true),
         from,
         at: to,
         more: false,
@@ -166,7 +189,7 @@ pub(crate) fn turn(
 {
     match next(st.ended, st.number, input, from) {
         Decoded::Cut => Turned {
-            state: st,
+            change: no_record(st, st.ended),
             from,
             at,
             more: false,
@@ -187,14 +210,49 @@ pub(crate) fn turn(
                 out,
                 at,
             );
-            let state = s.state;
+            let change = s.change;
             let to = s.at;
             Turned {
-                state,
+                change,
                 from: e,
                 at: to,
                 more: true,
             }
         }
+    }
+}
+
+// The state with both ends replaced.
+pub(crate) fn with_ends(st: State, a: StateChange) -> State
+    ensures { λ r. ⌜ r ≡ withEndsState st a ⌝ }
+{
+    let p = st.pair;
+    let d = a.pair;
+    State {
+        pair: pair_outcome::with_ends(p, d),
+        number: a.number,
+        ended: a.ended,
+    }
+}
+
+// Whether the table is rebuilt.
+pub(crate) fn rebuilds_table(st: State, a: StateChange) -> bool
+    ensures { λ r. ⌜ r ≡ rebuildsTable (a .pair) (st .pair) ⌝ }
+{
+    let p = st.pair;
+    let d = a.pair;
+    pair_outcome::rebuilds_table(p, d)
+}
+
+// The state with its table rebuilt.
+pub(crate) fn with_table(st: State, a: StateChange) -> State
+    ensures { λ r. ⌜ r ≡ withTableState st a ⌝ }
+{
+    let p = st.pair;
+    let d = a.pair;
+    State {
+        pair: pair_outcome::with_table(p, d),
+        number: st.number,
+        ended: st.ended,
     }
 }

@@ -1,19 +1,34 @@
 -- What a call that changes neither memory nor a ring says is what its definition says. Assumes nothing.
 use Prim.Native.Nat.{ℕ, _+_, _≤_}
 use native.Mathlib.Omega.{arith}
-use mathlib.Core.Path.{_≡_, ap, _∙_}
+use mathlib.Core.Path.{_≡_, refl, ap, _∙_}
 use mathlib.Core.Bool.{Bool, true, false}
 use mathlib.Core.List.{List}
+use lib.ListN.{length, getD}
 use borrow.Author.Tests.{le-ltb, eq-eqb, ne-eqb}
 use Rattle.status.specs.declared.Answer.{Answer}
 use Rattle.status.specs.Choice.{pick}
 use Rattle.status.specs.Answer.{isDone}
 use Rattle.socket.specs.declared.Pair.{Pair}
 use Rattle.socket.specs.declared.Step.{Step}
-use Rattle.socket.specs.Pair.{isOne}
+use Rattle.places.specs.Table.{newPlaces}
+use Rattle.ends.specs.declared.Ends.{Ends}
+use Rattle.ends.specs.declared.Outcome.{Outcome}
+use Rattle.ends.specs.Outcome.{unchangedEnds}
+use Rattle.socket.specs.Pair.{isOne, endsOf, newPair, noPair}
 use Rattle.socket.specs.Tests.{Steps}
+use Rattle.socket.specs.Deferred.{settled}
+use Rattle.answers.specs.Wait as E
+use Rattle.record.specs.Fields.{four, eight}
+use Rattle.socket.proofs.Steps.{steps-same}
+use Rattle.socket.proofs.Waits.{wait-steps}
+use Rattle.pair_outcome.specs.declared.PairOutcome.{PairOutcome}
+use Rattle.pair_outcome.specs.declared.TableChange.the-variants.{New, Visit, Wait}
+use Rattle.pair_outcome.specs.PairOutcome.{unchangedPair, outcomeStep}
+use Rattle.pair_outcome.proofs.Steps.{visit-step, unchanged-is, wait-step, new-step}
+use Rattle.pair_outcome.proofs.Steps.{mk as mkOutcome}
 use Rattle.plain_call.specs.Rings.{Rings, rings, ownRing, ownTable, peerRing, peerTable, withPeer}
-use Rattle.plain_call.specs.Plain.{stepOf, takeStep, plainStep}
+use Rattle.plain_call.specs.Plain.{stepOf, createStep, Creates, waitStep, takeStep, plainStep}
 
 abbrev pub mk : Pair → Answer → Step
 mk p a = record { pair = p; answer = a }
@@ -26,7 +41,46 @@ pub steps-are : {p q : Pair} {a : Answer} {r : Step} → Steps p a q r → r ≡
 unfolding stepOf
 steps-are {p} {q} {a} {r} s = same-step r (pick (isDone a) q p) a (s .pair) (s .answer)
 
--- by the handle
+-- ---- a call whose table is rebuilt last
+
+-- the waits of its changes are visited
+pub visit-is : {p q : Pair} {a : Answer} (r : Outcome) (d : PairOutcome) → length (p .places .table) ≡ 128 → d ≡ mkOutcome r Visit → Steps p a q (settled r p)
+    → outcomeStep d p ≡ stepOf p a q
+visit-is {p} r d l e s = ap (λ (k : PairOutcome). outcomeStep k p) e ∙ visit-step r p l ∙ steps-are s
+
+-- nothing changes
+pub unchanged-steps : (p : Pair) (a x : Answer) (d : PairOutcome) → d ≡ unchangedPair p x → x ≡ a → outcomeStep d p ≡ stepOf p a p
+unchanged-steps p a x d e f = unchanged-is p x d e ∙ steps-are (steps-same p a x f)
+
+-- there is a wait more
+pub wait-is : (p : Pair) (b : List ℕ) (h key mask edge : ℕ) (e : Ends) (a : Answer) (r : Outcome) → h ≡ four b 0 → key ≡ eight b 4 → mask ≡ four b 12
+    → edge ≡ getD b 16 0 → e ≡ endsOf p → a ≡ E.waitAnswer e h edge → r ≡ unchangedEnds e a → outcomeStep (mkOutcome r (Wait h key mask edge)) p ≡ waitStep p b
+unfolding waitStep
+wait-is p b h key mask edge e a r eh ek em ee f g i =
+    rw (← eh, ← ek, ← em, ← ee)
+    (ap (λ (k : Outcome). outcomeStep (mkOutcome k (Wait h key mask edge)) p) (i ∙ ap (λ (k : Ends). unchangedEnds k a) f)
+    ∙ wait-step p a h key mask edge
+    ∙ steps-are (wait-steps p h key mask edge a _ (g ∙ ap (λ (k : Ends). E.waitAnswer k h edge) f) refl))
+
+-- the pair is the one that a create gave
+made-table : (b datagram : Bool) (C one two : ℕ) → pick b (newPair datagram C one two) noPair .places ≡ newPlaces
+unfolding pick newPair noPair
+made-table true datagram C one two = refl
+made-table false datagram C one two = refl
+
+pub created-is : (z : Rings) (b : List ℕ) (s : Step) (e : Ends) (r : Outcome) → s ≡ createStep z b → e ≡ endsOf (s .pair) → r ≡ unchangedEnds e (s .answer)
+    → Creates z b (mkOutcome r (New (s .pair .datagram) (s .pair .capacity)))
+unfolding createStep stepOf
+created-is z b s e r f g h p =
+    ap (λ (k : Outcome). outcomeStep (mkOutcome k (New (s .pair .datagram) (s .pair .capacity))) p) (h ∙ ap (λ (k : Ends). unchangedEnds k (s .answer)) g)
+    ∙ new-step p (s .pair) (s .answer) (ap (λ (k : Step). k .pair .places) f ∙ table)
+    ∙ f
+  where
+    table : createStep z b .pair .places ≡ newPlaces
+    table = made-table _ _ _ _ _
+
+-- ---- by the handle
+
 pub one-is : (h : ℕ) → h ≡ 1 → isOne h ≡ true
 one-is h e = eq-eqb h 1 e
 
@@ -82,8 +136,8 @@ up tag n h f = omega arith
 pub from-ten : (tag : ℕ) → 4 ≤ tag → (tag ≡ 4 → ⊥) → (tag ≡ 5 → ⊥) → (tag ≡ 6 → ⊥) → (tag ≡ 7 → ⊥) → (tag ≡ 8 → ⊥) → (tag ≡ 9 → ⊥) → 10 ≤ tag
 from-ten tag h n4 n5 n6 n7 n8 n9 = up tag 9 (up tag 8 (up tag 7 (up tag 6 (up tag 5 (up tag 4 h n4) n5) n6) n7) n8) n9
 
-pub take-step : (z : Rings) (p : Pair) (tag : ℕ) (b : List ℕ) (r : Step) → 10 ≤ tag → r ≡ takeStep p → r ≡ plainStep z p tag b
+pub take-tag : (z : Rings) (p : Pair) (tag : ℕ) (b : List ℕ) (r : Step) → 10 ≤ tag → r ≡ takeStep p → r ≡ plainStep z p tag b
 unfolding plainStep pick
-take-step z p tag b r h e =
+take-tag z p tag b r h e =
     simp (le-ltb tag 1 (omega arith), le-ltb tag 4 (omega arith), le-ltb tag 5 (omega arith), le-ltb tag 6 (omega arith), le-ltb tag 7 (omega arith), le-ltb tag 8 (omega arith), le-ltb tag 9 (omega arith), le-ltb tag 10 h)
     e

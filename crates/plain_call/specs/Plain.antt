@@ -1,6 +1,7 @@
 -- The calls of a record that change neither memory nor a ring: create, disposition, shutdown, both thresholds, info, close, wait and take.
 -- 01 "Script program", tag and body. A body's fields stand in 01's order.
 use Prim.Native.Nat.{ℕ}
+use mathlib.Core.Path.{_≡_}
 use mathlib.Core.List.{List, []}
 use lib.ListN.{length, getD}
 use lib.Dec.{ltb, eqb}
@@ -16,6 +17,8 @@ use Rattle.socket.specs.Threshold.{readThresholdAnswer, writeThresholdAnswer, r
 use Rattle.socket.specs.Disposition.{disposed, shut}
 use Rattle.socket.specs.Info.{infoAnswer}
 use Rattle.socket.specs.Wait.{waitAnswer, waited, takeAnswer, took, closeAnswer, closed}
+use Rattle.pair_outcome.specs.declared.PairOutcome.{PairOutcome}
+use Rattle.pair_outcome.specs.PairOutcome.{outcomeStep}
 use Rattle.syscall.specs.Control.{dispositionOf, userDisposeAnswer, shutsRead, shutsWrite, userShutdownAnswer}
 use Rattle.record.specs.Fields.{four, eight}
 use Rattle.plain_call.specs.Rings.{Rings, ownTable}
@@ -30,6 +33,10 @@ createStep z b =
     stepOf noPair
     (createAnswer (four b 0) (four b 4) (getD b 8 0) (getD b 9 0) (length (z .ring1)) (length (z .table1)) (length (z .ring2)) (length (z .table2)))
     (newPair (eqb (four b 0) 1) (four b 4) (getD b 8 0) (getD b 9 0))
+
+-- 01 "Script program", tag 0: what the function says that creates: the step is this, whatever the pair was
+abbrev pub Creates : Rings → (body : List ℕ) → PairOutcome → Type 0
+Creates z b d = (p : Pair) → outcomeStep d p ≡ createStep z b
 
 -- 01 "Script program", tag 3
 unfoldable pub dispositionStep : Pair → (body : List ℕ) → Step

@@ -1,10 +1,15 @@
-// The call that a record makes where it changes neither memory nor a ring: every call but write, read and fill.
+// The call that a record makes where it changes neither memory nor a ring: every call but write, read and fill. The table of places is rebuilt last.
+use pair_outcome::PairOutcome;
+use pair_outcome::TableChange;
+use pair_outcome::unchanged;
+use pair_outcome::visits;
 use record::fields;
 use socket::Pair;
-use socket::Step;
+use socket::ends_of;
 ghost use mathlib.Core.Path.{_≡_};
+ghost use Rattle.pair_outcome.specs.PairOutcome.{outcomeStep};
 ghost use Rattle.plain_call.specs.Rings.{rings};
-ghost use Rattle.plain_call.specs.Plain.{createStep, dispositionStep, shutdownStep, readThresholdStep, writeThresholdStep, infoBy, closeStep, waitStep, plainStep};
+ghost use Rattle.plain_call.specs.Plain.{Creates, dispositionStep, shutdownStep, readThresholdStep, writeThresholdStep, infoBy, closeStep, waitStep, takeStep, plainStep};
 
 fn create(
     body: &[u8],
@@ -12,14 +17,14 @@ fn create(
     table_one: &[u32],
     ring_two: &[u8],
     table_two: &[u32],
-) -> Step
-    ensures { λ r. ⌜ r ≡ createStep (rings (now («ring_one» .entry)) (now («table_one» .entry)) (now («ring_two» .entry)) (now («table_two» .entry))) (now (body .entry)) ⌝ }
+) -> PairOutcome
+    ensures { λ r. ⌜ Creates (rings (now («ring_one» .entry)) (now («table_one» .entry)) (now («ring_two» .entry)) (now («table_two» .entry))) (now (body .entry)) r ⌝ }
 {
     let kind = fields::u32_at(body, 0);
     let capacity = fields::u32_at(body, 4);
     let one = fields::u8_at(body, 8) as u32;
     let two = fields::u8_at(body, 9) as u32;
-    Pair::create(
+    let s = Pair::create(
         kind,
         capacity,
         one,
@@ -28,40 +33,46 @@ fn create(
         table_one,
         ring_two,
         table_two,
-    )
+    );
+    let p = s.pair;
+    let a = s.answer;
+    PairOutcome {
+        outcome: ends::unchanged(ends_of(p), a),
+        change: TableChange::New(p.datagram, p.capacity),
+    }
 }
 
-fn set_disposition(p: Pair, body: &[u8]) -> Step
-    ensures { λ r. ⌜ r ≡ dispositionStep p (now (body .entry)) ⌝ }
+fn set_disposition(p: Pair, body: &[u8]) -> PairOutcome
+    ensures { λ r. ⌜ outcomeStep r p ≡ dispositionStep p (now (body .entry)) ⌝ }
 {
     let handle = fields::u32_at(body, 0);
     let own = fields::u32_at(body, 4);
     let peer = fields::u32_at(body, 8);
-    syscall::set_disposition(p, handle, own, peer)
+    visits(syscall::dispose_ends(ends_of(p), handle, own, peer))
 }
 
-fn shutdown(p: Pair, body: &[u8]) -> Step
-    ensures { λ r. ⌜ r ≡ shutdownStep p (now (body .entry)) ⌝ }
+fn shutdown(p: Pair, body: &[u8]) -> PairOutcome
+    ensures { λ r. ⌜ outcomeStep r p ≡ shutdownStep p (now (body .entry)) ⌝ }
 {
     let handle = fields::u32_at(body, 0);
     let options = fields::u32_at(body, 4);
-    syscall::shutdown(p, handle, options)
+    visits(syscall::shutdown_ends(ends_of(p), handle, options))
 }
 
-fn set_read_threshold(p: Pair, body: &[u8]) -> Step
-    ensures { λ r. ⌜ r ≡ readThresholdStep p (now (body .entry)) ⌝ }
+fn set_read_threshold(p: Pair, body: &[u8]) -> PairOutcome
+    ensures { λ r. ⌜ outcomeStep r p ≡ readThresholdStep p (now (body .entry)) ⌝ }
 {
     let handle = fields::u32_at(body, 0);
     let threshold = fields::u64_at(body, 4);
-    p.set_read_threshold(handle, threshold)
+    visits(control::read_threshold_ends(ends_of(p), handle, threshold))
 }
 
-fn set_write_threshold(p: Pair, body: &[u8]) -> Step
-    ensures { λ r. ⌜ r ≡ writeThresholdStep p (now (body .entry)) ⌝ }
+fn set_write_threshold(p: Pair, body: &[u8]) -> PairOutcome
+    ensures { λ r. ⌜ outcomeStep r p ≡ writeThresholdStep p (now (body .entry)) ⌝ }
 {
     let handle = fields::u32_at(body, 0);
     let threshold = fields::u64_at(body, 4);
-    p.set_write_threshold(handle, threshold)
+    visits(control::write_threshold_ends(ends_of(p), handle, threshold))
 }
 
 // Info is lent the table of its own end.
@@ -72,33 +83,53 @@ fn get_info(
     table_one: &[u32],
     ring_two: &[u8],
     table_two: &[u32],
-) -> Step
-    ensures { λ r. ⌜ r ≡ infoBy (rings (now («ring_one» .entry)) (now («table_one» .entry)) (now («ring_two» .entry)) (now («table_two» .entry))) p handle ⌝ }
+) -> PairOutcome
+    ensures { λ r. ⌜ outcomeStep r p ≡ infoBy (rings (now («ring_one» .entry)) (now («table_one» .entry)) (now («ring_two» .entry)) (now («table_two» .entry))) p handle ⌝ }
 {
     if handle == 1 {
-        return p.get_info(handle, table_one);
+        let a = answers::info_answer(ends_of(p), handle, table_one);
+        return unchanged(p, a);
     }
-    p.get_info(handle, table_two)
+    let a = answers::info_answer(ends_of(p), handle, table_two);
+    unchanged(p, a)
 }
 
-fn close(p: Pair, body: &[u8]) -> Step
-    ensures { λ r. ⌜ r ≡ closeStep p (now (body .entry)) ⌝ }
+fn close(p: Pair, body: &[u8]) -> PairOutcome
+    ensures { λ r. ⌜ outcomeStep r p ≡ closeStep p (now (body .entry)) ⌝ }
 {
     let handle = fields::u32_at(body, 0);
-    p.close(handle)
+    PairOutcome {
+        outcome: control::close_ends(ends_of(p), handle),
+        change: TableChange::Close(handle),
+    }
 }
 
-fn wait(p: Pair, body: &[u8]) -> Step
-    ensures { λ r. ⌜ r ≡ waitStep p (now (body .entry)) ⌝ }
+fn wait(p: Pair, body: &[u8]) -> PairOutcome
+    ensures { λ r. ⌜ outcomeStep r p ≡ waitStep p (now (body .entry)) ⌝ }
 {
     let handle = fields::u32_at(body, 0);
     let key = fields::u64_at(body, 4);
     let mask = fields::u32_at(body, 12);
     let edge = fields::u8_at(body, 16);
-    p.wait(handle, key, mask, edge)
+    let e = ends_of(p);
+    let a = answers::wait_answer(e, handle, edge);
+    PairOutcome {
+        outcome: ends::unchanged(e, a),
+        change: TableChange::Wait(handle, key, mask, edge),
+    }
 }
 
-// By the tag: 0, and 3 to 10. Tags 1 and 2 are taken as 3, those above 10 as 10; `call` passes neither.
+fn take(p: Pair) -> PairOutcome
+    ensures { λ r. ⌜ outcomeStep r p ≡ takeStep p ⌝ }
+{
+    let a = socket::take_answer(p);
+    PairOutcome {
+        outcome: ends::unchanged(ends_of(p), a),
+        change: TableChange::Take,
+    }
+}
+
+// By the tag: 0, and 3 to 10. What it leaves of the pair may be said in several ways; each has this step. Tags 1 and 2 are taken as 3, those above 10 as 10; `call` passes neither.
 pub fn plain(
     p: Pair,
     tag: u8,
@@ -107,8 +138,8 @@ pub fn plain(
     table_one: &[u32],
     ring_two: &[u8],
     table_two: &[u32],
-) -> Step
-    ensures { λ r. ⌜ r ≡ plainStep (rings (now («ring_one» .entry)) (now («table_one» .entry)) (now («ring_two» .entry)) (now («table_two» .entry))) p tag (now (body .entry)) ⌝ }
+) -> PairOutcome
+    ensures { λ r. ⌜ outcomeStep r p ≡ plainStep (rings (now («ring_one» .entry)) (now («table_one» .entry)) (now («ring_two» .entry)) (now («table_two» .entry))) p tag (now (body .entry)) ⌝ }
 {
     match tag {
         0 => create(body, ring_one, table_one, ring_two, table_two),
@@ -126,6 +157,6 @@ pub fn plain(
         ),
         8 => close(p, body),
         9 => wait(p, body),
-        10..=255 => p.take(),
+        10..=255 => take(p),
     }
 }

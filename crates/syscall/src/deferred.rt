@@ -77,7 +77,7 @@ pub fn write_ends(
 }
 
 // A read, but for its count and the visit of the waits.
-pub fn bytes_ends(
+pub fn read_bytes_ends(
     p: Ends,
     handle: u32,
     options: u32,
@@ -129,7 +129,7 @@ pub fn read_ends(
 ) -> Outcome
     ensures { λ r. ⌜ EndsUserRead p handle base options address count «count_at» (now (ring .entry)) (now (table .entry)) (now (memory .entry)) (now (memory .exit)) r ⌝ }
 {
-    let r = bytes_ends(
+    let r = read_bytes_ends(
         p,
         handle,
         options,

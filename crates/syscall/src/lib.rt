@@ -13,6 +13,7 @@ ghost use Rattle.syscall.specs.Control.{dispositionOf, userDisposeAnswer
 mod deferred;
 
 pub use deferred::dispose_ends;
+pub use deferred::read_bytes_ends;
 pub use deferred::read_ends;
 pub use deferred::shutdown_ends;
 pub use deferred::write_ends;
@@ -62,7 +63,7 @@ pub fn read_bytes(
 ) -> Step
     ensures { λ r. ⌜ BytesRead p handle base options address count «count_at» (now (ring .entry)) (now (table .entry)) (now (memory .entry)) (now (memory .exit)) r ⌝ }
 {
-    let r = deferred::bytes_ends(
+    let r = deferred::read_bytes_ends(
         ends_of(p),
         handle,
         options,

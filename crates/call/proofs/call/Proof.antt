@@ -6,7 +6,8 @@ use lib.Seq.{length-take-le}
 use mathlib.Core.Logic.{⊎-elim}
 use mathlib.Core.Path.{_≡_}
 use native.Mathlib.Omega.{arith}
-use Rattle.call.proofs.Calls.{part-all, fill-body, write-call, read-call, fill-call, plain-call, fill-done, no-call, made}
+use Rattle.call.proofs.Calls.{part-all, fill-body, write-call, read-call, fill-call, plain-call, fill-done, no-call, made, unchanged-done}
+use Rattle.pair_outcome.proofs.Steps.{unchanged-is}
 use Rattle.status.proofs.Rules.{via-not, via-not-not}
 use Rattle.call.proofs.call.Statement.{statement}
 use Rattle.call.proofs.call.Tie as tie
@@ -14,8 +15,11 @@ use Rattle.call.proofs.call.Tie as tie
 is-body-requires : tie.Need-is-body-requires
 is-body-requires c κs = search needs
 
+unchanged-requires : tie.Need-unchanged-requires
+unchanged-requires c κs = search needs
+
 returns : tie.Need-returns
-returns c = no-call (via-not (c .before .is-body .ensures) (c .if1 .taken))
+returns c = no-call (via-not (c .before .before .is-body .ensures) (c .before .if1 .taken)) (unchanged-is _ _ _ (c .unchanged .ensures))
 
 transfer-at-requires : tie.Need-transfer-at-requires
 transfer-at-requires c κs = search needs
@@ -48,6 +52,9 @@ fill-requires c κs =
     let w = fill-body (c .before .before .before .before .before .before .before .before .before .before .before .before .before .args .tag) (length (now (c .before .before .before .before .before .before .before .before .before .before .before .before .before .args .body))) (c .before .before .before .if2 .left) (via-not-not (c .before .before .before .before .before .before .is-body .ensures) (c .before .before .before .before .before .if1 .left)) in
     (omega (arith, n, w), omega (arith, n, w))
 
+unchanged-requires-2 : tie.Need-unchanged-requires-2
+unchanged-requires-2 c κs = search needs
+
 plain-requires : tie.Need-plain-requires
 plain-requires c κs = search needs
 
@@ -67,7 +74,9 @@ same-length-5 : tie.Need-same-length-5
 same-length-5 c = search needs
 
 returns-2 : tie.Need-returns-2
-returns-2 c = made (via-not-not (c .before .before .before .before .before .before .before .before .before .before .before .before .before .before .before .before .before .before .before .is-body .ensures) (c .before .before .before .before .before .before .before .before .before .before .before .before .before .before .before .before .before .before .if1 .left)) (write-call _ _ _ _ _ _ _ _ (c .before .before .before .before .before .before .before .before .before .before .before .before .before .before .before .before .before .match .keys1) (rw (← c .before .before .before .before .before .before .before .before .before .before .before .before .before .before .before .before .transfer-at .ensures) (c .before .before .before .before .before .before .before .before .before .before .write .ensures)))
+returns-2 c =
+    made (via-not-not (c .before .before .before .before .before .before .before .before .before .before .before .before .before .before .before .before .before .before .before .is-body .ensures) (c .before .before .before .before .before .before .before .before .before .before .before .before .before .before .before .before .before .before .if1 .left))
+    (write-call _ _ _ _ _ _ _ _ (c .before .before .before .before .before .before .before .before .before .before .before .before .before .before .before .before .before .match .keys1) (rw (← c .before .before .before .before .before .before .before .before .before .before .before .before .before .before .before .before .transfer-at .ensures) (c .before .before .before .before .before .before .before .before .before .before .write .ensures)))
 
 same-length-6 : tie.Need-same-length-6
 same-length-6 c = search needs
@@ -85,18 +94,23 @@ same-length-10 : tie.Need-same-length-10
 same-length-10 c = search needs
 
 returns-3 : tie.Need-returns-3
-returns-3 c = made (via-not-not (c .before .before .before .before .before .before .before .before .before .before .before .is-body .ensures) (c .before .before .before .before .before .before .before .before .before .before .if1 .left)) (read-call _ _ _ _ _ _ _ _ (c .before .before .before .before .before .before .before .before .before .match .keys2) (rw (← c .before .before .before .before .before .before .before .before .transfer-at2 .ensures) (c .before .before .read .ensures)))
+returns-3 c =
+    made (via-not-not (c .before .before .before .before .before .before .before .before .before .before .before .is-body .ensures) (c .before .before .before .before .before .before .before .before .before .before .if1 .left))
+    (read-call _ _ _ _ _ _ _ _ (c .before .before .before .before .before .before .before .before .before .match .keys2) (rw (← c .before .before .before .before .before .before .before .before .transfer-at2 .ensures) (c .before .before .read .ensures)))
 
 same-length-11 : tie.Need-same-length-11
 same-length-11 c = search needs
 
 returns-4 : tie.Need-returns-4
 returns-4 c =
-    let b = now (c .before .before .before .before .before .before .before .before .before .before .before .before .before .before .before .before .args .body) in
-    let w = fill-body (c .before .before .before .before .before .before .before .before .before .before .before .before .before .before .before .before .args .tag) (length b) (c .before .before .before .before .before .before .if2 .left) (via-not-not (c .before .before .before .before .before .before .before .before .before .is-body .ensures) (c .before .before .before .before .before .before .before .before .if1 .left)) in
-    made (via-not-not (c .before .before .before .before .before .before .before .before .before .is-body .ensures) (c .before .before .before .before .before .before .before .before .if1 .left))
-    (fill-call _ _ _ _ _ _ _ _ (c .before .before .before .before .before .before .if2 .left)
-    (rw (← c .before .before .before .before .before .u64-at .ensures, ← part-all 8 b (omega (arith, w))) (fill-done _ _ _ _ _ _ _ (c .before .before .fill .ensures))))
+    let a = c .before .before .before .before .before .before .before .before .before .before .before .before .before .before .before .before .before .args in
+    let b = now (a .body) in
+    let right = via-not-not (c .before .before .before .before .before .before .before .before .before .before .is-body .ensures) (c .before .before .before .before .before .before .before .before .before .if1 .left) in
+    let w = fill-body (a .tag) (length b) (c .before .before .before .before .before .before .before .if2 .left) right in
+    made right
+    (fill-call _ _ _ _ _ _ _ _ (c .before .before .before .before .before .before .before .if2 .left)
+    (unchanged-done _ _ _ _ _ _ (c .unchanged2 .ensures)
+    (rw (← c .before .before .before .before .before .before .u64-at .ensures, ← part-all 8 b (omega (arith, w))) (fill-done _ _ _ _ _ _ _ (c .before .before .before .fill .ensures)))))
 
 same-length-12 : tie.Need-same-length-12
 same-length-12 c = search needs
@@ -118,6 +132,7 @@ call-spec =
     tie.close
     (tie.spec
     is-body-requires
+    unchanged-requires
     returns
     transfer-at-requires
     write-requires
@@ -128,6 +143,7 @@ call-spec =
     part-fill-start
     part-fill-end
     fill-requires
+    unchanged-requires-2
     plain-requires
     same-length
     same-length-2

@@ -1,13 +1,21 @@
-use borrow.Author.Needs.{needs}
 use denote.Ref.{now}
-use Rattle.call.proofs.Calls.{wrote}
+use Rattle.socket.proofs.Visiting.{places-128}
+use Rattle.syscall.proofs.Settled.{wrote-whole}
+use Rattle.call.proofs.Calls.{wrote, visit-done}
 use Rattle.plain_call.proofs.Steps.{peer-ring-one, peer-ring-two, peer-table-one, peer-table-two, with-peer-one, with-peer-two}
 use Rattle.plain_call.specs.Rings.{rings}
+use borrow.Author.Needs.{needs}
 use Rattle.call.proofs.write.Statement.{statement}
 use Rattle.call.proofs.write.Tie as tie
 
-write-requires : tie.Need-write-requires
-write-requires c κs = search needs
+ends-of-requires : tie.Need-ends-of-requires
+ends-of-requires c κs = search needs
+
+write-ends-requires : tie.Need-write-ends-requires
+write-ends-requires c κs = search needs
+
+visits-requires : tie.Need-visits-requires
+visits-requires c κs = search needs
 
 same-length : tie.Need-same-length
 same-length c = search needs
@@ -20,12 +28,24 @@ same-length-3 c = search needs
 
 returns : tie.Need-returns
 returns c =
-    let z = rings (now (c .before .before .before .before .before .before .before .before .before .before .before .before .before .before .before .before .before .args .ring-one)) (now (c .before .before .before .before .before .before .before .before .before .before .before .before .before .before .before .before .before .args .table-one)) (now (c .before .before .before .before .before .before .before .before .before .before .before .before .before .before .before .before .before .args .ring-two)) (now (c .before .before .before .before .before .before .before .before .before .before .before .before .before .before .before .before .before .args .table-two)) in
-    let h = c .before .before .before .before .before .before .before .before .before .before .before .before .before .before .before .before .before .args .t .handle in
-    wrote _ _ _ _ _ _ z _ _ (c .before .before .before .before .before .before .before .before .before .before .before .before .before .before .before .before .before .args .t) _ (peer-ring-one z h (c .before .before .before .before .before .before .before .before .before .before .if1 .taken)) (peer-table-one z h (c .before .before .before .before .before .before .before .before .before .before .if1 .taken)) (with-peer-one z h _ _ (c .before .before .before .before .before .before .before .before .before .before .if1 .taken)) (c .before .before .before .before .before .before .write .ensures)
+    let s = c .before .before .before .before .before .before .before .before .before .before .before .before .before .before .before .before .before .before .before in
+    let a = s .args in
+    let t = a .t in
+    let one = c .before .before .before .before .before .before .before .before .before .before .before .before .if1 .taken in
+    let z = rings (now (a .ring-one)) (now (a .table-one)) (now (a .ring-two)) (now (a .table-two)) in
+    let l = places-128 (a .p) _ (s .good .0) in
+    visit-done _ _ _ _ (a .p) _ l (c .visits .ensures)
+    (wrote _ _ _ _ _ _ z _ _ t _ (peer-ring-one z (t .handle) one) (peer-table-one z (t .handle) one) (with-peer-one z (t .handle) _ _ one)
+    (wrote-whole (a .p) (t .handle) _ (t .options) (t .address) (t .count) (t .«count_at») _ _ l (c .before .before .before .before .before .before .before .before .before .before .before .ends-of .ensures) (now (a .memory)) _ _ _ _ _ (c .before .before .before .before .before .before .before .write-ends .ensures)))
 
-write-requires-2 : tie.Need-write-requires-2
-write-requires-2 c κs = search needs
+ends-of-requires-2 : tie.Need-ends-of-requires-2
+ends-of-requires-2 c κs = search needs
+
+write-ends-requires-2 : tie.Need-write-ends-requires-2
+write-ends-requires-2 c κs = search needs
+
+visits-requires-2 : tie.Need-visits-requires-2
+visits-requires-2 c κs = search needs
 
 same-length-4 : tie.Need-same-length-4
 same-length-4 c = search needs
@@ -38,20 +58,30 @@ same-length-6 c = search needs
 
 returns-2 : tie.Need-returns-2
 returns-2 c =
-    let z = rings (now (c .before .before .before .before .before .before .before .before .before .before .before .before .before .before .before .before .before .args .ring-one)) (now (c .before .before .before .before .before .before .before .before .before .before .before .before .before .before .before .before .before .args .table-one)) (now (c .before .before .before .before .before .before .before .before .before .before .before .before .before .before .before .before .before .args .ring-two)) (now (c .before .before .before .before .before .before .before .before .before .before .before .before .before .before .before .before .before .args .table-two)) in
-    let h = c .before .before .before .before .before .before .before .before .before .before .before .before .before .before .before .before .before .args .t .handle in
-    wrote _ _ _ _ _ _ z _ _ (c .before .before .before .before .before .before .before .before .before .before .before .before .before .before .before .before .before .args .t) _ (peer-ring-two z h (c .before .before .before .before .before .before .before .before .before .before .if1 .left)) (peer-table-two z h (c .before .before .before .before .before .before .before .before .before .before .if1 .left)) (with-peer-two z h _ _ (c .before .before .before .before .before .before .before .before .before .before .if1 .left)) (c .before .before .before .before .before .before .write2 .ensures)
+    let s = c .before .before .before .before .before .before .before .before .before .before .before .before .before .before .before .before .before .before .before in
+    let a = s .args in
+    let t = a .t in
+    let one = c .before .before .before .before .before .before .before .before .before .before .before .before .if1 .left in
+    let z = rings (now (a .ring-one)) (now (a .table-one)) (now (a .ring-two)) (now (a .table-two)) in
+    let l = places-128 (a .p) _ (s .good .0) in
+    visit-done _ _ _ _ (a .p) _ l (c .visits2 .ensures)
+    (wrote _ _ _ _ _ _ z _ _ t _ (peer-ring-two z (t .handle) one) (peer-table-two z (t .handle) one) (with-peer-two z (t .handle) _ _ one)
+    (wrote-whole (a .p) (t .handle) _ (t .options) (t .address) (t .count) (t .«count_at») _ _ l (c .before .before .before .before .before .before .before .before .before .before .before .ends-of2 .ensures) (now (a .memory)) _ _ _ _ _ (c .before .before .before .before .before .before .before .write-ends2 .ensures)))
 
 pub write-spec : {M : Type 1} → statement M
 write-spec =
     tie.close
     (tie.spec
-    write-requires
+    ends-of-requires
+    write-ends-requires
+    visits-requires
     same-length
     same-length-2
     same-length-3
     returns
-    write-requires-2
+    ends-of-requires-2
+    write-ends-requires-2
+    visits-requires-2
     same-length-4
     same-length-5
     same-length-6

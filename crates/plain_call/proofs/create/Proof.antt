@@ -1,6 +1,8 @@
-use borrow.Author.Needs.{needs}
-use Rattle.plain_call.proofs.Steps.{steps-are}
+use denote.Ref.{now}
+use Rattle.plain_call.specs.Rings.{rings}
+use Rattle.plain_call.proofs.Steps.{steps-are, created-is}
 use Rattle.plain_call.specs.Plain.{createStep}
+use borrow.Author.Needs.{needs}
 use Rattle.plain_call.proofs.create.Statement.{statement}
 use Rattle.plain_call.proofs.create.Tie as tie
 
@@ -25,9 +27,20 @@ cast-two c = search needs
 create-requires : tie.Need-create-requires
 create-requires c κs = search needs
 
+ends-of-requires : tie.Need-ends-of-requires
+ends-of-requires c κs = search needs
+
+unchanged-requires : tie.Need-unchanged-requires
+unchanged-requires c κs = search needs
+
 returns : tie.Need-returns
 unfolding createStep
-returns c = rw (← c .before .before .before .before .u32-at .ensures, ← c .before .before .before .u32-at2 .ensures, ← c .before .before .u8-at .ensures, ← c .before .u8-at2 .ensures) (steps-are (c .create .ensures))
+returns c =
+    let a = c .before .before .before .before .before .before .before .before .before .before .before .before .before .args in
+    created-is (rings (now (a .ring-one)) (now (a .table-one)) (now (a .ring-two)) (now (a .table-two))) (now (a .body)) (c .before .before .before .create .result) _ _
+    (rw (← c .before .before .before .before .before .before .before .u32-at .ensures, ← c .before .before .before .before .before .before .u32-at2 .ensures, ← c .before .before .before .before .before .u8-at .ensures, ← c .before .before .before .before .u8-at2 .ensures) (steps-are (c .before .before .before .create .ensures)))
+    (c .before .ends-of .ensures)
+    (c .unchanged .ensures)
 
 pub create-spec : {M : Type 1} → statement M
 create-spec =
@@ -40,4 +53,6 @@ create-spec =
     u8-at-requires-2
     cast-two
     create-requires
+    ends-of-requires
+    unchanged-requires
     returns)

@@ -1,24 +1,52 @@
-use borrow.Author.Needs.{needs}
 use denote.Ref.{now}
-use Rattle.plain_call.proofs.Steps.{steps-are, own-table-one, own-table-two}
+use Rattle.plain_call.proofs.Steps.{unchanged-steps, own-table-one, own-table-two}
 use Rattle.plain_call.specs.Rings.{rings}
 use Rattle.plain_call.specs.Plain.{infoBy}
+use borrow.Author.Needs.{needs}
 use Rattle.plain_call.proofs.get_info.Statement.{statement}
 use Rattle.plain_call.proofs.get_info.Tie as tie
 
-get-info-requires : tie.Need-get-info-requires
-get-info-requires c κs = search needs
+ends-of-requires : tie.Need-ends-of-requires
+ends-of-requires c κs = search needs
+
+info-answer-requires : tie.Need-info-answer-requires
+info-answer-requires c κs = search needs
+
+unchanged-requires : tie.Need-unchanged-requires
+unchanged-requires c κs = search needs
 
 returns : tie.Need-returns
 unfolding infoBy
-returns c = rw (own-table-one (rings (now (c .before .before .before .before .before .before .args .ring-one)) (now (c .before .before .before .before .before .before .args .table-one)) (now (c .before .before .before .before .before .before .args .ring-two)) (now (c .before .before .before .before .before .before .args .table-two))) (c .before .before .before .before .before .before .args .handle) (c .before .if1 .taken)) (steps-are (c .get-info .ensures))
+returns c =
+    let a = c .before .before .before .before .before .before .before .before .args in
+    rw (own-table-one (rings (now (a .ring-one)) (now (a .table-one)) (now (a .ring-two)) (now (a .table-two))) (a .handle) (c .before .before .before .if1 .taken))
+    (unchanged-steps (a .p) _ _ _ (c .unchanged .ensures) (rw (c .before .before .ends-of .ensures) at (c .before .info-answer .ensures)))
 
-get-info-requires-2 : tie.Need-get-info-requires-2
-get-info-requires-2 c κs = search needs
+ends-of-requires-2 : tie.Need-ends-of-requires-2
+ends-of-requires-2 c κs = search needs
+
+info-answer-requires-2 : tie.Need-info-answer-requires-2
+info-answer-requires-2 c κs = search needs
+
+unchanged-requires-2 : tie.Need-unchanged-requires-2
+unchanged-requires-2 c κs = search needs
 
 returns-2 : tie.Need-returns-2
 unfolding infoBy
-returns-2 c = rw (own-table-two (rings (now (c .before .before .before .before .before .before .args .ring-one)) (now (c .before .before .before .before .before .before .args .table-one)) (now (c .before .before .before .before .before .before .args .ring-two)) (now (c .before .before .before .before .before .before .args .table-two))) (c .before .before .before .before .before .before .args .handle) (c .before .if1 .left)) (steps-are (c .get-info2 .ensures))
+returns-2 c =
+    let a = c .before .before .before .before .before .before .before .before .args in
+    rw (own-table-two (rings (now (a .ring-one)) (now (a .table-one)) (now (a .ring-two)) (now (a .table-two))) (a .handle) (c .before .before .before .if1 .left))
+    (unchanged-steps (a .p) _ _ _ (c .unchanged2 .ensures) (rw (c .before .before .ends-of2 .ensures) at (c .before .info-answer2 .ensures)))
 
 pub get-info-spec : {M : Type 1} → statement M
-get-info-spec = tie.close (tie.spec get-info-requires returns get-info-requires-2 returns-2)
+get-info-spec =
+    tie.close
+    (tie.spec
+    ends-of-requires
+    info-answer-requires
+    unchanged-requires
+    returns
+    ends-of-requires-2
+    info-answer-requires-2
+    unchanged-requires-2
+    returns-2)

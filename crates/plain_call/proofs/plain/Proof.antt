@@ -1,7 +1,7 @@
 use borrow.Author.Needs.{needs}
 use borrow.Author.Tests.{lt-ltb, le-ltb}
 use native.Mathlib.Omega.{arith}
-use Rattle.plain_call.proofs.Steps.{steps-are, up, from-ten, take-step}
+use Rattle.plain_call.proofs.Steps.{up, from-ten, take-tag}
 use Rattle.plain_call.specs.Plain.{infoStep, takeStep, plainStep}
 use Rattle.status.specs.Choice.{pick}
 use Rattle.plain_call.proofs.plain.Statement.{statement}
@@ -39,7 +39,7 @@ take-requires c κs = search needs
 
 returns : tie.Need-returns
 unfolding plainStep pick
-returns c = rw (c .before .match .keys1) (c .create .ensures)
+returns c = rw (c .before .match .keys1) (c .create .ensures _)
 
 returns-2 : tie.Need-returns-2
 unfolding plainStep pick
@@ -71,7 +71,7 @@ returns-8 c = simp (le-ltb (c .before .before .before .before .before .before .b
 
 returns-9 : tie.Need-returns-9
 unfolding plainStep pick takeStep
-returns-9 c = take-step _ _ (c .before .before .before .before .before .before .before .before .args .tag) _ _ (from-ten (c .before .before .before .before .before .before .before .before .args .tag) (c .before .if1 .left) (c .before .before .match .rest .0 .0 .0 .0 .0 .1) (c .before .before .match .rest .0 .0 .0 .0 .1) (c .before .before .match .rest .0 .0 .0 .1) (c .before .before .match .rest .0 .0 .1) (c .before .before .match .rest .0 .1) (c .before .before .match .rest .1)) (steps-are (c .take .ensures))
+returns-9 c = take-tag _ _ (c .before .before .before .before .before .before .before .before .args .tag) _ _ (from-ten (c .before .before .before .before .before .before .before .before .args .tag) (c .before .if1 .left) (c .before .before .match .rest .0 .0 .0 .0 .0 .1) (c .before .before .match .rest .0 .0 .0 .0 .1) (c .before .before .match .rest .0 .0 .0 .1) (c .before .before .match .rest .0 .0 .1) (c .before .before .match .rest .0 .1) (c .before .before .match .rest .1)) (c .take .ensures)
 
 pub plain-spec : {M : Type 1} → statement M
 plain-spec =

@@ -1,6 +1,6 @@
+use denote.Ref.{now}
+use Rattle.plain_call.proofs.Steps.{wait-is}
 use borrow.Author.Needs.{needs}
-use Rattle.plain_call.proofs.Steps.{steps-are}
-use Rattle.plain_call.specs.Plain.{waitStep}
 use Rattle.plain_call.proofs.wait.Statement.{statement}
 use Rattle.plain_call.proofs.wait.Tie as tie
 
@@ -16,12 +16,22 @@ u32-at-requires-2 c κs = search needs
 u8-at-requires : tie.Need-u8-at-requires
 u8-at-requires c κs = search needs
 
-wait-requires : tie.Need-wait-requires
-wait-requires c κs = search needs
+ends-of-requires : tie.Need-ends-of-requires
+ends-of-requires c κs = search needs
+
+wait-answer-requires : tie.Need-wait-answer-requires
+wait-answer-requires c κs = search needs
+
+unchanged-requires : tie.Need-unchanged-requires
+unchanged-requires c κs = search needs
 
 returns : tie.Need-returns
-unfolding waitStep
-returns c = rw (← c .before .before .before .before .u32-at .ensures, ← c .before .before .before .u64-at .ensures, ← c .before .before .u32-at2 .ensures, ← c .before .u8-at .ensures) (steps-are (c .wait .ensures))
+returns c =
+    let s = c .before .before .before .before .before .before .before .before in
+    wait-is (s .args .p) (now (s .args .body)) _ _ _ _ _ _ _ (c .before .before .before .before .before .before .u32-at .ensures) (c .before .before .before .before .before .u64-at .ensures) (c .before .before .before .before .u32-at2 .ensures) (c .before .before .before .u8-at .ensures)
+    (c .before .before .ends-of .ensures)
+    (c .before .wait-answer .ensures)
+    (c .unchanged .ensures)
 
 pub wait-spec : {M : Type 1} → statement M
 wait-spec =
@@ -31,5 +41,7 @@ wait-spec =
     u64-at-requires
     u32-at-requires-2
     u8-at-requires
-    wait-requires
+    ends-of-requires
+    wait-answer-requires
+    unchanged-requires
     returns)

@@ -8,8 +8,8 @@ use Rattle.syscall.proofs.read_bytes.Tie as tie
 ends-of-requires : tie.Need-ends-of-requires
 ends-of-requires c κs = search needs
 
-bytes-ends-requires : tie.Need-bytes-ends-requires
-bytes-ends-requires c κs = search needs
+read-bytes-ends-requires : tie.Need-read-bytes-ends-requires
+read-bytes-ends-requires c κs = search needs
 
 settle-requires : tie.Need-settle-requires
 settle-requires c κs = search needs
@@ -20,7 +20,7 @@ same-length c = search needs
 returns : tie.Need-returns
 returns c = let a = c .before .before .before .before .before .before .before .before .before .args in
     rw (c .settle .ensures)
-    (bytes-whole (a .p) (a .handle) (a .base) (a .options) (a .address) (a .count) (a .count-at) _ _ (places-128 (a .p) _ (c .before .before .before .before .before .before .before .before .before .good .0)) (c .before .before .before .before .before .ends-of .ensures) (now (a .ring)) (now (a .table)) (now (a .memory)) _ (c .before .before .before .bytes-ends .ensures))
+    (bytes-whole (a .p) (a .handle) (a .base) (a .options) (a .address) (a .count) (a .count-at) _ _ (places-128 (a .p) _ (c .before .before .before .before .before .before .before .before .before .good .0)) (c .before .before .before .before .before .ends-of .ensures) (now (a .ring)) (now (a .table)) (now (a .memory)) _ (c .before .before .before .read-bytes-ends .ensures))
 
 pub read-bytes-spec : {M : Type 1} → statement M
-read-bytes-spec = tie.close (tie.spec ends-of-requires bytes-ends-requires settle-requires same-length returns)
+read-bytes-spec = tie.close (tie.spec ends-of-requires read-bytes-ends-requires settle-requires same-length returns)

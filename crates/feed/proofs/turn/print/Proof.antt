@@ -1,15 +1,15 @@
-use borrow.Author.Needs.{needs}
 use denote.Ref.{now}
 use Rattle.feed.proofs.Delivered.{part-small, call-line}
 use Rattle.text.proofs.Place.{same}
+use borrow.Author.Needs.{needs}
 use Rattle.feed.proofs.turn.print.Statement.{statement}
 use Rattle.feed.proofs.turn.print.Tie as tie
 
-signal-requires : tie.Need-signal-requires
-signal-requires c κs = search needs
+shown-requires : tie.Need-shown-requires
+shown-requires c κs = search needs
 
-signal-requires-2 : tie.Need-signal-requires-2
-signal-requires-2 c κs = search needs
+shown-requires-2 : tie.Need-shown-requires-2
+shown-requires-2 c κs = search needs
 
 u64-at-requires : tie.Need-u64-at-requires
 u64-at-requires c κs = search needs
@@ -30,14 +30,18 @@ same-length : tie.Need-same-length
 same-length c = search needs
 
 returns : tie.Need-returns
-returns c = same _ (call-line (c .before .before .before .before .before .before .before .before .before .before .before .before .before .args .number) (c .before .before .before .before .before .before .before .before .before .before .before .before .before .args .tag) _ _ _ (c .before .before .before .before .before .before .before .before .before .before .before .before .before .args .a) (c .before .before .before .before .before .before .before .before .before .before .before .before .before .args .p) (now (c .before .before .before .before .before .before .before .before .before .before .before .before .before .args .body)) (now (c .before .before .before .before .before .before .before .before .before .before .before .before .before .args .memory)) _ _ _ (c .before .before .before .before .before .before .before .before .before .signal .ensures) (c .before .before .before .before .before .before .before .before .signal2 .ensures) (c .before .before .before .before .before .before .before .u64-at .ensures) (c .before .before .before .before .before .before .place-of .ensures) (c .before .before .before .before .before .count .ensures) (c .before .before .before .before .part .ensures)) (c .before .before .line .ensures .put (part-small (c .before .before .before .before .before .count .result) (c .before .before .before .before .before .before .place-of .result) (now (c .before .before .before .before .before .before .before .before .before .before .before .before .before .args .memory)) _ (c .before .before .before .before .before .before .before .before .before .before .before .before .before .pre) (c .before .before .before .before .part .ensures)) .fit)
+returns c =
+    let a = c .before .before .before .before .before .before .before .before .before .before .before .before .before .before .before .args in
+    same _
+    (call-line (a .number) (a .tag) _ _ _ (a .r .answer) (now (a .body)) (now (a .memory)) _ _ _ _ _ (c .before .before .before .before .before .before .before .before .before .before .shown .ensures) (c .before .before .before .before .before .before .before .before .shown2 .ensures) (c .before .before .before .before .before .before .before .u64-at .ensures) (c .before .before .before .before .before .before .place-of .ensures) (c .before .before .before .before .before .count .ensures) (c .before .before .before .before .part .ensures))
+    (c .before .before .line .ensures .put (part-small (c .before .before .before .before .before .count .result) (c .before .before .before .before .before .before .place-of .result) (now (a .memory)) _ (c .before .before .before .before .before .before .before .before .before .before .before .before .before .before .before .pre) (c .before .before .before .before .part .ensures)) .fit)
 
 pub print-spec : {M : Type 1} → statement M
 print-spec =
     tie.close
     (tie.spec
-    signal-requires
-    signal-requires-2
+    shown-requires
+    shown-requires-2
     u64-at-requires
     place-of-requires
     count-requires

@@ -45,7 +45,8 @@ returns c =
     let a = c .before .before .before .before .before .before .before .before .before .before .before .before .before .before .before .before .before .before .before .before .before .before .before .before .before .before .before .before .before .before .before .before .before .before .before .before .args in
     step-done (a .st) (a .tag) (a .at) _ (now (a .body)) (now (a .memory)) _ _ (now (a .out)) _
     (rings (now (a .ring-one)) (now (a .table-one)) (now (a .ring-two)) (now (a .table-two))) _ (c .before .before .before .before .before .before .before .before .before .before .before .before .before .before .before .before .before .before .before .before .before .before .call .result) _
-    (c .before .before .before .before .before .before .before .before .before .before .before .before .before .before .before .before .before .before .before .before .before .before .call .ensures .made (c .before .before .before .before .before .before .before .before .before .before .before .before .before .before .before .before .before .before .before .before .before .before .before .before .before .before .before .before .before .before .before .before .before .before .before .before .pre .body)) (c .before .before .before .before .before .before .before .before .print .ensures) (c .before .before .before .before .settle .ensures) (c .is-last .ensures)
+    (c .before .before .before .before .before .before .before .before .before .before .before .before .before .before .before .before .before .before .before .before .before .before .call .ensures .made (c .before .before .before .before .before .before .before .before .before .before .before .before .before .before .before .before .before .before .before .before .before .before .before .before .before .before .before .before .before .before .before .before .before .before .before .before .pre .body))
+    (c .before .before .before .before .before .before .before .before .print .ensures) (c .before .before .before .before .settle .ensures) (c .is-last .ensures)
 
 pub step-spec : {M : Type 1} → statement M
 step-spec =

@@ -6,8 +6,8 @@ use Rattle.transfer.proofs.Outcomes.{unchanged-read}
 use Rattle.syscall.specs.Ends.{pairOf}
 use Rattle.syscall.proofs.Calls.{read-room, ends-none, ends-some}
 use borrow.Author.Needs.{needs}
-use Rattle.syscall.proofs.deferred.bytes_ends.Statement.{statement}
-use Rattle.syscall.proofs.deferred.bytes_ends.Tie as tie
+use Rattle.syscall.proofs.deferred.read_bytes_ends.Statement.{statement}
+use Rattle.syscall.proofs.deferred.read_bytes_ends.Tie as tie
 
 read-answer-requires : tie.Need-read-answer-requires
 read-answer-requires c κs = search needs
@@ -48,5 +48,5 @@ returns-2 : tie.Need-returns-2
 returns-2 c = let a = c .before .before .before .before .before .before .before .before .before .before .args in
     ends-some (a .p) (a .handle) (a .base) (a .options) (a .address) (a .count) (a .count-at) (now (a .ring)) (now (a .table)) (now (a .memory)) _ _ (a .address - a .base + a .count - (a .address - a .base)) _ (c .before .before .before .before .before .before .read-answer .ensures) (λ y. c .before .before .before .before .if1 .left (c .before .before .before .before .before .count-of .ensures ∙ y)) (omega arith) (c .before .before .read-ends .ensures)
 
-pub bytes-ends-spec : {M : Type 1} → statement M
-bytes-ends-spec = tie.close (tie.spec read-answer-requires count-of-requires unchanged-requires returns sub-from add-to sub-read-ends part-read-ends-start part-read-ends-end read-ends-requires same-length returns-2)
+pub read-bytes-ends-spec : {M : Type 1} → statement M
+read-bytes-ends-spec = tie.close (tie.spec read-answer-requires count-of-requires unchanged-requires returns sub-from add-to sub-read-ends part-read-ends-start part-read-ends-end read-ends-requires same-length returns-2)

@@ -1,0 +1,2 @@
+-- Steps: the step of a call whose table is rebuilt last
+pub mod Steps

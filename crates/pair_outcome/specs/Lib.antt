@@ -1,0 +1,2 @@
+-- PairOutcome: what a call leaves of a pair, and the next pair
+pub mod PairOutcome
