@@ -1,8 +1,10 @@
 -- Laws of the stored entries. Assumes nothing.
 use Prim.Native.Nat.{ℕ, _+_, _≤_, _<_}
+use mathlib.Core.Bool.{Bool, true, false}
 use native.Mathlib.Omega.{arith}
 use mathlib.Core.Path.{_≡_, refl, sym, subst, _∙_}
-use borrow.Author.Tests.{lt-ltb, le-ltb}
+use borrow.Author.Tests.{lt-ltb, le-ltb, ltb-true, ltb-false}
+use lib.Dec.{ltb}
 use Rattle.status.specs.Choice.{pick}
 use mathlib.Core.List.{List, _++_}
 use lib.ListN.{length}
@@ -11,10 +13,16 @@ use Rattle.script.specs.Listing.{header, run, listing}
 use Rattle.replay.specs.declared.entry.Outcome.{Outcome}
 use Rattle.replay.specs.declared.entry.Outcome.the-variants.{Agrees, DiffersAt, NoRoom}
 use Rattle.replay.specs.declared.entry.Tally.{Tally}
-use Rattle.replay.specs.Entry.{fieldEnd, bytesOf, FirstDifference, Compares, Agreement, missed, countedOf}
+use Rattle.replay.specs.Entry.{fieldEnd, entryEnd, bytesOf, FirstDifference, Compares, EntryIn, Agreement, firstName, noTally, missed, countedOf, Tallied, begun, next, AllAgree, FirstMissed}
 
-pub cut-behind : (s : List ℕ) (at middle : ℕ) → middle ≡ fieldEnd s at → length s < fieldEnd s middle → length s < fieldEnd s (fieldEnd s at)
-cut-behind s at middle e h = subst (λ (k : ℕ). length s < fieldEnd s k) e h
+-- what is cut in the second field, or in the third, is a cut entry
+pub cut-second : (s : List ℕ) (at nameEnd : ℕ) → nameEnd ≡ fieldEnd s at → length s < fieldEnd s nameEnd → length s < entryEnd s at
+cut-second s at nameEnd e h = omega (arith, subst (λ (k : ℕ). length s < fieldEnd s k) e h)
+
+pub cut-third :
+    (s : List ℕ) (at nameEnd scriptEnd : ℕ) → nameEnd ≡ fieldEnd s at → scriptEnd ≡ fieldEnd s nameEnd → length s < fieldEnd s scriptEnd → length s < entryEnd s at
+cut-third s at nameEnd scriptEnd e f h =
+    subst (λ (k : ℕ). length s < fieldEnd s (fieldEnd s k)) e (subst (λ (k : ℕ). length s < fieldEnd s k) f h)
 
 pub listing-is : (s : List ℕ) → header ++ run 0 start s ≡ listing s
 unfolding listing
@@ -22,52 +30,116 @@ listing-is s = refl
 
 -- the text compared is the script's listing
 pub agreement :
-    (room : ℕ) (s : List ℕ) (at middle end : ℕ) (text : List ℕ) (o : Outcome) → text ≡ listing (bytesOf s at middle) → Compares text (bytesOf s middle end) o
-    → Agreement room s at middle end o
-agreement room s at middle end text Agrees e h = sym e ∙ h
-agreement room s at middle end text (DiffersAt i) e h = subst (λ (x : List ℕ). FirstDifference x (bytesOf s middle end) i) e h
-agreement room s at middle end text NoRoom e h = absurd h
+    (room : ℕ) (s : List ℕ) (at scriptEnd end : ℕ) (text : List ℕ) (o : Outcome) → text ≡ listing (bytesOf s at scriptEnd) → Compares text (bytesOf s scriptEnd end) o
+    → Agreement room s at scriptEnd end o
+agreement room s at scriptEnd end text Agrees e h = sym e ∙ h
+agreement room s at scriptEnd end text (DiffersAt i) e h = subst (λ (x : List ℕ). FirstDifference x (bytesOf s scriptEnd end) i) e h
+agreement room s at scriptEnd end text NoRoom e h = absurd h
 
 -- ---- what is counted
 
-pub counted-agrees : (t : Tally) (o : Outcome) → o ≡ Agrees
-    → record { total = t .total + 1; agree = t .agree + 1; number = t .number; first = t .first } ≡ countedOf t o
+pub counted-agrees : (t : Tally) (from to : ℕ) (o : Outcome) → o ≡ Agrees
+    → record { total = t .total + 1; agree = t .agree + 1; number = t .number; from = t .from; to = t .to; first = t .first } ≡ countedOf t from to o
 unfolding countedOf
-counted-agrees t Agrees e = refl
-counted-agrees t (DiffersAt i) e = absurd (let z : _≡_ {A = ℕ} 0 1 = cc in omega arith)
-counted-agrees t NoRoom e = absurd (let z : _≡_ {A = ℕ} 0 1 = cc in omega arith)
+counted-agrees t from to Agrees e = refl
+counted-agrees t from to (DiffersAt i) e = absurd (let z : _≡_ {A = ℕ} 0 1 = cc in omega arith)
+counted-agrees t from to NoRoom e = absurd (let z : _≡_ {A = ℕ} 0 1 = cc in omega arith)
 
-missed-is : (t : Tally) (o : Outcome) → (o ≡ Agrees → ⊥) → missed t o ≡ countedOf t o
+missed-is : (t : Tally) (from to : ℕ) (o : Outcome) → (o ≡ Agrees → ⊥) → missed t from to o ≡ countedOf t from to o
 unfolding countedOf
-missed-is t Agrees h = absurd (h refl)
-missed-is t (DiffersAt i) h = refl
-missed-is t NoRoom h = refl
+missed-is t from to Agrees h = absurd (h refl)
+missed-is t from to (DiffersAt i) h = refl
+missed-is t from to NoRoom h = refl
 
-pub counted-again : (t : Tally) (o : Outcome) → (o ≡ Agrees → ⊥) → t .agree < t .total
-    → record { total = t .total + 1; agree = t .agree; number = t .number; first = t .first } ≡ countedOf t o
+pub counted-again : (t : Tally) (from to : ℕ) (o : Outcome) → (o ≡ Agrees → ⊥) → t .agree < t .total
+    → record { total = t .total + 1; agree = t .agree; number = t .number; from = t .from; to = t .to; first = t .first } ≡ countedOf t from to o
 unfolding missed pick
-counted-again t o h g = rw (← missed-is t o h, lt-ltb (t .agree) (t .total) g) refl
+counted-again t from to o h g = rw (← missed-is t from to o h, lt-ltb (t .agree) (t .total) g) refl
 
-pub counted-first : (t : Tally) (o : Outcome) → (o ≡ Agrees → ⊥) → t .total ≤ t .agree
-    → record { total = t .total + 1; agree = t .agree; number = t .total; first = o } ≡ countedOf t o
+pub counted-first : (t : Tally) (from to : ℕ) (o : Outcome) → (o ≡ Agrees → ⊥) → t .total ≤ t .agree
+    → record { total = t .total + 1; agree = t .agree; number = t .total; from = from; to = to; first = o } ≡ countedOf t from to o
 unfolding missed pick
-counted-first t o h g = rw (← missed-is t o h, le-ltb (t .agree) (t .total) g) refl
+counted-first t from to o h g = rw (← missed-is t from to o h, le-ltb (t .agree) (t .total) g) refl
 
 -- what the loop needs of a tally
-pub counted-total : (t : Tally) (o : Outcome) → countedOf t o .total ≡ t .total + 1
+pub counted-total : (t : Tally) (from to : ℕ) (o : Outcome) → countedOf t from to o .total ≡ t .total + 1
 unfolding countedOf missed
-counted-total t Agrees = refl
-counted-total t (DiffersAt i) = refl
-counted-total t NoRoom = refl
+counted-total t from to Agrees = refl
+counted-total t from to (DiffersAt i) = refl
+counted-total t from to NoRoom = refl
 
-pub counted-most : (t : Tally) (o : Outcome) → t .agree ≤ t .total → countedOf t o .agree ≤ countedOf t o .total
+pub counted-most : (t : Tally) (from to : ℕ) (o : Outcome) → t .agree ≤ t .total → countedOf t from to o .agree ≤ countedOf t from to o .total
 unfolding countedOf missed
-counted-most t Agrees h = omega arith
-counted-most t (DiffersAt i) h = omega arith
-counted-most t NoRoom h = omega arith
+counted-most t from to Agrees h = omega arith
+counted-most t from to (DiffersAt i) h = omega arith
+counted-most t from to NoRoom h = omega arith
 
-pub counted-all : (t : Tally) (o : Outcome) → t .agree ≤ t .total → countedOf t o .agree ≡ countedOf t o .total → (t .agree ≡ t .total) × (o ≡ Agrees)
+pub counted-all : (t : Tally) (from to : ℕ) (o : Outcome) → t .agree ≤ t .total → countedOf t from to o .agree ≡ countedOf t from to o .total → (t .agree ≡ t .total) × (o ≡ Agrees)
 unfolding countedOf missed
-counted-all t Agrees h e = (omega arith, refl)
-counted-all t (DiffersAt i) h e = absurd (let z : ⊥ = omega arith in z)
-counted-all t NoRoom h e = absurd (let z : ⊥ = omega arith in z)
+counted-all t from to Agrees h e = (omega arith, refl)
+counted-all t from to (DiffersAt i) h e = absurd (let z : ⊥ = omega arith in z)
+counted-all t from to NoRoom h e = absurd (let z : ⊥ = omega arith in z)
+
+-- ---- the first that does not agree
+
+-- its name lies within the input
+pick-within : {from to : ℕ} (from′ to′ n : ℕ) (b : Bool) → (from ≤ to) × (to ≤ n) → (from′ ≤ to′) × (to′ ≤ n)
+    → (pick b from from′ ≤ pick b to to′) × (pick b to to′ ≤ n)
+unfolding pick
+pick-within from′ to′ n true h g = h
+pick-within from′ to′ n false h g = g
+
+counted-within : (t : Tally) (from to n : ℕ) (o : Outcome) → (t .from ≤ t .to) × (t .to ≤ n) → (from ≤ to) × (to ≤ n)
+    → (countedOf t from to o .from ≤ countedOf t from to o .to) × (countedOf t from to o .to ≤ n)
+unfolding countedOf missed
+counted-within t from to n Agrees h g = h
+counted-within t from to n (DiffersAt i) h g = pick-within from to n (ltb (t .agree) (t .total)) h g
+counted-within t from to n NoRoom h g = pick-within from to n (ltb (t .agree) (t .total)) h g
+
+none-within : (s : List ℕ) → (noTally .from ≤ noTally .to) × (noTally .to ≤ length s)
+unfolding noTally
+none-within s = (omega arith, omega arith)
+
+pub name-within : {s out₀ out : List ℕ} {at : ℕ} {t : Tally} → Tallied s out₀ at t out → (t .from ≤ t .to) × (t .to ≤ length s)
+name-within {s} begun = none-within s
+name-within {s} (next {at} {nameEnd} t o k e r) =
+    counted-within t (at + 4) nameEnd (length s) o (name-within k) (omega (arith, e .name), omega (arith, e .behind .script, e .behind .stored, e .behind .within))
+
+-- a tally that holds the same entry
+kept : {room : ℕ} {s : List ℕ} (t : Tally) (total agree : ℕ) → FirstMissed room s t
+    → FirstMissed room s (record { total = total; agree = agree; number = t .number; from = t .from; to = t .to; first = t .first })
+unfolding firstName
+kept t total agree m =
+    record {
+      at = m .at;
+      scriptEnd = m .scriptEnd;
+      end = m .end;
+      before = m .before;
+      entry = m .entry;
+      name = m .name;
+      outcome = m .outcome;
+      misses = m .misses;
+    }
+
+module _ {room at nameEnd scriptEnd end : ℕ} {s : List ℕ} (t : Tally) (most : t .agree ≤ t .total)
+    (all : t .agree ≡ t .total → AllAgree s (t .total) at) (first : t .agree < t .total → FirstMissed room s t)
+    (entry : EntryIn s at nameEnd scriptEnd end) where
+  -- an entry that does not agree is counted: it is the first, or there was one before it
+  first-missed : (o : Outcome) → Agreement room s nameEnd scriptEnd end o → (o ≡ Agrees → ⊥) → (b : Bool) → ltb (t .agree) (t .total) ≡ b
+      → FirstMissed room s (countedOf t (at + 4) nameEnd o)
+  unfolding firstName
+  first-missed o a h true e =
+      let g = ltb-true (t .agree) (t .total) e in
+      subst (λ (x : Tally). FirstMissed room s x) (counted-again t (at + 4) nameEnd o h g) (kept t (t .total + 1) (t .agree) (first g))
+  first-missed o a h false e =
+      let g = ltb-false (t .agree) (t .total) e in
+      let m : FirstMissed room s (record { total = t .total + 1; agree = t .agree; number = t .total; from = at + 4; to = nameEnd; first = o }) =
+      record { at = at; scriptEnd = scriptEnd; end = end; before = all (omega arith); entry = entry; name = refl; outcome = a; misses = h } in
+      subst (λ (x : Tally). FirstMissed room s x) (counted-first t (at + 4) nameEnd o h g) m
+
+  pub first-counted : (o : Outcome) → Agreement room s nameEnd scriptEnd end o
+      → countedOf t (at + 4) nameEnd o .agree < countedOf t (at + 4) nameEnd o .total → FirstMissed room s (countedOf t (at + 4) nameEnd o)
+  unfolding countedOf
+  first-counted Agrees a h = kept t (t .total + 1) (t .agree + 1) (first (omega arith))
+  first-counted (DiffersAt i) a h = first-missed (DiffersAt i) a (λ e. let z : _≡_ {A = ℕ} 0 1 = cc in omega arith) (ltb (t .agree) (t .total)) refl
+  first-counted NoRoom a h = first-missed NoRoom a (λ e. let z : _≡_ {A = ℕ} 0 1 = cc in omega arith) (ltb (t .agree) (t .total)) refl

@@ -29,15 +29,24 @@ abbrev pub FieldAt : List ℕ → ℕ → Field → Type 0
 FieldAt s at (Field.Ends e) = (e ≡ fieldEnd s at) × (e ≤ length s)
 FieldAt s at Field.Cut = length s < fieldEnd s at
 
--- an entry is two fields, one behind the other
-pub record EntryIn (s : List ℕ) (at middle end : ℕ) : Type 0 where
-  pub script : middle ≡ fieldEnd s at
-  pub stored : end ≡ fieldEnd s middle
+-- a script and its listing are two fields, one behind the other
+pub record ScriptIn (s : List ℕ) (at scriptEnd end : ℕ) : Type 0 where
+  pub script : scriptEnd ≡ fieldEnd s at
+  pub stored : end ≡ fieldEnd s scriptEnd
   pub within : end ≤ length s
 
+-- an entry is a field with its name, and behind it its script and its listing
+pub record EntryIn (s : List ℕ) (at nameEnd scriptEnd end : ℕ) : Type 0 where
+  pub name : nameEnd ≡ fieldEnd s at
+  pub behind : ScriptIn s nameEnd scriptEnd end
+
+-- where the third field ends that begins at a place
+abbrev pub entryEnd : List ℕ → ℕ → ℕ
+entryEnd s at = fieldEnd s (fieldEnd s (fieldEnd s at))
+
 abbrev pub EntryAt : List ℕ → ℕ → Found → Type 0
-EntryAt s at (Found.Whole middle end) = EntryIn s at middle end
-EntryAt s at Found.Cut = length s < fieldEnd s (fieldEnd s at)
+EntryAt s at (Found.Whole nameEnd scriptEnd end) = EntryIn s at nameEnd scriptEnd end
+EntryAt s at Found.Cut = length s < entryEnd s at
 
 -- the bytes of a field that begins at a place and ends at another
 abbrev pub bytesOf : List ℕ → (at end : ℕ) → List ℕ
@@ -56,56 +65,79 @@ Compares a b Agrees = a ≡ b
 Compares a b (DiffersAt i) = FirstDifference a b i
 Compares a b NoRoom = ⊥
 
--- the stored listing of an entry is that of its script
-abbrev pub Agreed : List ℕ → (at middle end : ℕ) → Type 0
-Agreed s at middle end = listing (bytesOf s at middle) ≡ bytesOf s middle end
+-- the stored listing is that of the script, which begins at a place
+abbrev pub Agreed : List ℕ → (at scriptEnd end : ℕ) → Type 0
+Agreed s at scriptEnd end = listing (bytesOf s at scriptEnd) ≡ bytesOf s scriptEnd end
 
 -- what an outcome says: that the stored listing is right, or where it first differs, or that another line might not have fit into so much room
-abbrev pub Agreement : (room : ℕ) → List ℕ → (at middle end : ℕ) → Outcome → Type 0
-Agreement room s at middle end Agrees = Agreed s at middle end
-Agreement room s at middle end (DiffersAt i) = FirstDifference (listing (bytesOf s at middle)) (bytesOf s middle end) i
-Agreement room s at middle end NoRoom = room < length (ranText room start (bytesOf s at middle)) + LINE
+abbrev pub Agreement : (room : ℕ) → List ℕ → (at scriptEnd end : ℕ) → Outcome → Type 0
+Agreement room s at scriptEnd end Agrees = Agreed s at scriptEnd end
+Agreement room s at scriptEnd end (DiffersAt i) = FirstDifference (listing (bytesOf s at scriptEnd)) (bytesOf s scriptEnd end) i
+Agreement room s at scriptEnd end NoRoom = room < length (ranText room start (bytesOf s at scriptEnd)) + LINE
 
--- an entry is run: its outcome, and its script's text at the front of the buffer
-pub record EntryRun (s : List ℕ) (at middle end : ℕ) (out out′ : List ℕ) (r : Outcome) : Type 0 where
-  pub outcome : Agreement (length out) s at middle end r
-  pub text : out′ ≡ place 0 (ranText (length out) start (bytesOf s at middle)) out
+-- a script is run: its outcome, and its text at the front of the buffer
+pub record EntryRun (s : List ℕ) (at scriptEnd end : ℕ) (out out′ : List ℕ) (r : Outcome) : Type 0 where
+  pub outcome : Agreement (length out) s at scriptEnd end r
+  pub text : out′ ≡ place 0 (ranText (length out) start (bytesOf s at scriptEnd)) out
+
+-- the bytes between the two places of a tally: the name of the first entry that does not agree
+unfoldable pub firstName : List ℕ → Tally → List ℕ
+firstName s t = take (t .to - t .from) (drop (t .from) s)
 
 -- the tally before any entry
 unfoldable pub noTally : Tally
-noTally = record { total = 0; agree = 0; number = 0; first = Agrees }
+noTally = record { total = 0; agree = 0; number = 0; from = 0; to = 0; first = Agrees }
 
--- an entry is counted that does not agree: it is the first such if all before it agree
-unfoldable pub missed : Tally → Outcome → Tally
-missed t o =
+-- an entry is counted that does not agree, and whose name begins and ends at two places: it is the first such if all before it agree
+unfoldable pub missed : Tally → (from to : ℕ) → Outcome → Tally
+missed t from to o =
     record {
       total = t .total + 1;
       agree = t .agree;
       number = pick (ltb (t .agree) (t .total)) (t .number) (t .total);
+      from = pick (ltb (t .agree) (t .total)) (t .from) from;
+      to = pick (ltb (t .agree) (t .total)) (t .to) to;
       first = pick (ltb (t .agree) (t .total)) (t .first) o;
     }
 
 -- one entry more is counted
-unfoldable pub countedOf : Tally → Outcome → Tally
-countedOf t Agrees = record { total = t .total + 1; agree = t .agree + 1; number = t .number; first = t .first }
-countedOf t (DiffersAt i) = missed t (DiffersAt i)
-countedOf t NoRoom = missed t NoRoom
+unfoldable pub countedOf : Tally → (from to : ℕ) → Outcome → Tally
+countedOf t from to Agrees =
+    record { total = t .total + 1; agree = t .agree + 1; number = t .number; from = t .from; to = t .to; first = t .first }
+countedOf t from to (DiffersAt i) = missed t from to (DiffersAt i)
+countedOf t from to NoRoom = missed t from to NoRoom
 
--- the tally of the entries before a place, and the buffer after them: each, from the first on, is run and counted
+-- the tally of the entries before a place, and the buffer after them: each, from the first on, is run and counted. Its name lies behind its length
 pub data Tallied (s out₀ : List ℕ) : ℕ → Tally → List ℕ → Type 0 where
   begun : Tallied s out₀ 0 noTally out₀
   next :
-      {at middle end : ℕ} {out out′ : List ℕ} (t : Tally) (o : Outcome) → Tallied s out₀ at t out → EntryIn s at middle end
-      → EntryRun s at middle end out out′ o → Tallied s out₀ end (countedOf t o) out′
+      {at nameEnd scriptEnd end : ℕ} {out out′ : List ℕ} (t : Tally) (o : Outcome) → Tallied s out₀ at t out → EntryIn s at nameEnd scriptEnd end
+      → EntryRun s nameEnd scriptEnd end out out′ o → Tallied s out₀ end (countedOf t (at + 4) nameEnd o) out′
 
--- every entry before a place agrees
-pub data AllAgree (s : List ℕ) : ℕ → Type 0 where
-  none : AllAgree s 0
-  more : {at middle end : ℕ} → AllAgree s at → EntryIn s at middle end → Agreed s at middle end → AllAgree s end
+-- so many entries lie before a place, and every one of them agrees
+pub data AllAgree (s : List ℕ) : (number at : ℕ) → Type 0 where
+  none : AllAgree s 0 0
+  more :
+      {number at nameEnd scriptEnd end : ℕ} → AllAgree s number at → EntryIn s at nameEnd scriptEnd end → Agreed s nameEnd scriptEnd end
+      → AllAgree s (number + 1) end
 
--- the entries that were run end at a place, and are counted; if as many agree as were run, all agree. Behind the place the input ends, or an entry is cut
+-- the tally holds an entry that does not agree: as many as its number says lie before it, and agree, its name lies between the two places of the
+-- tally, and its outcome says how it does not agree
+pub record FirstMissed (room : ℕ) (s : List ℕ) (t : Tally) : Type 0 where
+  pub at : ℕ
+  pub scriptEnd : ℕ
+  pub end : ℕ
+  pub before : AllAgree s (t .number) at
+  pub entry : EntryIn s at (t .to) scriptEnd end
+  pub name : firstName s t ≡ bytesOf s at (t .to)
+  pub outcome : Agreement room s (t .to) scriptEnd end (t .first)
+  pub misses : t .first ≡ Agrees → ⊥
+
+-- the entries that were run end at a place, and are counted; if as many agree as were run, all agree, else the tally holds the first that does
+-- not. Behind the place the input ends, or an entry is cut
 pub record AgreeTo (s out out′ : List ℕ) (r : Replayed) : Type 0 where
   pub within : r .at ≤ length s
   pub tally : Tallied s out (r .at) (r .tally) out′
-  pub all : r .tally .agree ≡ r .tally .total → AllAgree s (r .at)
-  pub cut : r .at < length s → length s < fieldEnd s (fieldEnd s (r .at))
+  pub all : r .tally .agree ≡ r .tally .total → AllAgree s (r .tally .total) (r .at)
+  pub first : r .tally .agree < r .tally .total → FirstMissed (length out) s (r .tally)
+  pub cut : r .at < length s → length s < entryEnd s (r .at)

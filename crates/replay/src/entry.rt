@@ -1,9 +1,10 @@
-// The stored entries, each a script and its listing: where they lie in the input, whether they agree, and how many do.
+// The stored entries, each a name, a script and its listing: where they lie in the input, whether they agree, how many do, and where the name of
+// the first lies that does not.
 ghost use Prim.Native.Nat.{_+_, _≤_, _<_};
 ghost use mathlib.Core.Path.{_≡_};
 ghost use lib.ListN.{length};
 ghost use Rattle.record.specs.Fields.{four};
-ghost use Rattle.replay.specs.Entry.{FieldAt, EntryAt, EntryIn, Compares, EntryRun, AgreeTo, countedOf};
+ghost use Rattle.replay.specs.Entry.{FieldAt, EntryAt, ScriptIn, Compares, EntryRun, AgreeTo, countedOf};
 
 // Where a field ends: its length and its bytes.
 enum Field {
@@ -11,9 +12,9 @@ enum Field {
     Cut,
 }
 
-// Where an entry's script ends, and its listing; or the input does not hold both.
+// Where an entry's name ends, its script, and its listing; or the input does not hold all three.
 enum Found {
-    Whole(usize, usize),
+    Whole(usize, usize, usize),
     Cut,
 }
 
@@ -23,11 +24,14 @@ pub enum Outcome {
     NoRoom,
 }
 
-// How many entries were run, how many agree, and the first that does not, with its number from 0.
+// How many entries were run, how many agree, and the first that does not: its number from 0, where its name begins and ends in the input, and its
+// outcome.
 pub struct Tally {
     pub total: u64,
     pub agree: u64,
     pub number: u64,
+    pub from: usize,
+    pub to: usize,
     pub first: Outcome,
 }
 
@@ -73,13 +77,16 @@ fn entry_at(s: &[u8], at: usize) -> Found
     requires { ⌜ at ≤ length (now s) ⌝ }
     ensures { λ r. ⌜ EntryAt (now (s .entry)) at r ⌝ }
 {
-    match field_at(s, at) {
-        Field::Cut => Found::Cut,
-        Field::Ends(middle) => match field_at(s, middle) {
-            Field::Cut => Found::Cut,
-            Field::Ends(end) => Found::Whole(middle, end),
-        },
-    }
+    let Field::Ends(name_end) = field_at(s, at) else {
+        return Found::Cut;
+    };
+    let Field::Ends(script_end) = field_at(s, name_end) else {
+        return Found::Cut;
+    };
+    let Field::Ends(end) = field_at(s, script_end) else {
+        return Found::Cut;
+    };
+    Found::Whole(name_end, script_end, end)
 }
 
 fn compare(a: &[u8], b: &[u8]) -> Outcome
@@ -101,23 +108,24 @@ fn compare(a: &[u8], b: &[u8]) -> Outcome
     Outcome::DiffersAt(i)
 }
 
-// Runs an entry's script, and compares. A listing has no room where another line might not have fit behind it.
-fn replay_entry(s: &[u8], at: usize, middle: usize, end: usize, out: &mut [u8]) -> Outcome
-    requires { ⌜ EntryIn (now s) at middle end ⌝ }
-    ensures { λ r. ⌜ EntryRun (now (s .entry)) at middle end (now (out .entry)) (now (out .exit)) r ⌝ }
+// Runs an entry's script, which stands behind the name, and compares. A listing has no room where another line might not have fit behind it.
+fn replay_entry(s: &[u8], name_end: usize, script_end: usize, end: usize, out: &mut [u8]) -> Outcome
+    requires { ⌜ ScriptIn (now s) «name_end» «script_end» end ⌝ }
+    ensures { λ r. ⌜ EntryRun (now (s .entry)) «name_end» «script_end» end (now (out .entry)) (now (out .exit)) r ⌝ }
 {
-    let from = at + 4;
-    let n = listing::run_script(&s[from..middle], out);
+    let from = name_end + 4;
+    let n = listing::run_script(&s[from..script_end], out);
     if out.len() - n < 8254 {
         return Outcome::NoRoom;
     }
-    let listing = middle + 4;
+    let listing = script_end + 4;
     compare(&out[0..n], &s[listing..end])
 }
 
-fn counted(t: Tally, o: Outcome) -> Tally
+// One entry more is counted, whose name begins and ends at the two places.
+fn counted(t: Tally, from: usize, to: usize, o: Outcome) -> Tally
     requires { ⌜ (t .total < 9223372036854775808) × (t .agree ≤ t .total) ⌝ }
-    ensures { λ r. ⌜ r ≡ countedOf t o ⌝ }
+    ensures { λ r. ⌜ r ≡ countedOf t from to o ⌝ }
 {
     let first = t.first;
     match o {
@@ -125,6 +133,8 @@ fn counted(t: Tally, o: Outcome) -> Tally
             total: t.total + 1,
             agree: t.agree + 1,
             number: t.number,
+            from: t.from,
+            to: t.to,
             first,
         },
         Outcome::DiffersAt(_) | Outcome::NoRoom => {
@@ -133,6 +143,8 @@ fn counted(t: Tally, o: Outcome) -> Tally
                     total: t.total + 1,
                     agree: t.agree,
                     number: t.number,
+                    from: t.from,
+                    to: t.to,
                     first,
                 };
             }
@@ -140,6 +152,8 @@ fn counted(t: Tally, o: Outcome) -> Tally
                 total: t.total + 1,
                 agree: t.agree,
                 number: t.total,
+                from,
+                to,
                 first: o,
             }
         }
@@ -154,6 +168,8 @@ pub fn replay(s: &[u8], out: &mut [u8]) -> Replayed
         total: 0,
         agree: 0,
         number: 0,
+        from: 0,
+        to: 0,
         first: Outcome::Agrees,
     };
     let mut at = 0;
@@ -162,9 +178,9 @@ pub fn replay(s: &[u8], out: &mut [u8]) -> Replayed
             Found::Cut => {
                 return Replayed { tally: t, at };
             }
-            Found::Whole(middle, end) => {
-                let o = replay_entry(s, at, middle, end, out);
-                t = counted(t, o);
+            Found::Whole(name_end, script_end, end) => {
+                let o = replay_entry(s, name_end, script_end, end, out);
+                t = counted(t, at + 4, name_end, o);
                 at = end;
             }
         }

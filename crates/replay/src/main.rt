@@ -1,23 +1,35 @@
-// Runs stored scripts and compares each listing with the stored one, which the original Rust gave. The stored scripts are this program's standard
-// input. They were made in rust/differential, from the original, by
-//     cargo build --release --offline && target/release/sample FOLDER
-// which writes FOLDER/scripts, here stdin, and FOLDER/names, here data/names: the scripts' names in the same order, one a line.
-// For each script the input has a four-byte little-endian length, the script, a four-byte length, and the listing.
+// Runs stored scripts and compares each listing with the stored one, which the original Rust gave. Of the first that differs it prints the number
+// from 0, the name and the byte. The stored scripts are this program's standard input. They were made in rust/differential, from the original, by
+//     cargo build --release --offline && target/release/sample FILE
+// For each script the input has its name, the script and the listing, each after a four-byte little-endian length.
 mod entry;
 mod report;
 
+use crate::entry::Tally;
 ghost use Prim.Native.Nat.{_≤_};
 ghost use mathlib.Core.Path.{_≡_};
 ghost use lib.ListN.{length};
+ghost use Rattle.replay.specs.Entry.{firstName};
 
 const STDIN: i32 = 0;
+
+// The name of the first entry that does not agree; empty where all agree.
+fn first_name(s: &[u8], t: Tally) -> &[u8]
+    requires { ⌜ (t .from ≤ t .to) × (t .to ≤ length (now s)) ⌝ }
+    ensures { λ r. ⌜ now r ≡ firstName (now (s .entry)) t ⌝ }
+{
+    let from = t.from;
+    let to = t.to;
+    &s[from..to]
+}
 
 fn replay(input: &[u8], used: usize, out: &mut [u8])
     requires { ⌜ used ≤ length (now input) ⌝ }
 {
-    let r = entry::replay(&input[0..used], out);
+    let s = &input[0..used];
+    let r = entry::replay(s, out);
     let t = r.tally;
-    report::difference(t);
+    report::difference(t, first_name(s, t));
     if r.at < used {
         report::cut(t.total);
     }

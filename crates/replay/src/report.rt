@@ -11,20 +11,26 @@ fn line(before: &[u8], n: u64, after: &[u8]) {
     io::write_all(STDOUT, after);
 }
 
-// The first listing that does not agree, by its number from 0. The names stand in data/names in the same order, one a line.
-pub fn difference(t: Tally) {
+// Which listing it is: its number from 0, and its name, whose bytes are written as they are.
+fn which(number: u64, name: &[u8]) {
+    line(b"listing ", number, b" (");
+    io::write_all(STDOUT, name);
+    io::write_all(STDOUT, b")");
+}
+
+// The first listing that does not agree.
+pub fn difference(t: Tally, name: &[u8]) {
     let first = t.first;
     match first {
         Outcome::Agrees => {}
         Outcome::DiffersAt(i) => {
-            line(b"listing ", t.number, b" differs");
-            line(b" at byte ", i as u64, b"; its name is in data/names\n");
+            which(t.number, name);
+            line(b" differs at byte ", i as u64, b"\n");
         }
-        Outcome::NoRoom => line(
-            b"listing ",
-            t.number,
-            b" has no room; its name is in data/names\n",
-        ),
+        Outcome::NoRoom => {
+            which(t.number, name);
+            io::write_all(STDOUT, b" has no room\n");
+        }
     }
 }
 

@@ -27,21 +27,14 @@ pub fn scripts() -> Vec<(String, Vec<u8>)> {
     scripts
 }
 
-/// What is stored: each script and its listing in turn, each after its length.
-pub struct Stored {
-    pub scripts: Vec<u8>,
-    /// One name a line, in the same order.
-    pub names: String,
-}
-
-/// The scripts with the oracle's listings.
-pub fn stored() -> Stored {
-    let mut stored = Stored { scripts: Vec::new(), names: String::new() };
-    for (name, script) in scripts() {
-        stream::put(&mut stored.scripts, &script);
-        stream::put(&mut stored.scripts, listing(&script).as_bytes());
-        stored.names += &name;
-        stored.names.push('\n');
+/// What is stored: for each script its name, the script and the oracle's listing
+/// of it, each after its length.
+pub fn stored(scripts: &[(String, Vec<u8>)]) -> Vec<u8> {
+    let mut stored = Vec::new();
+    for (name, script) in scripts {
+        stream::put(&mut stored, name.as_bytes());
+        stream::put(&mut stored, script);
+        stream::put(&mut stored, listing(script).as_bytes());
     }
     stored
 }

@@ -1,5 +1,6 @@
 //! Scripts one after the other in a file: each a four-byte little-endian
-//! length and that many bytes; with listings, script and listing in turn.
+//! length and that many bytes; where they are stored, name, script and listing in
+//! turn.
 
 /// Appends one part.
 pub fn put(out: &mut Vec<u8>, part: &[u8]) {

@@ -69,13 +69,13 @@ returns-2 : tie.Need-returns-2
 returns-2 c =
     let a = c .before .before .before .before .before .before .before .before .before .before .before .before .args in
     let s = a .s .now in
-    let at = a .at in
+    let at = a .name-end in
     let b = c .before .before .before .before .before .before .before .before .before .before .before .shared-slice-known .given in
     let r = c .before .before .before .before .before .before .before .run-script in
-    let short : length (bytesOf s at (a .middle)) ≤ LIMIT =
-    omega (arith, c .before .before .before .before .before .before .before .before .before .before .before .before .pre .script, length-take (a .middle - (at + 4)) (drop (at + 4) s), b at, b (at + 1), b (at + 2), b (at + 3)) in
-    let w = agreement (length (now (a .out))) s at (a .middle) (a .end) (take (r .result - 0) (r .last .1 .0)) (c .compare .result)
-    (ap (λ (k : ℕ). take k (r .last .1 .0)) (sub-zero (r .result)) ∙ r .ensures .whole short (omega (arith, c .before .before .before .before .if1 .left, r .ensures .fits)) ∙ listing-is (bytesOf s at (a .middle)))
+    let short : length (bytesOf s at (a .script-end)) ≤ LIMIT =
+    omega (arith, c .before .before .before .before .before .before .before .before .before .before .before .before .pre .script, length-take (a .script-end - (at + 4)) (drop (at + 4) s), b at, b (at + 1), b (at + 2), b (at + 3)) in
+    let w = agreement (length (now (a .out))) s at (a .script-end) (a .end) (take (r .result - 0) (r .last .1 .0)) (c .compare .result)
+    (ap (λ (k : ℕ). take k (r .last .1 .0)) (sub-zero (r .result)) ∙ r .ensures .whole short (omega (arith, c .before .before .before .before .if1 .left, r .ensures .fits)) ∙ listing-is (bytesOf s at (a .script-end)))
     (c .compare .ensures)
     in
     record { outcome = w; text = r .ensures .text }
