@@ -1,7 +1,6 @@
 -- What is claimed of feeding: what it puts out is the listing, however the script is cut into blocks.
 use Prim.Native.Nat.{ℕ, _+_, _≤_}
 use mathlib.Core.Path.{_≡_}
-use mathlib.Core.Bool.{true}
 use mathlib.Core.List.{List, [], _∷_, _++_, flatten}
 use lib.ListN.{length, take, drop}
 use Rattle.text.specs.Put.{Written}
@@ -11,7 +10,7 @@ use Rattle.feed.specs.declared.State.{State}
 use Rattle.feed.specs.declared.Fed.{Fed}
 use Rattle.feed.specs.Machine.{Machine, machine, start, stay, moveOf}
 use Rattle.feed.specs.Turn.{LIMIT}
-use Rattle.feed.specs.Feed.{isReady, Block, fedOf, allOf, FeedDone}
+use Rattle.feed.specs.Feed.{Block, fedOf, allOf, FeedDone}
 use Rattle.script.specs.Listing.{closing, run, header, listing}
 
 -- whatever bytes follow those of a block, the listing is its text, and then the listing from the machine after it with the bytes that are left
@@ -37,17 +36,16 @@ pub data Feeds (room : ℕ) : (offset : ℕ) → Machine → (s : List ℕ) → 
 abbrev pub Chain : Type 0
 Chain = (room : ℕ) (bs : List (List ℕ)) (o : List ℕ) → Feeds room 0 start [] bs o → header ++ o ≡ listing (flatten bs)
 
--- from wherever bytes can be fed there is a feeding to the end, where the output has room for what is still to be listed and one line more
+-- from wherever bytes can be fed there is a feeding to the end, where the output has room for a line: so many records as have been run took at least so
+-- many bytes, and offset is the number of bytes before those at hand
 abbrev pub Complete : Type 0
 Complete =
-    (offset room : ℕ) (m : Machine) (s : List ℕ) (bs : List (List ℕ)) → isReady (m .state) offset (length (s ++ flatten bs)) (length (m .memory)) ≡ true
-    → length (run offset m (s ++ flatten bs)) + LINE ≤ room → (o : List ℕ) × Feeds room offset m s bs o
+    (offset room : ℕ) (m : Machine) (s : List ℕ) (bs : List (List ℕ)) → m .state .number ≤ offset → offset + length (s ++ flatten bs) ≤ LIMIT
+    → length (m .memory) ≤ 4096 → LINE ≤ room → (o : List ℕ) × Feeds room offset m s bs o
 
--- every script of at most LIMIT bytes has a feeding, however it is cut into blocks, where the output has room for its listing and one line more. With
--- less room it takes several calls of `feed`: that they come to an end, with room for one line, is what `Drained` of the crate socket_script says
+-- every script of at most LIMIT bytes has a feeding, however it is cut into blocks, where the output has room for a line
 abbrev pub Every : Type 0
-Every =
-    (room : ℕ) (bs : List (List ℕ)) → length (flatten bs) ≤ LIMIT → length (listing (flatten bs)) + LINE ≤ room → (o : List ℕ) × Feeds room 0 start [] bs o
+Every = (room : ℕ) (bs : List (List ℕ)) → length (flatten bs) ≤ LIMIT → LINE ≤ room → (o : List ℕ) × Feeds room 0 start [] bs o
 
 -- what is claimed of feeding
 pub record Claims : Type 0 where
