@@ -12,13 +12,40 @@ const STDIN: i32 = 0;
 
 const STDOUT: i32 = 1;
 
-// Reads behind the bytes that are in use, which stay as they were; 0 at the end of the input.
+const STDERR: i32 = 2;
+
+// Tells on standard error that a read failed.
+fn report_read(got: isize) {
+    if got < 0 {
+        io::write_all(STDERR, b"socket_script: standard input cannot be read\n");
+    }
+}
+
+// Tells on standard error that a write failed.
+fn report_write(done: bool) {
+    if !done {
+        io::write_all(
+            STDERR,
+            b"socket_script: standard output cannot be written\n",
+        );
+    }
+}
+
+// Reads behind the bytes that are in use, which stay as they were; 0 at the end of the input, and where a read fails, which ends the input.
 fn read_in(buffer: &mut [u8], used: usize) -> usize
     requires { ⌜ used ≤ length (now buffer) ⌝ }
     ensures { λ r. ⌜ ReadIn used r (now (buffer .entry)) (now (buffer .exit)) ⌝ }
 {
     let got = libc::read(STDIN, &mut buffer[used..]);
+    report_read(got);
     io::count(got, &buffer[used..])
+}
+
+// Writes the first bytes of the output.
+fn put(out: &[u8], n: usize)
+    requires { ⌜ n ≤ length (now out) ⌝ }
+{
+    report_write(io::write_all(STDOUT, &out[0..n]));
 }
 
 // Feeds the bytes in use until no move is left, and writes what comes out.
@@ -49,7 +76,7 @@ fn drain(
             out,
         );
         let written = q.written;
-        io::write_all(STDOUT, &out[0..written]);
+        put(out, written);
         if q.used == used {
             break;
         }
@@ -63,7 +90,7 @@ fn begin(out: &mut [u8])
     ensures { λ _. ⌜ now (out .exit) ≡ place 0 header (now (out .entry)) ⌝ }
 {
     let n = script::header(out);
-    io::write_all(STDOUT, &out[0..n]);
+    put(out, n);
 }
 
 // The end of the input.
@@ -74,7 +101,7 @@ fn close(p: Progress, buffer: &[u8], out: &mut [u8])
     let st = p.state;
     let used = p.used;
     let n = script::finish(st, p.offset, &buffer[0..used], out);
-    io::write_all(STDOUT, &out[0..n]);
+    put(out, n);
 }
 
 // Whether more is to be read. 01 "Script program": a script that printed `stop N` or the line of a refused create has ended, and the program ends with it,

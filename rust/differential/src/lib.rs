@@ -7,6 +7,7 @@ pub mod compare;
 pub mod draw;
 pub mod enumerate;
 pub mod generate;
+pub mod long;
 pub mod machine;
 pub mod oracle;
 pub mod random;

@@ -22,25 +22,16 @@ part-finish-end c = search needs
 finish-requires : tie.Need-finish-requires
 finish-requires c κs = search needs
 
-sub-write-all : tie.Need-sub-write-all
-sub-write-all c = search needs
-
-part-write-all-start : tie.Need-part-write-all-start
-part-write-all-start c = search needs
-
-part-write-all-end : tie.Need-part-write-all-end
-part-write-all-end c = let p = c .before .before .before .finish .ensures .fit .put (c .before .before .before .before .before .before .before .before .before .pre .1) in omega (arith, p .fits, c .before .before .before .finish .kept .1 .1 .1 .0)
-
-write-all-requires : tie.Need-write-all-requires
-write-all-requires c κs = search needs
+put-requires : tie.Need-put-requires
+put-requires c κs = let p = c .before .before .before .finish .ensures .fit .put (c .before .before .before .before .before .before .before .before .before .pre .1) in omega (arith, p .fits, c .before .before .before .finish .kept .1 .1 .1 .0)
 
 same-length : tie.Need-same-length
 same-length c = search needs
 
 returns : tie.Need-returns
 returns c =
-    let a = c .before .before .before .before .before .before .before .before .before .before .before .args in
-    c .before .before .before .before .before .finish .ensures .fit .put (c .before .before .before .before .before .before .before .before .before .before .before .pre .1) .out
+    let a = c .before .before .before .before .before .before .before .before .before .before .args in
+    c .before .before .before .before .finish .ensures .fit .put (c .before .before .before .before .before .before .before .before .before .before .pre .1) .out
     ∙ ap (λ (n : ℕ). place 0 (closing (a .p .offset) (a .p .state .ended) (take n (now (a .buffer)))) (now (a .out))) (sub-zero (a .p .used))
 
 pub close-spec : {M : Type 1} → statement M
@@ -51,9 +42,6 @@ close-spec =
     part-finish-start
     part-finish-end
     finish-requires
-    sub-write-all
-    part-write-all-start
-    part-write-all-end
-    write-all-requires
+    put-requires
     same-length
     returns)

@@ -19,6 +19,9 @@ part-read-end c = search needs
 read-requires : tie.Need-read-requires
 read-requires c κs = search needs
 
+report-read-requires : tie.Need-report-read-requires
+report-read-requires c κs = search needs
+
 sub-count : tie.Need-sub-count
 sub-count c = search needs
 
@@ -36,11 +39,11 @@ same-length c = search needs
 
 returns : tie.Need-returns
 returns c =
-    let a = c .before .before .before .before .before .before .before .before .args in
+    let a = c .before .before .before .before .before .before .before .before .before .args in
     record {
       within = search needs;
       size = same-length c;
-      front = take-put (a .used) (length (now (a .buffer)) - a .used) (now (a .buffer)) (c .before .before .before .before .before .read .last .1 .0) (c .before .before .before .before .before .before .before .before .pre);
+      front = take-put (a .used) (length (now (a .buffer)) - a .used) (now (a .buffer)) (c .before .before .before .before .before .before .read .last .1 .0) (c .before .before .before .before .before .before .before .before .before .pre);
     }
 
 pub read-in-spec : {M : Type 1} → statement M
@@ -51,6 +54,7 @@ read-in-spec =
     part-read-start
     part-read-end
     read-requires
+    report-read-requires
     sub-count
     part-count-start
     part-count-end
