@@ -49,6 +49,7 @@ wroteBy memory z p t a =
           z;
     }
 
+-- 01 "Script program", tag 1
 unfoldable pub writeCall : (memory : List ℕ) → Rings → Pair → Transfer → Called
 writeCall memory z p t = wroteBy memory z p t (writeAnswerOf memory z p t)
 
@@ -72,6 +73,7 @@ gotBy memory z p t a =
       lent = z;
     }
 
+-- 01 "Script program", tag 2, but for the count
 unfoldable pub readCall : (memory : List ℕ) → Rings → Pair → Transfer → Called
 readCall memory z p t = gotBy memory z p t (readAnswerOf memory z p t)
 

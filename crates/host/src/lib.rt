@@ -101,6 +101,7 @@ pub extern "C" fn murgwethan_shutdown(p: &mut Pair, handle: u32, read: bool, wri
     kept_pair::outcome(p, r)
 }
 
+// Sets the number of bytes from which on an end shows that enough is queued to be read; 0 turns it off.
 #[no_mangle]
 pub extern "C" fn murgwethan_set_read_threshold(p: &mut Pair, handle: u32, threshold: u64) -> i64
     ensures { λ w. ⌜ Answered (Steps (now (p .entry)) (readThresholdAnswer (now (p .entry)) handle threshold) (readThresholdSet (isOne handle) threshold (now (p .entry)))) (now (p .exit)) w ⌝ }
@@ -109,6 +110,7 @@ pub extern "C" fn murgwethan_set_read_threshold(p: &mut Pair, handle: u32, thres
     kept_pair::outcome(p, r)
 }
 
+// Sets the number of bytes from which on an end shows that enough has room to be written; 0 turns it off.
 #[no_mangle]
 pub extern "C" fn murgwethan_set_write_threshold(p: &mut Pair, handle: u32, threshold: u64) -> i64
     ensures { λ w. ⌜ Answered (Steps (now (p .entry)) (writeThresholdAnswer (now (p .entry)) handle threshold) (writeThresholdSet (isOne handle) threshold (now (p .entry)))) (now (p .exit)) w ⌝ }
@@ -126,6 +128,7 @@ pub extern "C" fn murgwethan_wait(p: &mut Pair, handle: u32, key: u64, mask: u32
     kept_places::wait(p, a, handle, key, mask, edge)
 }
 
+// Closes the end of a handle and drops its waits; their packets stay.
 #[no_mangle]
 pub extern "C" fn murgwethan_close(p: &mut Pair, handle: u32) -> i64
     ensures { λ w. ⌜ Answered (Steps (now (p .entry)) (closeAnswer (now (p .entry)) handle) (closed (isOne handle) (now (p .entry)))) (now (p .exit)) w ⌝ }

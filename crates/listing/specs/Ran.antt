@@ -1,4 +1,4 @@
--- What a function says that runs a script into a buffer.
+-- What a function says that runs a script into a buffer. 01 "Script program".
 use Prim.Native.Nat.{ℕ, _+_, _-_, _≤_}
 use mathlib.Core.Path.{_≡_}
 use mathlib.Core.Bool.{Bool}

@@ -44,9 +44,11 @@ tableBy Take r p = takenPair (isDone (r .answer)) p
 
 -- ---- the whole call
 
+-- whether the table is rebuilt, asked once both ends are replaced
 unfoldable pub rebuildsTable : PairOutcome → Pair → Bool
 rebuildsTable d p = rebuildsBy (d .change) (d .outcome) p
 
+-- the pair once it is rebuilt
 unfoldable pub withTable : PairOutcome → Pair → Pair
 withTable d p = tableBy (d .change) (d .outcome) p
 

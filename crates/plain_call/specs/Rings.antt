@@ -10,6 +10,7 @@ pub record Rings : Type 0 where
   pub ring2 : List ℕ
   pub table2 : List ℕ
 
+-- the four together
 abbrev pub rings : (ring1 table1 ring2 table2 : List ℕ) → Rings
 rings ring1 table1 ring2 table2 = record { ring1 = ring1; table1 = table1; ring2 = ring2; table2 = table2 }
 
@@ -30,6 +31,7 @@ unfoldable pub peerTable : Bool → Rings → List ℕ
 peerTable true z = z .table2
 peerTable false z = z .table1
 
+-- with those of the peer replaced
 unfoldable pub withPeer : Bool → (ring table : List ℕ) → Rings → Rings
 withPeer true ring table z = rings (z .ring1) (z .table1) ring table
 withPeer false ring table z = rings ring table (z .ring2) (z .table2)

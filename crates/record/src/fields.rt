@@ -22,6 +22,7 @@ fn byte_at(s: &[u8], at: usize) -> u32
     0
 }
 
+// Numbers of one, two, four and eight bytes at a place, the lowest byte first. What lies past the end reads as 0.
 pub fn u8_at(s: &[u8], at: u8) -> u8
     ensures { λ r. ⌜ r ≡ getD (now (s .entry)) at 0 ⌝ }
 {
@@ -63,6 +64,7 @@ pub fn u64_at(s: &[u8], at: u8) -> u64
     low + 4294967296 * high
 }
 
+// The body of a write or a read.
 pub fn transfer_at(body: &[u8]) -> Transfer
     ensures { λ r. ⌜ r ≡ transferOf (now (body .entry)) ⌝ }
 {

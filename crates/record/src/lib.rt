@@ -34,6 +34,7 @@ pub fn is_body(tag: u8, n: usize) -> bool
     }
 }
 
+// What the bytes at hand begin with.
 pub fn decode(s: &[u8]) -> Decoded
     ensures { λ r. ⌜ r ≡ recordOf (now (s .entry)) ⌝ }
 {

@@ -1,4 +1,5 @@
--- The stored entries: where they lie in the input, and whether the stored listings agree with those of the scripts.
+-- The stored entries: where they lie in the input, and whether the stored listings agree with those of the scripts. Of 01 it uses
+-- the listing of "Script program" alone.
 use Prim.Native.Nat.{ℕ, _+_, _-_, _≤_, _<_}
 use mathlib.Core.Path.{_≡_}
 use mathlib.Core.List.{List}
@@ -44,6 +45,7 @@ pub record EntryIn (s : List ℕ) (at nameEnd scriptEnd end : ℕ) : Type 0 wher
 abbrev pub entryEnd : List ℕ → ℕ → ℕ
 entryEnd s at = fieldEnd s (fieldEnd s (fieldEnd s at))
 
+-- an entry is cut where its third field ends past the input
 abbrev pub EntryAt : List ℕ → ℕ → Found → Type 0
 EntryAt s at (Found.Whole nameEnd scriptEnd end) = EntryIn s at nameEnd scriptEnd end
 EntryAt s at Found.Cut = length s < entryEnd s at
@@ -60,6 +62,7 @@ pub record FirstDifference (a b : List ℕ) (i : ℕ) : Type 0 where
   pub differs : i < length a → i < length b → getD a i 0 ≡ getD b i 0 → ⊥
   pub oneGoesOn : i ≡ length a → i ≡ length b → ⊥
 
+-- what an outcome says of two lists
 abbrev pub Compares : (a b : List ℕ) → Outcome → Type 0
 Compares a b Agrees = a ≡ b
 Compares a b (DiffersAt i) = FirstDifference a b i

@@ -1,4 +1,4 @@
--- What is claimed of feeding: what it puts out is the listing, however the script is cut into blocks.
+-- What is claimed of feeding: what it puts out is the listing, however the script is cut into blocks. 01 "Script program".
 use Prim.Native.Nat.{ℕ, _+_, _≤_}
 use mathlib.Core.Path.{_≡_}
 use mathlib.Core.List.{List, [], _∷_, _++_, flatten}

@@ -24,6 +24,7 @@ pub fn ends_of(p: Pair) -> Ends
     }
 }
 
+// End 1 if asked for it, else end 2.
 pub fn own(p: Pair, one: bool) -> Endpoint
     ensures { λ r. ⌜ r ≡ own one p ⌝ }
 {

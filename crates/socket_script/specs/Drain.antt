@@ -1,4 +1,5 @@
 -- When the program reads on, what the function says that reads, and the one that feeds the bytes in the buffer until no move is left.
+-- 01 "Script program": standard input is read, and the script ends with `stop N` or a refused create.
 use Prim.Native.Nat.{ℕ, _+_, _-_, _≤_}
 use mathlib.Core.Path.{_≡_}
 use mathlib.Core.Bool.{Bool, false}
@@ -37,6 +38,7 @@ pub record Held : Type 0 where
   pub lent : Rings
   pub out : List ℕ
 
+-- the five together
 abbrev pub held : Progress → (buffer memory : List ℕ) → Rings → (out : List ℕ) → Held
 held p buffer memory z out = record { at = p; buffer = buffer; memory = memory; lent = z; out = out }
 

@@ -11,6 +11,7 @@ unfoldable pub signedOf : ℤ → List ℕ
 signedOf (pos n) = decimalOf n
 signedOf (negsuc n) = 45 ∷ decimalOf (n + 1)
 
+-- the word of an answer in decimal
 unfoldable pub wordOf : Answer → List ℕ
 wordOf a = signedOf (answerWord a)
 

@@ -1,4 +1,4 @@
--- Text put into a list at a place, and what a writer of text says.
+-- Text put into a list at a place, and what a writer of text says. It stands for no paragraph of 01: every text of a listing is put so.
 use Prim.Native.Nat.{ℕ, _+_, _≤_, _<_}
 use mathlib.Core.Path.{_≡_}
 use mathlib.Core.Bool.{Bool, true, false}

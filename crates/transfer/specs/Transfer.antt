@@ -56,6 +56,7 @@ fedVisits one o p t =
       second = record { one = one; word = o .signals; clear = t .lost; set = 0 };
     }
 
+-- both ends after it, and the two changes of words
 unfoldable pub fedMoved : Bool → (own peer : Endpoint) → Transfer → Moved
 fedMoved one o p t =
     record {
@@ -104,6 +105,7 @@ drainedVisits one o p t =
       second = pick (p .closed) noVisit (record { one = not one; word = p .signals; clear = 0; set = t .gained });
     }
 
+-- both ends after it, and the two changes of words
 unfoldable pub drainedMoved : Bool → (own peer : Endpoint) → Transfer → Moved
 drainedMoved one o p t =
     record {
