@@ -5,6 +5,7 @@ pub mod branches;
 pub mod cases;
 pub mod compare;
 pub mod draw;
+pub mod endings;
 pub mod enumerate;
 pub mod generate;
 pub mod machine;

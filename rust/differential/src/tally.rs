@@ -1,6 +1,7 @@
 //! Counts of what a run of scripts covered.
 
-use crate::branches::{Step, View};
+use crate::branches::{created, Step, View};
+use crate::endings::Ending;
 use crate::machine::{Answer, Machine};
 use crate::oracle::{observed_listing, word, Observer};
 use crate::record::{Record, SHAPES};
@@ -59,6 +60,12 @@ impl Tally {
         self.branches.keys().copied().collect()
     }
 
+    fn reached(&mut self, names: impl IntoIterator<Item = &'static str>) {
+        for name in names {
+            *self.branches.entry(name).or_default() += 1;
+        }
+    }
+
     fn count(&mut self, record: &Record, word: i64) {
         self.records += 1;
         let tag = record.values().0 as usize;
@@ -75,22 +82,23 @@ impl Observer for Tally {
         self.count(record, word(answer));
         let after = self.view.next(machine, record, answer);
         let step = Step { before: &self.view, after: &after, record, answer };
-        for name in step.names() {
-            *self.branches.entry(name).or_default() += 1;
-        }
+        let names = step.names();
         self.view = after;
+        self.reached(names);
     }
 
     fn created(&mut self, record: &Record, machine: Option<&Machine>) {
         self.count(record, if machine.is_some() { 0 } else { -10 });
+        self.reached(created(record, machine.is_some()));
         if let (Record::Create { kind, .. }, Some(machine)) = (record, machine) {
             self.kinds[*kind as usize] += 1;
             self.view = View::of(machine);
         }
     }
 
-    fn stopped(&mut self) {
-        self.stops += 1;
+    fn ended(&mut self, ending: &Ending) {
+        self.stops += u64::from(matches!(ending, Ending::Stopped(_)));
+        self.reached([ending.name()]);
     }
 }
 
