@@ -13,7 +13,7 @@ const READ_THRESHOLD: u32 = 0x400;
 const WRITE_THRESHOLD: u32 = 0x800;
 
 /// All names, in order.
-pub const BRANCHES: [&str; 133] = [
+pub const BRANCHES: [&str; 135] = [
     "a call fires one wait",
     "a call fires several waits",
     "a handle refused as closed",
@@ -42,7 +42,9 @@ pub const BRANCHES: [&str; 133] = [
     "disposition 2 0",
     "disposition 2 1",
     "disposition 2 2",
+    "disposition refused, own above 2",
     "disposition refused, own enable",
+    "disposition refused, peer above 2",
     "disposition refused, peer enable",
     "disposition with a closed peer",
     "fill begins at memory's beginning",
@@ -443,6 +445,14 @@ impl Step<'_> {
             ["disposition 1 0", "disposition 1 1", "disposition 1 2"],
             ["disposition 2 0", "disposition 2 1", "disposition 2 2"],
         ];
+        if *self.answer == Err(-10) {
+            // The numbers are tested before the handle.
+            names.push(if own > 2 {
+                "disposition refused, own above 2"
+            } else {
+                "disposition refused, peer above 2"
+            });
+        }
         let Some(end) = end_of(handle) else { return };
         if self.answer.is_ok() {
             names.push(DONE[own as usize][peer as usize]);
