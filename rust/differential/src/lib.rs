@@ -17,6 +17,7 @@ pub mod shrink;
 pub mod sockets;
 pub mod source;
 pub mod stream;
+pub mod tables;
 pub mod tally;
 pub mod text;
 pub mod values;

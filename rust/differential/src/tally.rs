@@ -15,8 +15,8 @@ pub struct Tally {
     pub records: u64,
     stops: u64,
     /// By tag: how often it was done, and refused with each status.
-    done: [u64; SHAPES.len()],
-    refused: [BTreeMap<i64, u64>; SHAPES.len()],
+    pub(crate) done: [u64; SHAPES.len()],
+    pub(crate) refused: [BTreeMap<i64, u64>; SHAPES.len()],
     kinds: [u64; 2],
     branches: BTreeMap<&'static str, u64>,
     view: View,
@@ -60,6 +60,20 @@ impl Tally {
         self.branches.keys().copied().collect()
     }
 
+    /// How often a branch was reached.
+    pub fn times(&self, name: &str) -> u64 {
+        self.branches.get(name).copied().unwrap_or(0)
+    }
+
+    /// The numbers of scripts and records.
+    pub fn summary(&self) -> String {
+        let [streams, datagrams] = self.kinds.map(with_commas);
+        let [scripts, stops, records] = [self.scripts, self.stops, self.records].map(with_commas);
+        format!(
+            "{scripts} scripts ({streams} stream, {datagrams} datagram, {stops} stopped), {records} records"
+        )
+    }
+
     fn reached(&mut self, names: impl IntoIterator<Item = &'static str>) {
         for name in names {
             *self.branches.entry(name).or_default() += 1;
@@ -74,6 +88,14 @@ impl Tally {
         } else {
             self.done[tag] += 1;
         }
+    }
+}
+
+/// A number with commas between thousands.
+pub(crate) fn with_commas(number: u64) -> String {
+    match number {
+        0..1000 => number.to_string(),
+        _ => format!("{},{:03}", with_commas(number / 1000), number % 1000),
     }
 }
 
@@ -104,11 +126,7 @@ impl Observer for Tally {
 
 impl fmt::Display for Tally {
     fn fmt(&self, f: &mut fmt::Formatter<'_>) -> fmt::Result {
-        let Tally { scripts, records, stops, kinds: [streams, datagrams], .. } = self;
-        writeln!(
-            f,
-            "{scripts} scripts ({streams} stream, {datagrams} datagram, {stops} stopped), {records} records"
-        )?;
+        writeln!(f, "{}", self.summary())?;
         writeln!(f, "call: done, refused by status")?;
         for (tag, shape) in SHAPES.iter().enumerate() {
             write!(f, "  {:16}{:>9}", shape.name, self.done[tag])?;

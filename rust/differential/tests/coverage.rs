@@ -34,6 +34,9 @@ fn assert_all(tally: &Tally) {
     let missing: Vec<_> = all.difference(&reached).collect();
     let unlisted: Vec<_> = reached.difference(&all).collect();
     assert!(missing.is_empty() && unlisted.is_empty(), "missing {missing:?}, not listed {unlisted:?}");
+    let endings = BRANCHES.iter().filter(|name| name.starts_with("script ") || name.starts_with("stop "));
+    let ended: u64 = endings.map(|name| tally.times(name)).sum();
+    assert_eq!(ended, tally.scripts, "every script ends in one way");
 }
 
 #[test]
