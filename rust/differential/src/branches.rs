@@ -1,9 +1,11 @@
 //! Names for what happened in a call, so that a run can say what it covered.
-//! They are judged from the pair before and after the call.
+//! They are judged from the pair before and after the call. How a script ends is
+//! judged in `endings`.
 
-use crate::machine::{Answer, Done, Machine, BASE, MEMORY};
+use crate::machine::{Answer, Done, Machine, BASE, MEMORY, RING};
 use crate::record::{Record, Transfer};
 use crate::waits::{Fired, PLACES};
+use zcore::capacity::ORIGINAL;
 
 const READABLE: u32 = 0x1;
 const WRITABLE: u32 = 0x2;
@@ -11,7 +13,7 @@ const READ_THRESHOLD: u32 = 0x400;
 const WRITE_THRESHOLD: u32 = 0x800;
 
 /// All names, in order.
-pub const BRANCHES: [&str; 99] = [
+pub const BRANCHES: [&str; 135] = [
     "a call fires one wait",
     "a call fires several waits",
     "a handle refused as closed",
@@ -21,6 +23,16 @@ pub const BRANCHES: [&str; 99] = [
     "close leaves bytes at the peer",
     "close leaves packets",
     "close of the second end",
+    "create makes a datagram pair",
+    "create makes a stream pair",
+    "create refused for a capacity above 262144",
+    "create refused for capacity 0",
+    "create refused for end 1's rights",
+    "create refused for end 2's rights",
+    "create refused for its kind",
+    "create refused for rings shorter than its capacity",
+    "create with capacity 1",
+    "create with capacity 4096",
     "disposition 0 0",
     "disposition 0 1",
     "disposition 0 2",
@@ -30,7 +42,9 @@ pub const BRANCHES: [&str; 99] = [
     "disposition 2 0",
     "disposition 2 1",
     "disposition 2 2",
+    "disposition refused, own above 2",
     "disposition refused, own enable",
+    "disposition refused, peer above 2",
     "disposition refused, peer enable",
     "disposition with a closed peer",
     "fill begins at memory's beginning",
@@ -68,12 +82,36 @@ pub const BRANCHES: [&str; 99] = [
     "read while the peer may not write",
     "read's count lands over its bytes",
     "read's range ends at memory's end",
+    "script ends at a refused create, bytes behind it",
+    "script ends at a refused create, its last record",
+    "script ends behind its last record",
+    "script ends without a record",
     "shutdown 0",
     "shutdown 1",
     "shutdown 2",
     "shutdown 3",
     "shutdown with a closed peer",
     "shutdown with ignored bits",
+    "stop at a close of a wrong length",
+    "stop at a create of a wrong length",
+    "stop at a disposition of a wrong length",
+    "stop at a fill of more than 4096 bytes",
+    "stop at a fill without bytes",
+    "stop at a first record that is no create",
+    "stop at a read of a wrong length",
+    "stop at a read threshold of a wrong length",
+    "stop at a record cut after its tag",
+    "stop at a record cut before its body",
+    "stop at a record cut inside its body",
+    "stop at a record cut inside its length",
+    "stop at a second create",
+    "stop at a shutdown of a wrong length",
+    "stop at a tag of 12 or more",
+    "stop at a take of a wrong length",
+    "stop at a wait of a wrong length",
+    "stop at a write of a wrong length",
+    "stop at a write threshold of a wrong length",
+    "stop at an info of a wrong length",
     "take finds nothing",
     "take finds waits only",
     "take gives a packet",
@@ -196,6 +234,28 @@ pub struct Step<'a> {
     pub after: &'a View,
     pub record: &'a Record,
     pub answer: &'a Answer,
+}
+
+/// Names of what happened in a create. All refusals are −10; the name tells the
+/// first reason in document 01's order.
+pub fn created(record: &Record, done: bool) -> Vec<&'static str> {
+    let Record::Create { kind, capacity, rights: [one, two] } = *record else { return Vec::new() };
+    let facts = [
+        (done && kind == 0, "create makes a stream pair"),
+        (done && kind == 1, "create makes a datagram pair"),
+        (done && capacity == 1, "create with capacity 1"),
+        (done && capacity as usize == RING, "create with capacity 4096"),
+    ];
+    let refused = [
+        (kind > 1, "create refused for its kind"),
+        (capacity == 0, "create refused for capacity 0"),
+        (capacity as usize > ORIGINAL, "create refused for a capacity above 262144"),
+        (one > 7, "create refused for end 1's rights"),
+        (two > 7, "create refused for end 2's rights"),
+        (capacity as usize > RING, "create refused for rings shorter than its capacity"),
+    ];
+    let refused = refused.into_iter().find(|(holds, _)| *holds && !done);
+    facts.into_iter().filter(|(holds, _)| *holds).chain(refused).map(|(_, name)| name).collect()
 }
 
 /// The end, 0 or 1, that a handle names.
@@ -385,6 +445,14 @@ impl Step<'_> {
             ["disposition 1 0", "disposition 1 1", "disposition 1 2"],
             ["disposition 2 0", "disposition 2 1", "disposition 2 2"],
         ];
+        if *self.answer == Err(-10) {
+            // The numbers are tested before the handle.
+            names.push(if own > 2 {
+                "disposition refused, own above 2"
+            } else {
+                "disposition refused, peer above 2"
+            });
+        }
         let Some(end) = end_of(handle) else { return };
         if self.answer.is_ok() {
             names.push(DONE[own as usize][peer as usize]);

@@ -95,9 +95,23 @@ pub fn compare(source: &Source, subject: &dyn Subject, workers: usize) -> (Tally
         subject.listing(&script) != expected.as_bytes()
     };
     let (tallies, first) = search(source.number(), workers, differs);
+    (total(tallies), first.map(|number| cut(number, &source.script(number), subject)))
+}
+
+/// Counts what all scripts of a source cover, without a program beside the
+/// oracle.
+pub fn cover(source: &Source, workers: usize) -> Tally {
+    let count = |number, tally: &mut Tally| {
+        tally.listing(&source.script(number));
+        false
+    };
+    total(search(source.number(), workers, count).0)
+}
+
+fn total(tallies: Vec<Tally>) -> Tally {
     let mut total = Tally::default();
     tallies.into_iter().for_each(|tally| total.add(tally));
-    (total, first.map(|number| cut(number, &source.script(number), subject)))
+    total
 }
 
 /// Tries the numbers below a limit on some threads, each with counts of its

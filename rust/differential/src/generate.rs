@@ -5,7 +5,7 @@
 use crate::draw::{Draw, ALL};
 use crate::machine::{BASE, MEMORY, RING};
 use crate::random::Random;
-use crate::record::{script_of, Record, Transfer, CREATE, HEAD, MOST_FILL};
+use crate::record::{script_of, Record, Transfer, CREATE, FILL, HEAD, MOST_FILL, SHAPES};
 
 const END: u64 = BASE + MEMORY as u64;
 
@@ -103,19 +103,25 @@ impl Generator {
     }
 
     fn create(&mut self) -> Record {
-        let mut kind = self.draw.random.below(2) as u32;
-        let mut capacity = self.draw.capacity as u32;
+        let kind = self.draw.random.below(2) as u32;
         let mut rights = [7, 7];
         if self.draw.random.percent(15) {
             rights = [self.draw.random.below(8) as u8, self.draw.random.below(8) as u8];
         }
         if self.draw.random.percent(2) {
-            match self.draw.random.below(4) {
-                0 => kind = self.draw.random.pick(&[2, 3, 256, ALL]),
-                1 => capacity = self.draw.random.pick(&[0, 4097, 262144, 262145, ALL]),
-                2 => rights[0] = self.draw.random.pick(&[8, 15, 255]),
-                _ => rights[1] = self.draw.random.pick(&[8, 15, 255]),
-            }
+            return self.refused_create(kind, rights);
+        }
+        Record::Create { kind, capacity: self.draw.capacity as u32, rights }
+    }
+
+    /// A create of which one argument is refused.
+    fn refused_create(&mut self, mut kind: u32, mut rights: [u8; 2]) -> Record {
+        let mut capacity = self.draw.capacity as u32;
+        match self.draw.random.below(4) {
+            0 => kind = self.draw.random.pick(&[2, 3, 256, ALL]),
+            1 => capacity = self.draw.random.pick(&[0, 4097, 262144, 262145, ALL]),
+            2 => rights[0] = self.draw.random.pick(&[8, 15, 255]),
+            _ => rights[1] = self.draw.random.pick(&[8, 15, 255]),
         }
         Record::Create { kind, capacity, rights }
     }
@@ -245,27 +251,43 @@ impl Generator {
         Record::Fill { address, bytes: self.draw.random.bytes(number) }
     }
 
-    /// Four scripts in a hundred are damaged somewhere.
+    /// Four scripts in a hundred are damaged somewhere, or a refused create alone.
     fn perhaps_damaged(&mut self, mut script: Vec<u8>) -> Vec<u8> {
         if !self.draw.random.percent(4) {
             return script;
         }
         let offsets = offsets(&script);
         let at = self.draw.random.pick(&offsets);
-        let mut again = Vec::new();
-        match self.draw.random.below(6) {
+        match self.draw.random.below(8) {
             0 => script[at] = self.draw.random.pick(&[12, 13, 14, 128, 255]),
             1 => script[at + 1] = script[at + 1].wrapping_add(self.draw.random.pick(&[1, 255])),
             2 => script[at + 2] = self.draw.random.pick(&[1, 16, 255]),
             3 => script.truncate(at + self.draw.random.below(HEAD as u64 + 2) as usize),
             4 => drop(script.drain(..offsets[offsets.len() / 2].min(HEAD + 10))),
-            _ => {
-                self.create().encode(&mut again);
-                script.splice(at..at, again);
-            }
+            5 => insert(&mut script, at, &script_of(&[self.create()])),
+            6 => insert(&mut script, at, &self.wrong_head()),
+            _ => script = script_of(&[self.refused_create(0, [7, 7])]),
         }
         script
     }
+
+    /// A tag and a length that no record of the tag has. Tags are equally likely, so
+    /// that those of rare calls occur too.
+    fn wrong_head(&mut self) -> [u8; HEAD] {
+        let tag = self.draw.random.below(SHAPES.len() as u64) as u8;
+        let size = SHAPES[tag as usize].size() as u16;
+        let length = if tag == FILL {
+            self.draw.random.pick(&[0, size - 1, size, size + MOST_FILL as u16 + 1, u16::MAX])
+        } else {
+            self.draw.random.pick(&[size.wrapping_sub(1), size + 1, size ^ 0x100, size ^ 0x8000])
+        };
+        let [low, high] = length.to_le_bytes();
+        [tag, low, high]
+    }
+}
+
+fn insert(script: &mut Vec<u8>, at: usize, bytes: &[u8]) {
+    script.splice(at..at, bytes.iter().copied());
 }
 
 /// Where the records of a whole script begin.

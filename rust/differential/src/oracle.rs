@@ -1,5 +1,6 @@
 //! The script program over the original: a script in, its listing out.
 
+use crate::endings::{record_of, Ending};
 use crate::machine::{Answer, Done, Machine};
 use crate::record::Record;
 use crate::text::hex;
@@ -8,12 +9,12 @@ use std::fmt::Write;
 /// The first line of every listing.
 pub const HEADER: &str = "record word end1 end2";
 
-/// Sees each record, its answer, and the pair after it.
+/// Sees each record, its answer, and the pair after it, and how the script ends.
 pub trait Observer {
     fn called(&mut self, record: &Record, answer: &Answer, machine: &Machine);
     /// A create, done or refused.
     fn created(&mut self, record: &Record, machine: Option<&Machine>);
-    fn stopped(&mut self);
+    fn ended(&mut self, ending: &Ending);
 }
 
 struct Nobody;
@@ -21,7 +22,7 @@ struct Nobody;
 impl Observer for Nobody {
     fn called(&mut self, _record: &Record, _answer: &Answer, _machine: &Machine) {}
     fn created(&mut self, _record: &Record, _machine: Option<&Machine>) {}
-    fn stopped(&mut self) {}
+    fn ended(&mut self, _ending: &Ending) {}
 }
 
 /// The listing of a script.
@@ -35,13 +36,15 @@ pub fn observed_listing(script: &[u8], observer: &mut dyn Observer) -> String {
     let mut machine: Option<Machine> = None;
     let mut offset = 0;
     let mut number = 0u64;
-    while offset < script.len() {
-        let decoded = Record::decode(&script[offset..]);
-        let create_here = |record: &Record| matches!(record, Record::Create { .. });
-        let Some((record, size)) = decoded.filter(|(r, _)| create_here(r) == machine.is_none()) else {
-            writeln!(text, "stop {offset}").unwrap();
-            observer.stopped();
-            break;
+    let mut ending = None;
+    while offset < script.len() && ending.is_none() {
+        let (record, size) = match record_of(&script[offset..], machine.is_some()) {
+            Ok(found) => found,
+            Err(stop) => {
+                writeln!(text, "stop {offset}").unwrap();
+                ending = Some(Ending::Stopped(stop));
+                continue;
+            }
         };
         let answer = match &mut machine {
             Some(machine) => {
@@ -52,12 +55,13 @@ pub fn observed_listing(script: &[u8], observer: &mut dyn Observer) -> String {
             None => create(&record, &mut machine, observer),
         };
         put_line(&mut text, number, &answer, machine.as_ref());
-        if machine.is_none() {
-            break;
-        }
         offset += size;
         number += 1;
+        if machine.is_none() {
+            ending = Some(Ending::Refused(script.len() - offset));
+        }
     }
+    observer.ended(&ending.unwrap_or(Ending::Whole(number)));
     text
 }
 

@@ -1,6 +1,8 @@
 //! The records of a script and their bytes: a one-byte tag, a two-byte length
 //! and a body, all little-endian.
 
+use std::ops::RangeInclusive;
+
 /// Arguments of a write or a read over user memory.
 #[derive(Clone, Debug, PartialEq)]
 pub struct Transfer {
@@ -65,6 +67,29 @@ impl Shape {
     pub fn size(&self) -> usize {
         self.fields.iter().map(|(_, size)| size).sum()
     }
+
+    /// The lengths that a body may have if this is the shape of a tag.
+    fn lengths(&self, tag: u8) -> RangeInclusive<usize> {
+        let size = self.size();
+        if tag == FILL {
+            size + 1..=size + MOST_FILL
+        } else {
+            size..=size
+        }
+    }
+}
+
+/// Why some bytes do not begin with a record. The tests are made in this order.
+#[derive(Clone, Copy, Debug, PartialEq)]
+pub enum Damage {
+    /// The tag is 12 or more.
+    Tag,
+    /// Only so many bytes of tag and length are there.
+    CutHead(usize),
+    /// No record of the tag has this length.
+    Length { tag: u8, length: usize },
+    /// Only so many bytes of the body are there.
+    CutBody(usize),
 }
 
 impl Record {
@@ -137,15 +162,16 @@ impl Record {
         out.extend(bytes);
     }
 
-    /// The first record of some bytes and its size, unless its tag is bad, its
-    /// length is wrong or it is cut.
-    pub fn decode(input: &[u8]) -> Option<(Record, usize)> {
-        let tag = *input.first()?;
-        let shape = SHAPES.get(tag as usize)?;
-        let length = u16::from_le_bytes([*input.get(1)?, *input.get(2)?]) as usize;
-        let extra = length.checked_sub(shape.size())?;
-        let good = if tag == FILL { (1..=MOST_FILL).contains(&extra) } else { extra == 0 };
-        let mut body = input.get(HEAD..HEAD + length).filter(|_| good)?;
+    /// The first record of some bytes and its size, or why there is none.
+    pub fn decode(input: &[u8]) -> Result<(Record, usize), Damage> {
+        let Some((&tag, rest)) = input.split_first() else { return Err(Damage::CutHead(0)) };
+        let shape = SHAPES.get(tag as usize).ok_or(Damage::Tag)?;
+        let (length, rest) = rest.split_first_chunk().ok_or(Damage::CutHead(input.len()))?;
+        let length = u16::from_le_bytes(*length) as usize;
+        if !shape.lengths(tag).contains(&length) {
+            return Err(Damage::Length { tag, length });
+        }
+        let mut body = rest.get(..length).ok_or(Damage::CutBody(rest.len()))?;
         let mut values = Vec::with_capacity(shape.fields.len());
         for (_, size) in shape.fields {
             let (field, rest) = body.split_at(*size);
@@ -154,7 +180,7 @@ impl Record {
             values.push(u64::from_le_bytes(value));
             body = rest;
         }
-        Some((Record::from_values(tag, &values, body), HEAD + length))
+        Ok((Record::from_values(tag, &values, body), HEAD + length))
     }
 }
 
@@ -171,11 +197,11 @@ pub fn pieces(script: &[u8]) -> Vec<Piece> {
     let mut pieces = Vec::new();
     while !rest.is_empty() {
         match Record::decode(rest) {
-            Some((record, size)) => {
+            Ok((record, size)) => {
                 pieces.push(Piece::Record(record));
                 rest = &rest[size..];
             }
-            None => {
+            Err(_) => {
                 pieces.push(Piece::Raw(rest.to_vec()));
                 rest = &[];
             }

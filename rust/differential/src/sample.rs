@@ -8,13 +8,14 @@ use crate::oracle::listing;
 use crate::record::{script_of, Record, FILL, HEAD, MOST_FILL, SHAPES};
 use crate::stream;
 use crate::waits::PLACES;
+use std::collections::HashSet;
 
 /// A random script is stored if it and its listing are at most this long.
 const SHORT: usize = 3000;
 const RANDOM: usize = 300;
 const SEED: u64 = 1;
 
-/// Names and scripts.
+/// Names and scripts. A script that is made twice has its first name only.
 pub fn scripts() -> Vec<(String, Vec<u8>)> {
     let mut scripts: Vec<_> = cases().into_iter().map(|case| (case.name, case.script)).collect();
     scripts.extend(creates());
@@ -24,6 +25,8 @@ pub fn scripts() -> Vec<(String, Vec<u8>)> {
     let random = (0..).map(|number| (number, generate::script(SEED, number)));
     let short = random.filter(|(_, script)| script.len() + listing(script).len() <= SHORT);
     scripts.extend(short.take(RANDOM).map(|(number, script)| (format!("random {number}"), script)));
+    let mut seen = HashSet::new();
+    scripts.retain(|(_, script)| seen.insert(script.clone()));
     scripts
 }
 

@@ -1,6 +1,7 @@
 //! Counts of what a run of scripts covered.
 
-use crate::branches::{Step, View};
+use crate::branches::{created, Step, View};
+use crate::endings::Ending;
 use crate::machine::{Answer, Machine};
 use crate::oracle::{observed_listing, word, Observer};
 use crate::record::{Record, SHAPES};
@@ -14,8 +15,8 @@ pub struct Tally {
     pub records: u64,
     stops: u64,
     /// By tag: how often it was done, and refused with each status.
-    done: [u64; SHAPES.len()],
-    refused: [BTreeMap<i64, u64>; SHAPES.len()],
+    pub(crate) done: [u64; SHAPES.len()],
+    pub(crate) refused: [BTreeMap<i64, u64>; SHAPES.len()],
     kinds: [u64; 2],
     branches: BTreeMap<&'static str, u64>,
     view: View,
@@ -59,6 +60,26 @@ impl Tally {
         self.branches.keys().copied().collect()
     }
 
+    /// How often a branch was reached.
+    pub fn times(&self, name: &str) -> u64 {
+        self.branches.get(name).copied().unwrap_or(0)
+    }
+
+    /// The numbers of scripts and records.
+    pub fn summary(&self) -> String {
+        let [streams, datagrams] = self.kinds.map(with_commas);
+        let [scripts, stops, records] = [self.scripts, self.stops, self.records].map(with_commas);
+        format!(
+            "{scripts} scripts ({streams} stream, {datagrams} datagram, {stops} stopped), {records} records"
+        )
+    }
+
+    fn reached(&mut self, names: impl IntoIterator<Item = &'static str>) {
+        for name in names {
+            *self.branches.entry(name).or_default() += 1;
+        }
+    }
+
     fn count(&mut self, record: &Record, word: i64) {
         self.records += 1;
         let tag = record.values().0 as usize;
@@ -70,37 +91,42 @@ impl Tally {
     }
 }
 
+/// A number with commas between thousands.
+pub(crate) fn with_commas(number: u64) -> String {
+    match number {
+        0..1000 => number.to_string(),
+        _ => format!("{},{:03}", with_commas(number / 1000), number % 1000),
+    }
+}
+
 impl Observer for Tally {
     fn called(&mut self, record: &Record, answer: &Answer, machine: &Machine) {
         self.count(record, word(answer));
         let after = self.view.next(machine, record, answer);
         let step = Step { before: &self.view, after: &after, record, answer };
-        for name in step.names() {
-            *self.branches.entry(name).or_default() += 1;
-        }
+        let names = step.names();
         self.view = after;
+        self.reached(names);
     }
 
     fn created(&mut self, record: &Record, machine: Option<&Machine>) {
         self.count(record, if machine.is_some() { 0 } else { -10 });
+        self.reached(created(record, machine.is_some()));
         if let (Record::Create { kind, .. }, Some(machine)) = (record, machine) {
             self.kinds[*kind as usize] += 1;
             self.view = View::of(machine);
         }
     }
 
-    fn stopped(&mut self) {
-        self.stops += 1;
+    fn ended(&mut self, ending: &Ending) {
+        self.stops += u64::from(matches!(ending, Ending::Stopped(_)));
+        self.reached([ending.name()]);
     }
 }
 
 impl fmt::Display for Tally {
     fn fmt(&self, f: &mut fmt::Formatter<'_>) -> fmt::Result {
-        let Tally { scripts, records, stops, kinds: [streams, datagrams], .. } = self;
-        writeln!(
-            f,
-            "{scripts} scripts ({streams} stream, {datagrams} datagram, {stops} stopped), {records} records"
-        )?;
+        writeln!(f, "{}", self.summary())?;
         writeln!(f, "call: done, refused by status")?;
         for (tag, shape) in SHAPES.iter().enumerate() {
             write!(f, "  {:16}{:>9}", shape.name, self.done[tag])?;

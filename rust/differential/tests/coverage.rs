@@ -2,9 +2,11 @@
 //! a call of the script program, and every branch that has a name.
 
 use differential::branches::BRANCHES;
+use differential::compare::cover;
 use differential::record::SHAPES;
+use differential::sample;
+use differential::source::Source;
 use differential::tally::Tally;
-use differential::{generate, sample};
 use std::collections::BTreeSet;
 
 /// 0 stands for a call that is done.
@@ -23,30 +25,27 @@ const STATUSES: [&[i64]; SHAPES.len()] = [
     &[0, -10],
 ];
 
-fn tally(scripts: impl Iterator<Item = Vec<u8>>) -> Tally {
-    let mut tally = Tally::default();
-    for script in scripts {
-        tally.listing(&script);
-    }
-    tally
-}
-
 fn assert_all(tally: &Tally) {
     for (tag, shape) in SHAPES.iter().enumerate() {
         assert_eq!(tally.statuses(tag), STATUSES[tag], "{}", shape.name);
     }
+    assert!(BRANCHES.is_sorted_by(|one, next| one < next), "the list has its names once, in order");
     let (reached, all) = (tally.branches(), BTreeSet::from(BRANCHES));
     let missing: Vec<_> = all.difference(&reached).collect();
     let unlisted: Vec<_> = reached.difference(&all).collect();
     assert!(missing.is_empty() && unlisted.is_empty(), "missing {missing:?}, not listed {unlisted:?}");
+    let endings = BRANCHES.iter().filter(|name| name.starts_with("script ") || name.starts_with("stop "));
+    let ended: u64 = endings.map(|name| tally.times(name)).sum();
+    assert_eq!(ended, tally.scripts, "every script ends in one way");
 }
 
 #[test]
 fn random_scripts_reach_every_status_and_branch() {
-    assert_all(&tally((0..5000).map(|number| generate::script(11, number))));
+    assert_all(&cover(&Source::Random { seed: 11, count: 50_000 }, 2));
 }
 
 #[test]
 fn stored_scripts_reach_every_status_and_branch() {
-    assert_all(&tally(sample::scripts().into_iter().map(|(_, script)| script)));
+    let scripts = sample::scripts().into_iter().map(|(_, script)| script).collect();
+    assert_all(&cover(&Source::Scripts(scripts), 1));
 }

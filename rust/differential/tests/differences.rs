@@ -1,8 +1,12 @@
 //! The scripts of docs/DIFFERENCES.md are among the cases, and their last lines
-//! are those that stand behind them.
+//! are those that stand behind them. The tables of the recorded run are what is
+//! counted now.
 
 use differential::cases::cases;
+use differential::compare::cover;
 use differential::oracle::listing;
+use differential::source::Source;
+use differential::tables::tables;
 use differential::text;
 
 const DIFFERENCES: &str = include_str!("../../../docs/DIFFERENCES.md");
@@ -41,5 +45,12 @@ fn scripts_are_stored() {
     };
     for (script, _) in scripts() {
         assert!(stored(&script), "not among the cases:\n{}", text::decode(&script));
+    }
+}
+
+#[test]
+fn tables_are_those_of_the_recorded_run() {
+    for table in tables(&cover(&Source::Random { seed: 1, count: 100_000 }, 2)) {
+        assert!(DIFFERENCES.contains(&table), "not in docs/DIFFERENCES.md:\n{table}");
     }
 }

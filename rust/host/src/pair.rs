@@ -178,9 +178,10 @@ pub struct SocketPair<'a> {
 }
 
 impl<'a> SocketPair<'a> {
-    /// A new pair for bytes without borders, with two empty queues of `capacity` bytes; both ends are
-    /// writable. The rights and the rings are those of end 1 and of end 2. A queue is kept in the first
-    /// `capacity` entries of its end's ring; entries that hold no queued byte keep their values.
+    /// A new pair for streams of bytes: a read can take the bytes of several writes together, or a part
+    /// of one write's bytes. It has two empty queues of `capacity` bytes; both ends are writable. The
+    /// rights and the rings are those of end 1 and of end 2. A queue is kept in the first `capacity`
+    /// entries of its end's ring; entries that hold no queued byte keep their values.
     ///
     /// [`Status::InvalidArgs`] if the capacity is 0 or above [`MOST_CAPACITY`](crate::MOST_CAPACITY), or
     /// if a ring has fewer entries than that. Other kinds and other bits of a rights word cannot be given

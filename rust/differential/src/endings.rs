@@ -1,0 +1,82 @@
+//! How scripts end, and the names of the ways, so that a run can say which it
+//! covered.
+
+use crate::record::{Damage, Record, FILL};
+
+/// How a script ends.
+pub enum Ending {
+    /// Behind its last record; it has so many.
+    Whole(u64),
+    /// At a create that was refused; so many bytes are behind it.
+    Refused(usize),
+    Stopped(Stop),
+}
+
+/// Why a script stops.
+pub enum Stop {
+    /// There is no whole record.
+    Damaged(Damage),
+    /// A create behind the first record.
+    SecondCreate,
+    /// Another first record than a create.
+    NoCreate,
+}
+
+/// The first record of some bytes and its size, or why a script stops there.
+pub fn record_of(bytes: &[u8], created: bool) -> Result<(Record, usize), Stop> {
+    let (record, size) = Record::decode(bytes).map_err(Stop::Damaged)?;
+    match (matches!(record, Record::Create { .. }), created) {
+        (true, true) => Err(Stop::SecondCreate),
+        (false, false) => Err(Stop::NoCreate),
+        _ => Ok((record, size)),
+    }
+}
+
+impl Ending {
+    pub fn name(&self) -> &'static str {
+        match self {
+            Ending::Whole(0) => "script ends without a record",
+            Ending::Whole(_) => "script ends behind its last record",
+            Ending::Refused(0) => "script ends at a refused create, its last record",
+            Ending::Refused(_) => "script ends at a refused create, bytes behind it",
+            Ending::Stopped(stop) => stop.name(),
+        }
+    }
+}
+
+impl Stop {
+    fn name(&self) -> &'static str {
+        match self {
+            Stop::Damaged(Damage::Tag) => "stop at a tag of 12 or more",
+            Stop::Damaged(Damage::CutHead(0 | 1)) => "stop at a record cut after its tag",
+            Stop::Damaged(Damage::CutHead(_)) => "stop at a record cut inside its length",
+            Stop::Damaged(Damage::CutBody(0)) => "stop at a record cut before its body",
+            Stop::Damaged(Damage::CutBody(_)) => "stop at a record cut inside its body",
+            Stop::Damaged(Damage::Length { tag, length }) => wrong_length(*tag, *length),
+            Stop::SecondCreate => "stop at a second create",
+            Stop::NoCreate => "stop at a first record that is no create",
+        }
+    }
+}
+
+fn wrong_length(tag: u8, length: usize) -> &'static str {
+    /// By tag, up to fill's.
+    const NAMES: [&str; FILL as usize] = [
+        "stop at a create of a wrong length",
+        "stop at a write of a wrong length",
+        "stop at a read of a wrong length",
+        "stop at a disposition of a wrong length",
+        "stop at a shutdown of a wrong length",
+        "stop at a read threshold of a wrong length",
+        "stop at a write threshold of a wrong length",
+        "stop at an info of a wrong length",
+        "stop at a close of a wrong length",
+        "stop at a wait of a wrong length",
+        "stop at a take of a wrong length",
+    ];
+    match NAMES.get(tag as usize) {
+        Some(name) => name,
+        None if length <= 8 => "stop at a fill without bytes",
+        None => "stop at a fill of more than 4096 bytes",
+    }
+}
