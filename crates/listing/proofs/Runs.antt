@@ -25,7 +25,7 @@ use Rattle.script.specs.Listing.{header, run, closing}
 use Rattle.feed.specs.Feed.{isReady, Block, fedOf, FeedDone}
 use Rattle.script.proofs.Runs.{run-stay}
 use Rattle.script.proofs.Tells.{fed-rest, fed-stuck}
-use Rattle.listing.specs.Ran.{ifRoom, linesText, ranText, Ran}
+use Rattle.listing.specs.Ran.{ifRoom, linesText, ranText, ranMachine, RanLent, Ran}
 
 -- what a writer gives back lies in the list
 pub written-fits : {k at r : ℕ} {xs l l′ : List ℕ} → Written k at xs r l l′ → at ≤ length l → r ≤ length l
@@ -170,3 +170,20 @@ ran {s} {memory} {memory′} {out} {out₁} {l} {sub} {l₂} {sub₂} {z} {z′}
           ∙ ap (λ (x : List ℕ). x ++ (take (f .written) sub ++ take c sub₂)) front
           ∙ ap (λ (x : List ℕ). header ++ x) text;
     }
+
+-- what the block leaves of memory, rings and tables
+pub ran-lent :
+    {s memory memory′ out out₁ l sub : List ℕ} {z z′ : Rings} {n : ℕ} {st : State} {f : Fed}
+    → st ≡ startState → Written 22 0 header n out out₁ → length out₁ ≡ length out → FeedDone st 0 s memory memory′ z z′ l sub f
+    → l ≡ midOf n (length out₁ - n) out₁ → RanLent (length out) (machine startState memory z) s memory′ z′
+unfolding ranMachine
+ran-lent {s} {memory} {memory′} {out} {out₁} {l} {sub} {z} {z′} {n} {st} {f} e h same d₀ part =
+    let m : Machine = machine startState memory z in
+    let d : FeedDone startState 0 s memory memory′ z z′ l sub f = rw e at d₀ in
+    let hd : List ℕ = ifRoom 22 (length out) header in
+    let x = put-if h in
+    let begins : n ≤ length out = written-fits h (omega arith) in
+    let k : length l ≡ length out - length hd =
+    ap length part ∙ (omega (arith, length-take (length out₁ - n) (drop n out₁), length-drop n out₁, x .0)) in
+    let a : machine (f .state) memory′ z′ ≡ fedOf 0 (length out - length hd) m s .after = d .block .after ∙ ap (λ (j : ℕ). fedOf 0 j m s .after) k in
+    record { memory = ap (λ (v : Machine). v .memory) a; lent = ap (λ (v : Machine). v .lent) a }

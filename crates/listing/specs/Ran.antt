@@ -8,6 +8,7 @@ use lib.Dec.{leb}
 use Rattle.status.specs.Choice.{pick}
 use Rattle.text.specs.Put.{place}
 use Rattle.line.specs.Line.{LINE}
+use Rattle.plain_call.specs.Rings.{Rings}
 use Rattle.feed.specs.Machine.{Machine}
 use Rattle.script.specs.Listing.{closing, header, run}
 use Rattle.feed.specs.Feed.{Block, fedOf}
@@ -26,6 +27,15 @@ unfoldable pub ranText : (room : ℕ) → Machine → List ℕ → List ℕ
 ranText room m s =
     let h = ifRoom 22 room header in
     h ++ linesText (room - length h) s (fedOf 0 (room - length h) m s)
+
+-- the machine after it
+unfoldable pub ranMachine : (room : ℕ) → Machine → List ℕ → Machine
+ranMachine room m s = fedOf 0 (room - length (ifRoom 22 room header)) m s .after
+
+-- memory, rings and tables are those of the machine after it
+pub record RanLent (room : ℕ) (m : Machine) (s memory′ : List ℕ) (z′ : Rings) : Type 0 where
+  pub memory : memory′ ≡ ranMachine room m s .memory
+  pub lent : z′ ≡ ranMachine room m s .lent
 
 -- the text stands at the front of the buffer, and behind it the buffer is as it was. It is the listing where room for one more line is left
 pub record Ran (m : Machine) (s : List ℕ) (r : ℕ) (out out′ : List ℕ) : Type 0 where

@@ -3,7 +3,7 @@ ghost use Prim.Native.Nat.{_≤_};
 ghost use lib.ListN.{length};
 ghost use Rattle.plain_call.specs.Rings.{rings};
 ghost use Rattle.feed.specs.Machine.{machine, start, startState};
-ghost use Rattle.listing.specs.Ran.{Ran};
+ghost use Rattle.listing.specs.Ran.{Ran, RanLent};
 
 // The header, the lines of the whole script as one block, and its end. Gives how many bytes were written.
 fn run_on(
@@ -16,7 +16,7 @@ fn run_on(
     out: &mut [u8],
 ) -> usize
     requires { ⌜ length (now memory) ≤ 4096 ⌝ }
-    ensures { λ r. ⌜ Ran (machine startState (now (memory .entry)) (rings (now («ring_one» .entry)) (now («table_one» .entry)) (now («ring_two» .entry)) (now («table_two» .entry)))) (now (script .entry)) r (now (out .entry)) (now (out .exit)) ⌝ }
+    ensures { λ r. ⌜ Ran (machine startState (now (memory .entry)) (rings (now («ring_one» .entry)) (now («table_one» .entry)) (now («ring_two» .entry)) (now («table_two» .entry)))) (now (script .entry)) r (now (out .entry)) (now (out .exit)) × RanLent (length (now (out .entry))) (machine startState (now (memory .entry)) (rings (now («ring_one» .entry)) (now («table_one» .entry)) (now («ring_two» .entry)) (now («table_two» .entry)))) (now (script .entry)) (now (memory .exit)) (rings (now («ring_one» .exit)) (now («table_one» .exit)) (now («ring_two» .exit)) (now («table_two» .exit))) ⌝ }
 {
     let n = script::header(out);
     let st = script::start();

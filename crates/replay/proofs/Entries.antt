@@ -12,8 +12,9 @@ use Rattle.feed.specs.Machine.{start}
 use Rattle.script.specs.Listing.{header, run, listing}
 use Rattle.replay.specs.declared.entry.Outcome.{Outcome}
 use Rattle.replay.specs.declared.entry.Outcome.the-variants.{Agrees, DiffersAt, NoRoom}
+use Rattle.replay.specs.declared.entry.Replayed.{Replayed}
 use Rattle.replay.specs.declared.entry.Tally.{Tally}
-use Rattle.replay.specs.Entry.{fieldEnd, entryEnd, bytesOf, FirstDifference, Compares, EntryIn, Agreement, firstName, noTally, missed, countedOf, Tallied, begun, next, AllAgree, FirstMissed}
+use Rattle.replay.specs.Entry.{fieldEnd, entryEnd, bytesOf, FirstDifference, Compares, EntryIn, Agreement, firstName, noTally, missed, countedOf, Tallied, begun, next, AllAgree, FirstMissed, Replays, AgreeTo}
 
 -- what is cut in the second field, or in the third, is a cut entry
 pub cut-second : (s : List ℕ) (at nameEnd : ℕ) → nameEnd ≡ fieldEnd s at → length s < fieldEnd s nameEnd → length s < entryEnd s at
@@ -143,3 +144,7 @@ module _ {room at nameEnd scriptEnd end : ℕ} {s : List ℕ} (t : Tally) (most 
   first-counted Agrees a h = kept t (t .total + 1) (t .agree + 1) (first (omega arith))
   first-counted (DiffersAt i) a h = first-missed (DiffersAt i) a (λ e. let z : _≡_ {A = ℕ} 0 1 = cc in omega arith) (ltb (t .agree) (t .total)) refl
   first-counted NoRoom a h = first-missed NoRoom a (λ e. let z : _≡_ {A = ℕ} 0 1 = cc in omega arith) (ltb (t .agree) (t .total)) refl
+
+-- the bytes in use are all that was run
+pub replays : {s s′ out out′ : List ℕ} {r : Replayed} → s ≡ s′ → AgreeTo s out out′ r → Replays s′ out out′
+replays {s} {s′} {out} {out′} {r} e a = (r, subst (λ (x : List ℕ). AgreeTo x out out′ r) e a)

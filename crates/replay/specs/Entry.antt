@@ -144,3 +144,7 @@ pub record AgreeTo (s out out′ : List ℕ) (r : Replayed) : Type 0 where
   pub all : r .tally .agree ≡ r .tally .total → AllAgree s (r .tally .total) (r .at)
   pub first : r .tally .agree < r .tally .total → FirstMissed (length out) s (r .tally)
   pub cut : r .at < length s → length s < entryEnd s (r .at)
+
+-- the buffer is as the entries left it, with a tally of which that is true
+abbrev pub Replays : (s out out′ : List ℕ) → Type 0
+Replays s out out′ = (r : Replayed) × AgreeTo s out out′ r

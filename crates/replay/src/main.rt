@@ -8,8 +8,8 @@ mod report;
 use crate::entry::Tally;
 ghost use Prim.Native.Nat.{_≤_};
 ghost use mathlib.Core.Path.{_≡_};
-ghost use lib.ListN.{length};
-ghost use Rattle.replay.specs.Entry.{firstName};
+ghost use lib.ListN.{length, take};
+ghost use Rattle.replay.specs.Entry.{firstName, Replays};
 
 const STDIN: i32 = 0;
 
@@ -23,8 +23,10 @@ fn first_name(s: &[u8], t: Tally) -> &[u8]
     &s[from..to]
 }
 
+// Runs the entries in the bytes in use, and writes what was found.
 fn replay(input: &[u8], used: usize, out: &mut [u8])
     requires { ⌜ used ≤ length (now input) ⌝ }
+    ensures { λ _. ⌜ Replays (take used (now (input .entry))) (now (out .entry)) (now (out .exit)) ⌝ }
 {
     let s = &input[0..used];
     let r = entry::replay(s, out);

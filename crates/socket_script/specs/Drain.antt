@@ -76,11 +76,3 @@ pub record Drained (x y : Held) : Type 0 where
   pub used : y .at .offset + y .at .used ≡ x .at .offset + x .at .used
   pub within : y .at .used ≤ x .at .used
   pub count : y .at .state .number ≤ y .at .offset
-
--- ---- the whole script
-
--- what it asks for: memory is such that no line is longer than LINE, the buffer has at most what is read at once, and a line has room
-pub record RunMay (memory buffer out : List ℕ) : Type 0 where
-  pub size : length memory ≤ 4096
-  pub most : length buffer ≤ 131072
-  pub room : LINE ≤ length out

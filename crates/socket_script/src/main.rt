@@ -6,7 +6,8 @@ ghost use lib.ListN.{length, take};
 ghost use Rattle.text.specs.Put.{place};
 ghost use Rattle.plain_call.specs.Rings.{rings};
 ghost use Rattle.script.specs.Listing.{header, closing};
-ghost use Rattle.socket_script.specs.Drain.{isOpen, ReadIn, DrainMay, held, Drained, RunMay};
+ghost use Rattle.socket_script.specs.Drain.{isOpen, ReadIn, DrainMay, held, Drained};
+ghost use Rattle.socket_script.specs.Run.{RunMay, RunDone};
 
 const STDIN: i32 = 0;
 
@@ -115,7 +116,7 @@ fn is_open(ended: bool, offset: u64) -> bool
     offset < 4611686018427256832
 }
 
-// The whole script, from the header to the end of the input. What it leaves in the lent slices goes by what is read, of which nothing can be said.
+// The whole script, from the header to the end of the input.
 fn run(
     memory: &mut [u8],
     ring_one: &mut [u8],
@@ -126,6 +127,7 @@ fn run(
     out: &mut [u8],
 )
     requires { ⌜ RunMay (now memory) (now buffer) (now out) ⌝ }
+    ensures { λ _. ⌜ RunDone (now (memory .entry)) (rings (now («ring_one» .entry)) (now («table_one» .entry)) (now («ring_two» .entry)) (now («table_two» .entry))) (now (buffer .entry)) (now (out .entry)) (now (memory .exit)) (rings (now («ring_one» .exit)) (now («table_one» .exit)) (now («ring_two» .exit)) (now («table_two» .exit))) (now (buffer .exit)) (now (out .exit)) ⌝ }
 {
     let mut p = buffer::first();
     begin(out);

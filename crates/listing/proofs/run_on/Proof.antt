@@ -1,7 +1,7 @@
 -- `run_on` meets its contract: each part of the output that is lent begins within it, and `ran` puts the three texts together.
 use native.Mathlib.Omega.{arith}
 use mathlib.Core.Path.{refl}
-use Rattle.listing.proofs.Runs.{written-fits, ran}
+use Rattle.listing.proofs.Runs.{written-fits, ran, ran-lent}
 use borrow.Author.Needs.{needs}
 use Rattle.listing.proofs.run_on.Statement.{statement}
 use Rattle.listing.proofs.run_on.Tie as tie
@@ -111,16 +111,18 @@ returns c =
     let within = c .before .before .before .before .before .before .before .before .before .before .before .before .before .before .before .before .before .before .feed .ensures .fits in
     let lines = c .before .before .before .before .before .before .before .before .before .before .before .before .before .before .before .before .before .before .feed .kept .1 .1 .1 .1 .1 .1 .1 .1 .0 in
     let rests = written-fits (c .before .before .finish .ensures) (omega arith) in
-    let last = c .before .before .finish .kept .1 .1 .1 .0 in
-    ran (c .before .before .before .before .before .before .before .before .before .before .before .before .before .before .before .before .before .before .before .before .before .before .before .before .before .before .before .before .before .before .before .before .before .before .before .before .before .pre) (c .before .before .before .before .before .before .before .before .before .before .before .before .before .before .before .before .before .before .before .before .before .before .before .before .before .start .ensures) (c .before .before .before .before .before .before .before .before .before .before .before .before .before .before .before .before .before .before .before .before .before .before .before .before .before .before .before .before .header .ensures) kept (c .before .before .before .before .before .before .before .before .before .before .before .before .before .before .before .before .before .before .feed .ensures)
-    (omega (arith, begins, kept, within, lines, rests, last))
-    (c .before .before .finish .ensures)
-    (omega (arith, begins, kept, within, lines, rests, last))
-    last
-    (omega (arith, begins, kept, within, lines, rests, last))
-    (omega (arith, begins, kept, within, lines, rests, last))
-    refl
-    refl
+    let last = c .before .before .finish .kept .1 .1 .1 .0 in (
+      ran (c .before .before .before .before .before .before .before .before .before .before .before .before .before .before .before .before .before .before .before .before .before .before .before .before .before .before .before .before .before .before .before .before .before .before .before .before .before .pre) (c .before .before .before .before .before .before .before .before .before .before .before .before .before .before .before .before .before .before .before .before .before .before .before .before .before .start .ensures) (c .before .before .before .before .before .before .before .before .before .before .before .before .before .before .before .before .before .before .before .before .before .before .before .before .before .before .before .before .header .ensures) kept (c .before .before .before .before .before .before .before .before .before .before .before .before .before .before .before .before .before .before .feed .ensures)
+          (omega (arith, begins, kept, within, lines, rests, last))
+          (c .before .before .finish .ensures)
+          (omega (arith, begins, kept, within, lines, rests, last))
+          last
+          (omega (arith, begins, kept, within, lines, rests, last))
+          (omega (arith, begins, kept, within, lines, rests, last))
+          refl
+          refl,
+      ran-lent (c .before .before .before .before .before .before .before .before .before .before .before .before .before .before .before .before .before .before .before .before .before .before .before .before .before .start .ensures) (c .before .before .before .before .before .before .before .before .before .before .before .before .before .before .before .before .before .before .before .before .before .before .before .before .before .before .before .before .header .ensures) kept (c .before .before .before .before .before .before .before .before .before .before .before .before .before .before .before .before .before .before .feed .ensures) refl,
+    )
 
 pub run-on-spec : {M : Type 1} → statement M
 run-on-spec =

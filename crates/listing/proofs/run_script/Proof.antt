@@ -27,7 +27,7 @@ same-length c = search needs
 
 returns : tie.Need-returns
 unfolding start
-returns c = c .before .before .before .before .before .before .before .run-on .ensures
+returns c = c .before .before .before .before .before .before .before .run-on .ensures .0
 
 pub run-script-spec : {M : Type 1} → statement M
 run-script-spec =

@@ -1,5 +1,10 @@
 -- `replay` meets its contract: the name lies within the entries.
-use Rattle.replay.proofs.Entries.{name-within}
+use Prim.Native.Nat.{ℕ}
+use denote.Ref.{now}
+use lib.ListN.{take}
+use mathlib.Core.Path.{ap}
+use native.Mathlib.Nat.{sub-zero}
+use Rattle.replay.proofs.Entries.{name-within, replays}
 use borrow.Author.Needs.{needs}
 use Rattle.replay.proofs.replay.Statement.{statement}
 use Rattle.replay.proofs.replay.Tie as tie
@@ -35,7 +40,10 @@ same-length : tie.Need-same-length
 same-length c = search needs
 
 returns : tie.Need-returns
-returns c = search needs
+returns c =
+    let k = c .before .before .before .before .before .before .before .before .before .replay in
+    let a = c .before .before .before .before .before .before .before .before .before .before .before .before .before .before .args in
+    replays (ap (λ (n : ℕ). take n (now (a .input))) (sub-zero (a .used))) (k .ensures)
 
 pub replay-spec : {M : Type 1} → statement M
 replay-spec =

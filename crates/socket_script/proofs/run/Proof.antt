@@ -1,5 +1,6 @@
 use Prim.Native.Nat.{ℕ, _+_, _-_, _≤_, _<_}
 use borrow.Author.Needs.{needs}
+use denote.Ref.{now}
 use lib.ListN.{length}
 use mathlib.Core.Logic.{⊎-elim}
 use mathlib.Core.Path.{_≡_, refl, sym, ap, _∙_}
@@ -7,14 +8,17 @@ use native.Mathlib.Omega.{arith}
 use Rattle.feed.specs.Machine.{startState}
 use Rattle.feed.specs.Turn.{LIMIT}
 use Rattle.buffer.specs.declared.Progress.{Progress}
-use Rattle.socket_script.specs.Drain.{RunMay}
+use Rattle.plain_call.specs.Rings.{rings}
+use Rattle.socket_script.specs.Drain.{held}
+use Rattle.socket_script.specs.Run.{RunMay, Blocks, none, more}
 use Rattle.socket_script.proofs.Drains.{open-below}
+use Rattle.socket_script.proofs.Blocks.{begun, stops-shut, stops-ended}
 use Rattle.socket_script.proofs.run.Statement.{statement}
 use Rattle.socket_script.proofs.run.Tie as tie
 
-none : startState .number ≡ 0
+no-record : startState .number ≡ 0
 unfolding startState
-none = refl
+no-record = refl
 
 abbrev Inv-loop : tie.InvT-loop
 Inv-loop memory₀ ring-one₀ table-one₀ ring-two₀ table-two₀ buffer₀ out₀ p₀ memory ring-one table-one ring-two table-two buffer out p =
@@ -29,6 +33,7 @@ Inv-loop memory₀ ring-one₀ table-one₀ ring-two₀ table-two₀ buffer₀ o
     × (length out ≡ length out₀)
     × (p .offset + p .used ≤ LIMIT)
     × (p .state .number ≤ p .offset)
+    × Blocks (held p₀ buffer₀ memory₀ (rings ring-one₀ table-one₀ ring-two₀ table-two₀) out₀) (held p buffer memory (rings ring-one table-one ring-two table-two) out)
 
 abbrev μ-loop : tie.MeasureT-loop
 μ-loop memory₀ ring-one₀ table-one₀ ring-two₀ table-two₀ buffer₀ out₀ p₀ memory ring-one table-one ring-two table-two buffer out p = LIMIT - (p .offset + p .used)
@@ -46,8 +51,8 @@ loop-holds c =
     let q = c .before .before .before .before .before .before .before .before .before .before .before .before .pre in
     let u : f .result .used ≡ 0 = ap (λ (q : Progress). q .used) (f .ensures) in
     let o : f .result .offset ≡ 0 = ap (λ (q : Progress). q .offset) (f .ensures) in
-    let n : f .result .state .number ≡ 0 = ap (λ (q : Progress). q .state .number) (f .ensures) ∙ none in
-    (omega (arith, u), record { size = q .size; most = q .most; room = omega (arith, q .room, g .kept .0) }, refl, refl, refl, refl, refl, refl, refl, omega (arith, u, o), omega (arith, n))
+    let n : f .result .state .number ≡ 0 = ap (λ (q : Progress). q .state .number) (f .ensures) ∙ no-record in
+    (omega (arith, u), record { size = q .size; most = q .most; room = omega (arith, q .room, g .kept .0) }, refl, refl, refl, refl, refl, refl, refl, omega (arith, u, o), omega (arith, n), none)
 
 is-open-requires : tie.Need-is-open-requires Inv-loop μ-loop
 is-open-requires c κs = search needs
@@ -110,6 +115,7 @@ loop-again c =
       z .1 .1 .1 .1 .1 .1 .0 ∙ l .inv .8,
       g,
       d .ensures .count,
+      more (l .inv .11) (sym (c .before .before .before .before .before .before .before .before .before .before .before .before .before .before .before .before .before .before .before .before .before .before .before .before .before .before .before .before .is-open .ensures) ∙ c .before .before .before .before .before .before .before .before .before .before .before .before .before .before .before .before .before .before .before .before .before .before .before .before .before .before .before .if1 .taken) (r .ensures) n (d .ensures),
     )
 
 close-requires : tie.Need-close-requires Inv-loop μ-loop
@@ -142,7 +148,20 @@ same-length-7 : tie.Need-same-length-7 Inv-loop μ-loop
 same-length-7 c = c .before .before .close .kept .1 .1 .0 ∙ c .before .before .before .before .before .before .before .loop .inv .8 ∙ c .before .before .before .before .before .before .before .before .before .before .begin .kept .0
 
 returns : tie.Need-returns Inv-loop μ-loop
-returns c = search needs
+returns c =
+    let l = c .before .before .before .before .before .before .before .loop in
+    let o = c .before .before .before .before .before .before .is-open in
+    record {
+      last = held (l .p) (l .buffer) (l .memory) (rings (l .ring-one) (l .table-one) (l .ring-two) (l .table-two)) (l .out);
+      blocks = begun (now (c .before .before .before .before .before .before .before .before .before .before .before .before .before .before .before .before .before .before .before .before .args .out)) (c .before .before .before .before .before .before .before .before .before .before .before .before .first .ensures) (c .before .before .before .before .before .before .before .before .before .before .begin .ensures) (l .inv .11);
+      stops =
+          ⊎-elim (λ w. stops-shut (sym (o .ensures) ∙ w .0 .left) (w .1))
+          (λ w. stops-ended (sym (o .ensures) ∙ w .0 .taken) (w .2 .ensures) (w .5 .taken) (w .6))
+          (c .before .before .before .before .before .if1 .came);
+      user = refl;
+      lent = refl;
+      text = c .before .before .close .ensures;
+    }
 
 pub run-spec : {M : Type 1} → statement M
 run-spec =

@@ -1,0 +1,26 @@
+-- Blocks read and fed, from the first, and why no other follows. Assumes nothing.
+use Prim.Native.Nat.{ℕ}
+use mathlib.Core.Path.{_≡_, sym, subst}
+use mathlib.Core.Bool.{true, false}
+use mathlib.Core.List.{List}
+use Rattle.text.specs.Put.{place}
+use Rattle.plain_call.specs.Rings.{Rings}
+use Rattle.buffer.specs.declared.Progress.{Progress}
+use Rattle.script.specs.Listing.{header}
+use Rattle.socket_script.specs.Drain.{ReadIn, Held, held}
+use Rattle.socket_script.specs.Run.{firstProgress, goesOn, Blocks, Stops, shut, ended}
+
+-- the header is put out before the first
+pub begun : {p : Progress} {buffer memory out₁ : List ℕ} {z : Rings} {y : Held} (out : List ℕ) → p ≡ firstProgress → out₁ ≡ place 0 header out
+    → Blocks (held p buffer memory z out₁) y → Blocks (held firstProgress buffer memory z (place 0 header out)) y
+begun {p} {buffer} {memory} {out₁} {z} {y} out e f b =
+    subst (λ (q : Progress). Blocks (held q buffer memory z (place 0 header out)) y) e
+    (subst (λ (o : List ℕ). Blocks (held p buffer memory z o) y) f b)
+
+pub stops-shut : {x : Held} {buffer : List ℕ} → goesOn x ≡ false → buffer ≡ x .buffer → Stops x buffer
+stops-shut {x} {buffer} e f = subst (λ (l : List ℕ). Stops x l) (sym f) (shut e)
+
+pub stops-ended : {x : Held} {buffer buffer′ : List ℕ} {got : ℕ} → goesOn x ≡ true → ReadIn (x .at .used) got (x .buffer) buffer′ → got ≡ 0
+    → buffer ≡ buffer′ → Stops x buffer
+stops-ended {x} {buffer} {buffer′} {got} e r z f =
+    subst (λ (l : List ℕ). Stops x l) (sym f) (ended e (subst (λ (n : ℕ). ReadIn (x .at .used) n (x .buffer) buffer′) z r))

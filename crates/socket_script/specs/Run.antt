@@ -1,0 +1,55 @@
+-- What the function says that runs a whole script: from the header to the end of the input. 01 "Script program".
+use Prim.Native.Nat.{ℕ, _+_, _≤_}
+use mathlib.Core.Path.{_≡_}
+use mathlib.Core.Bool.{Bool, true, false}
+use mathlib.Core.List.{List}
+use lib.ListN.{length, take}
+use Rattle.text.specs.Put.{place}
+use Rattle.line.specs.Line.{LINE}
+use Rattle.plain_call.specs.Rings.{Rings}
+use Rattle.buffer.specs.declared.Progress.{Progress}
+use Rattle.feed.specs.Machine.{startState}
+use Rattle.script.specs.Listing.{header, closing}
+use Rattle.socket_script.specs.Drain.{isOpen, ReadIn, Held, held, Drained}
+
+-- what it asks for: memory is such that no line is longer than LINE, the buffer has at most what is read at once, and a line has room
+pub record RunMay (memory buffer out : List ℕ) : Type 0 where
+  pub size : length memory ≤ 4096
+  pub most : length buffer ≤ 131072
+  pub room : LINE ≤ length out
+
+-- nothing has been read
+abbrev pub firstProgress : Progress
+firstProgress = record { state = startState; offset = 0; used = 0; written = 0 }
+
+-- once a read has left the buffer so, with so many bytes more in use
+abbrev pub readMore : (got : ℕ) → (buffer : List ℕ) → Held → Held
+readMore got buffer x =
+    held (record { state = x .at .state; offset = x .at .offset; used = x .at .used + got; written = x .at .written }) buffer (x .memory) (x .lent) (x .out)
+
+-- whether the script at hand may go on
+abbrev pub goesOn : Held → Bool
+goesOn x = isOpen (x .at .state .ended) (x .at .offset)
+
+-- blocks, one after the other: as long as the script may go on, a read puts a byte or more behind those in use, and then all moves are made that the bytes
+-- in use make
+pub data Blocks (x : Held) : Held → Type 0 where
+  none : Blocks x x
+  more :
+      {y z : Held} {buffer : List ℕ} {got : ℕ} → Blocks x y → goesOn y ≡ true → ReadIn (y .at .used) got (y .buffer) buffer → (got ≡ 0 → ⊥)
+      → Drained (readMore got buffer y) z → Blocks x z
+
+-- why no block follows, and what the buffer is then: the script may not go on, or a read gives no byte
+pub data Stops (x : Held) : (buffer : List ℕ) → Type 0 where
+  shut : goesOn x ≡ false → Stops x (x .buffer)
+  ended : {buffer : List ℕ} → goesOn x ≡ true → ReadIn (x .at .used) 0 (x .buffer) buffer → Stops x buffer
+
+-- the header is put out, then blocks are read and fed, then the end of the input is put out. This settles every lent slice by what the reads put into the
+-- buffer, of which nothing can be said
+pub record RunDone (memory : List ℕ) (z : Rings) (buffer out memory′ : List ℕ) (z′ : Rings) (buffer′ out′ : List ℕ) : Type 0 where
+  pub last : Held
+  pub blocks : Blocks (held firstProgress buffer memory z (place 0 header out)) last
+  pub stops : Stops last buffer′
+  pub user : memory′ ≡ last .memory
+  pub lent : z′ ≡ last .lent
+  pub text : out′ ≡ place 0 (closing (last .at .offset) (last .at .state .ended) (take (last .at .used) buffer′)) (last .out)
