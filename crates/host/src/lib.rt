@@ -101,7 +101,7 @@ pub extern "C" fn murgwethan_shutdown(p: &mut Pair, handle: u32, read: bool, wri
     kept_pair::outcome(p, r)
 }
 
-// Sets the number of bytes from which on an end shows that enough is queued to be read; 0 turns it off.
+// Sets the number of bytes from which on an end's word shows that enough bytes are queued for a read; 0 turns it off.
 #[no_mangle]
 pub extern "C" fn murgwethan_set_read_threshold(p: &mut Pair, handle: u32, threshold: u64) -> i64
     ensures { λ w. ⌜ Answered (Steps (now (p .entry)) (readThresholdAnswer (now (p .entry)) handle threshold) (readThresholdSet (isOne handle) threshold (now (p .entry)))) (now (p .exit)) w ⌝ }
@@ -110,7 +110,7 @@ pub extern "C" fn murgwethan_set_read_threshold(p: &mut Pair, handle: u32, thres
     kept_pair::outcome(p, r)
 }
 
-// Sets the number of bytes from which on an end shows that enough has room to be written; 0 turns it off.
+// Sets the number of bytes from which on an end's word shows that there is enough room for a write; 0 turns it off.
 #[no_mangle]
 pub extern "C" fn murgwethan_set_write_threshold(p: &mut Pair, handle: u32, threshold: u64) -> i64
     ensures { λ w. ⌜ Answered (Steps (now (p .entry)) (writeThresholdAnswer (now (p .entry)) handle threshold) (writeThresholdSet (isOne handle) threshold (now (p .entry)))) (now (p .exit)) w ⌝ }
@@ -128,7 +128,7 @@ pub extern "C" fn murgwethan_wait(p: &mut Pair, handle: u32, key: u64, mask: u32
     kept_places::wait(p, a, handle, key, mask, edge)
 }
 
-// Closes the end of a handle and drops its waits; their packets stay.
+// Closes the end of a handle: its queue and its waits vanish, packets stay, and an open peer is told by its word.
 #[no_mangle]
 pub extern "C" fn murgwethan_close(p: &mut Pair, handle: u32) -> i64
     ensures { λ w. ⌜ Answered (Steps (now (p .entry)) (closeAnswer (now (p .entry)) handle) (closed (isOne handle) (now (p .entry)))) (now (p .exit)) w ⌝ }

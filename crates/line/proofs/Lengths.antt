@@ -1,4 +1,4 @@
--- A line is no longer than LINE. Assumes nothing.
+-- A line is no longer than LINE, where at most 4096 bytes are delivered. Assumes nothing.
 use Prim.Native.Nat.{ℕ, _+_, _*_, _≤_}
 use native.Mathlib.Omega.{arith}
 use mathlib.Core.Path.{_≡_}
@@ -7,14 +7,13 @@ use lib.ListN.{length, length-append}
 use lib.IntN.{ℤ, pos, negsuc}
 use Rattle.status.specs.declared.SocketInfo.{SocketInfo}
 use Rattle.status.specs.declared.PortPacket.{PortPacket}
-use Rattle.status.specs.declared.Record.{Record}
 use Rattle.status.specs.declared.Record.the-variants.{Empty, Count, Info, Limits, Packet}
 use Rattle.status.specs.declared.Answer.{Answer}
 use Rattle.status.specs.declared.Answer.the-variants.{Done, Refused}
 use Rattle.status.specs.Answer.{answerWord}
 use Rattle.endpoint.specs.declared.SignalWord.{SignalWord}
 use Rattle.endpoint.specs.declared.SignalWord.the-variants.{Closed, Word}
-use Rattle.text.specs.Digits.{widthOf, decimalOf, hexOf, hexBytesOf}
+use Rattle.text.specs.Digits.{widthOf, decimalOf, hexOf}
 use Rattle.text.specs.Answer.{signedOf, wordOf, stopOf}
 use Rattle.text.proofs.Spelling.{digits-length, width-most, hex-bytes-length}
 use Rattle.line.specs.Line.{LINE, numberText, hexText, signalText, ownText, restText, infoText, packetText, bytesText, recordText, addedText, frontText, signalsText, lineOf}

@@ -48,7 +48,7 @@ tableBy Take r p = takenPair (isDone (r .answer)) p
 unfoldable pub rebuildsTable : PairOutcome → Pair → Bool
 rebuildsTable d p = rebuildsBy (d .change) (d .outcome) p
 
--- the pair once it is rebuilt
+-- the pair once the table is rebuilt
 unfoldable pub withTable : PairOutcome → Pair → Pair
 withTable d p = tableBy (d .change) (d .outcome) p
 

@@ -145,6 +145,6 @@ pub record AgreeTo (s out out′ : List ℕ) (r : Replayed) : Type 0 where
   pub first : r .tally .agree < r .tally .total → FirstMissed (length out) s (r .tally)
   pub cut : r .at < length s → length s < entryEnd s (r .at)
 
--- the buffer is as the entries left it, with a tally of which that is true
+-- the buffer is as the entries that were run and counted left it
 abbrev pub Replays : (s out out′ : List ℕ) → Type 0
 Replays s out out′ = (r : Replayed) × AgreeTo s out out′ r

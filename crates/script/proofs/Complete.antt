@@ -14,6 +14,7 @@ use Rattle.text.specs.Put.{place, Written}
 use Rattle.text.proofs.Place.{place-length, had-room}
 use Rattle.line.proofs.Lengths.{stop-most}
 use Rattle.line.specs.Line.{LINE}
+use Rattle.feed.specs.declared.State.{State}
 use Rattle.feed.specs.declared.Fed.{Fed}
 use Rattle.feed.specs.Machine.{Machine, start, startState, stay, moveOf}
 use Rattle.script.specs.Listing.{closing}
@@ -56,16 +57,11 @@ puts xs out h g =
 
 -- ---- a feeding: all blocks come, then calls of `feed` up to one that takes nothing, then one of `finish`
 
-is-ready : (m : Machine) (offset input : ℕ) → m .state .number ≤ LIMIT → offset ≤ LIMIT → input ≤ LIMIT → length (m .memory) ≤ 4096
-    → isReady (m .state) offset input (length (m .memory)) ≡ true
+pub is-ready : (st : State) (offset input memory : ℕ) → st .number ≤ LIMIT → offset ≤ LIMIT → input ≤ LIMIT → memory ≤ 4096
+    → isReady st offset input memory ≡ true
 unfolding isReady _and_
-is-ready m offset input a b c d =
-    simp (
-      le-leb (m .state .number) 4611686018427387904 a,
-      le-leb offset 4611686018427387904 b,
-      le-leb input 4611686018427387904 c,
-      le-leb (length (m .memory)) 4096 d,
-    )
+is-ready st offset input memory a b c d =
+    simp (le-leb (st .number) 4611686018427387904 a, le-leb offset 4611686018427387904 b, le-leb input 4611686018427387904 c, le-leb memory 4096 d)
 
 come : (offset room : ℕ) (m : Machine) (o s : List ℕ) (bs : List (List ℕ)) → Feeds room offset m (s ++ flatten bs) [] o → Feeds room offset m s bs o
 unfolding flatten
@@ -91,7 +87,7 @@ module _ (room : ℕ) (h : LINE ≤ room) where
       b = fedOf offset (length out) m s
 
       w : b ≡ fedFrom LINE offset (length out) m s
-      w = fed-ready offset (length out) m s (is-ready m offset (length s) (omega arith) (omega arith) (omega arith) size)
+      w = fed-ready offset (length out) m s (is-ready (m .state) offset (length s) (length (m .memory)) (omega arith) (omega arith) (omega arith) size)
 
       k : BlockFits (length out) m b
       k = subst (λ (x : Block). BlockFits (length out) m x) (sym w) (block-fits offset (length out) m s size)

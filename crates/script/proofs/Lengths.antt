@@ -9,10 +9,9 @@ use lib.ListN.{length, take, drop, length-append, length-take, length-drop}
 use lib.Seq.{length-paste}
 use borrow.Author.Tests.{eqb-true, eqb-false, leb-true}
 use Rattle.status.specs.declared.Answer.{Answer}
-use Rattle.status.specs.Choice.{pick}
 use Rattle.status.specs.Answer.{countOf, isDone}
 use Rattle.socket.specs.declared.Pair.{Pair}
-use Rattle.socket.specs.Pair.{isOne, own, peer}
+use Rattle.socket.specs.Pair.{isOne, peer}
 use Rattle.socket.specs.Tests.{lentOf}
 use Rattle.user_memory.specs.Memory.{fits, littleEndian, countPut}
 use Rattle.user_memory.proofs.Landed.{fits-in, count-put, count-none, count-out, count-in}
@@ -24,22 +23,20 @@ use Rattle.record.specs.declared.fields.Transfer.{Transfer}
 use Rattle.record.specs.Record.{READ, recordOf}
 use Rattle.record.specs.Fields.{eight, transferOf}
 use Rattle.record.proofs.Records.{cases}
-use Rattle.text.specs.Answer.{stopOf}
-use Rattle.text.specs.Put.{place}
 use Rattle.text.proofs.Place.{place-none, place-length}
 use Rattle.line.specs.Line.{LINE}
 use Rattle.line.proofs.Lengths.{line-most, stop-most}
-use Rattle.delivered.specs.Delivered.{BASE, deliveredCount, delivered, settled}
+use Rattle.delivered.specs.Delivered.{BASE, delivered, settled}
 use Rattle.plain_call.specs.Rings.{Rings, ownRing, ownTable, peerRing, peerTable}
 use Rattle.call.specs.Transfer.{Called, writeAnswerOf, wroteBy, writeCall, readAnswerOf, gotBy, readCall, filled, fillCall}
 use Rattle.call.specs.Call.{callOf}
 use Rattle.feed.specs.Machine.{Machine, Move, stay, halt, go, moveBy, moveOf, isMisplaced, stepped, calledLine, stepLine}
 use Rattle.feed.specs.Turn.{machineAfter}
-use Rattle.feed.specs.Feed.{Block, noBlock, behind, fedMove, fedBy, fedFrom}
+use Rattle.feed.specs.Feed.{Block, noBlock, fedMove, fedBy, fedFrom}
 
 -- ---- memory keeps its length
 
--- it is as long as a memory that is so long
+-- it has so many bytes
 abbrev Long : ℕ → List ℕ → Type 0
 Long k l = length l ≡ k
 

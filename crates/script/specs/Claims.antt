@@ -36,8 +36,8 @@ pub data Feeds (room : ℕ) : (offset : ℕ) → Machine → (s : List ℕ) → 
 abbrev pub Chain : Type 0
 Chain = (room : ℕ) (bs : List (List ℕ)) (o : List ℕ) → Feeds room 0 start [] bs o → header ++ o ≡ listing (flatten bs)
 
--- from wherever bytes can be fed there is a feeding to the end, where the output has room for a line: so many records as have been run took at least so
--- many bytes, and offset is the number of bytes before those at hand
+-- from every place of a script there is a feeding to the end, where the output has room for a line. Before the place are offset bytes, and so at most as
+-- many records; no script has more than LIMIT bytes, and memory has at most 4096
 abbrev pub Complete : Type 0
 Complete =
     (offset room : ℕ) (m : Machine) (s : List ℕ) (bs : List (List ℕ)) → m .state .number ≤ offset → offset + length (s ++ flatten bs) ≤ LIMIT

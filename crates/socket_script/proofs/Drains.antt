@@ -6,19 +6,19 @@ use mathlib.Core.Bool.{Bool, true, false}
 use mathlib.Core.List.{List}
 use lib.ListN.{length, take, drop, length-take}
 use lib.Seq.{drop-drop}
-use borrow.Author.Tests.{le-leb, ltb-true}
-use Rattle.status.specs.Choice.{pick, _and_}
+use borrow.Author.Tests.{ltb-true}
+use Rattle.status.specs.Choice.{pick}
 use Rattle.line.specs.Line.{LINE}
 use Rattle.plain_call.specs.Rings.{Rings}
-use Rattle.feed.specs.declared.State.{State}
 use Rattle.buffer.specs.declared.Progress.{Progress}
 use Rattle.feed.specs.Machine.{Machine, machine, stay, moveOf}
 use Rattle.feed.specs.Turn.{LIMIT}
-use Rattle.feed.specs.Feed.{isReady, Block, fedFrom, fedOf, allOf}
+use Rattle.feed.specs.Feed.{Block, fedFrom, fedOf, allOf}
 use Rattle.buffer.specs.Buffer.{shifted, frontOf, Advanced}
 use Rattle.feed.proofs.Blocks.{fed-ready}
 use Rattle.script.proofs.Tells.{tells}
 use Rattle.script.proofs.Alls.{all-stay, splits, fed-idle}
+use Rattle.script.proofs.Complete.{is-ready}
 use Rattle.buffer.proofs.Fronts.{front-fed, front-left}
 use Rattle.socket_script.specs.Drain.{isOpen, Held, movesOf, Step, Steps, Drained}
 
@@ -53,12 +53,6 @@ stands p m s h =
       within = omega arith;
       count = h;
     }
-
-is-ready : (st : State) (offset input memory : ℕ) → st .number ≤ LIMIT → offset ≤ LIMIT → input ≤ LIMIT → memory ≤ 4096
-    → isReady st offset input memory ≡ true
-unfolding isReady _and_
-is-ready st offset input memory a b c d =
-    simp (le-leb (st .number) 4611686018427387904 a, le-leb offset 4611686018427387904 b, le-leb input 4611686018427387904 c, le-leb memory 4096 d)
 
 module _ (p₀ : Progress) (m₀ : Machine) (s₀ : List ℕ) (p : Progress) (buffer buffer′ memory memory′ : List ℕ) (z z′ : Rings) (out out′ : List ℕ) (r : Progress)
     (f : Stands p₀ m₀ s₀ p (machine (p .state) memory z) (take (p .used) buffer))

@@ -12,9 +12,11 @@ use Rattle.feed.specs.Machine.{startState}
 use Rattle.script.specs.Listing.{header, closing}
 use Rattle.socket_script.specs.Drain.{isOpen, ReadIn, Held, held, Drained}
 
--- what it asks for: memory is such that no line is longer than LINE, the buffer has at most what is read at once, and a line has room
+-- what it asks for: memory is such that no line is longer than LINE; a record, of at most 4107 bytes, has room in the buffer, which has at most what is
+-- read at once; and a line has room
 pub record RunMay (memory buffer out : List ℕ) : Type 0 where
   pub size : length memory ≤ 4096
+  pub least : 4107 ≤ length buffer
   pub most : length buffer ≤ 131072
   pub room : LINE ≤ length out
 
@@ -31,21 +33,21 @@ readMore got buffer x =
 abbrev pub goesOn : Held → Bool
 goesOn x = isOpen (x .at .state .ended) (x .at .offset)
 
--- blocks, one after the other: as long as the script may go on, a read puts a byte or more behind those in use, and then all moves are made that the bytes
--- in use make
+-- blocks, one after the other, each while the script may go on: a byte or more come behind those in use, as a read may leave them, and then all moves are
+-- made that the bytes in use make
 pub data Blocks (x : Held) : Held → Type 0 where
   none : Blocks x x
   more :
       {y z : Held} {buffer : List ℕ} {got : ℕ} → Blocks x y → goesOn y ≡ true → ReadIn (y .at .used) got (y .buffer) buffer → (got ≡ 0 → ⊥)
       → Drained (readMore got buffer y) z → Blocks x z
 
--- why no block follows, and what the buffer is then: the script may not go on, or a read gives no byte
+-- why no block follows, and what the buffer is then: the script may not go on, or no byte came, as a read may leave the buffer
 pub data Stops (x : Held) : (buffer : List ℕ) → Type 0 where
   shut : goesOn x ≡ false → Stops x (x .buffer)
   ended : {buffer : List ℕ} → goesOn x ≡ true → ReadIn (x .at .used) 0 (x .buffer) buffer → Stops x buffer
 
--- the header is put out, then blocks are read and fed, then the end of the input is put out. This settles every lent slice by what the reads put into the
--- buffer, of which nothing can be said
+-- the header is put out, then blocks come and are fed, then the end of the input is put out. This settles every lent slice by the bytes that came. Which
+-- these are cannot be said, nor that a read was made, or how many: the contract of the operating system's `read` says nothing of it
 pub record RunDone (memory : List ℕ) (z : Rings) (buffer out memory′ : List ℕ) (z′ : Rings) (buffer′ out′ : List ℕ) : Type 0 where
   pub last : Held
   pub blocks : Blocks (held firstProgress buffer memory z (place 0 header out)) last

@@ -13,7 +13,7 @@ const READ_THRESHOLD: u32 = 0x400;
 const WRITE_THRESHOLD: u32 = 0x800;
 
 /// All names, in order.
-pub const BRANCHES: [&str; 135] = [
+pub const BRANCHES: [&str; 136] = [
     "a call fires one wait",
     "a call fires several waits",
     "a handle refused as closed",
@@ -42,6 +42,7 @@ pub const BRANCHES: [&str; 135] = [
     "disposition 2 0",
     "disposition 2 1",
     "disposition 2 2",
+    "disposition refused, both enable",
     "disposition refused, own above 2",
     "disposition refused, own enable",
     "disposition refused, peer above 2",
@@ -460,10 +461,10 @@ impl Step<'_> {
                 names.push("disposition with a closed peer");
             }
         } else if *self.answer == Err(-20) {
-            names.push(if own == 2 {
-                "disposition refused, own enable"
-            } else {
-                "disposition refused, peer enable"
+            names.push(match (own, peer) {
+                (2, 2) => "disposition refused, both enable",
+                (2, _) => "disposition refused, own enable",
+                _ => "disposition refused, peer enable",
             });
         }
     }

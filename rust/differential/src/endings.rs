@@ -48,8 +48,8 @@ impl Stop {
     fn name(&self) -> &'static str {
         match self {
             Stop::Damaged(Damage::Tag) => "stop at a tag of 12 or more",
-            Stop::Damaged(Damage::CutHead(0 | 1)) => "stop at a record cut after its tag",
-            Stop::Damaged(Damage::CutHead(_)) => "stop at a record cut inside its length",
+            Stop::Damaged(Damage::CutHead(2)) => "stop at a record cut inside its length",
+            Stop::Damaged(Damage::CutHead(_)) => "stop at a record cut after its tag",
             Stop::Damaged(Damage::CutBody(0)) => "stop at a record cut before its body",
             Stop::Damaged(Damage::CutBody(_)) => "stop at a record cut inside its body",
             Stop::Damaged(Damage::Length { tag, length }) => wrong_length(*tag, *length),

@@ -1,20 +1,23 @@
 //! A script longer than twice what the script program reads at once.
 
+use crate::machine::BASE;
 use crate::random::Random;
-use crate::record::{join, pieces, Record, Transfer, HEAD, MOST_FILL};
+use crate::record::{join, pieces, script_of, Record, Transfer, HEAD, MOST_FILL};
 use crate::text;
 
 /// What the script program reads at once.
 pub const BUFFER: usize = 131072;
-const MEMORY: u64 = 65536;
-/// The address before the bytes of a fill.
+/// The size of the address before the bytes of a fill.
 const ADDRESS: usize = 8;
 /// What a write moves, and the room for it once the worked example has read.
 const MOVED: u64 = 7;
+/// Their lines are more than the script program writes at once.
+const TAKES: usize = 10000;
 
-/// The worked example of document 01, with fills, writes and reads between its
-/// read and its close. The first buffer ends among the bytes of a fill. The
-/// second begins with that fill and ends behind the tag of a write.
+/// The worked example of document 01, with other records between its read and
+/// its close: fills, writes and reads, then takes. The first buffer ends among
+/// the bytes of a fill. The second begins with that fill and ends behind the tag
+/// of a write. The third begins with that write and has all the takes.
 pub fn script() -> Vec<u8> {
     let worked = text::encode(include_str!("../../../examples/worked.txt")).expect("the text form");
     let mut first = pieces(&worked);
@@ -33,6 +36,7 @@ pub fn script() -> Vec<u8> {
     }
     let number = end - script.len() - before;
     round(&mut script, &mut random, number);
+    script.extend(script_of(&vec![Record::Take; TAKES]));
     script.extend(join(&last));
     script
 }
@@ -41,7 +45,7 @@ pub fn script() -> Vec<u8> {
 fn round(script: &mut Vec<u8>, random: &mut Random, number: usize) {
     let transfer = |handle, address, count| Transfer { handle, options: 0, address, count, count_at: 0 };
     let bytes = random.bytes(number);
-    Record::Fill { address: MEMORY, bytes }.encode(script);
-    Record::Write(transfer(1, MEMORY + number as u64 - MOVED, MOVED)).encode(script);
-    Record::Read(transfer(2, MEMORY, MOVED + 1)).encode(script);
+    Record::Fill { address: BASE, bytes }.encode(script);
+    Record::Write(transfer(1, BASE + number as u64 - MOVED, MOVED)).encode(script);
+    Record::Read(transfer(2, BASE, MOVED + 1)).encode(script);
 }

@@ -26,6 +26,9 @@ fn the_program_is_tested_with_the_long_script() {
     assert_eq!(listing(&script), include_str!("../../../crates/socket_script/stdout"));
 }
 
+/// What the script program writes at once.
+const OUTPUT: usize = 262144;
+
 #[test]
 fn a_buffer_ends_among_the_bytes_of_a_fill_and_one_behind_a_tag() {
     let script = long::script();
@@ -33,4 +36,6 @@ fn a_buffer_ends_among_the_bytes_of_a_fill_and_one_behind_a_tag() {
     assert!(matches!(fill, Record::Fill { .. }) && BUFFER - cut > HEAD + 8);
     let (write, from) = across(&script, cut + BUFFER);
     assert!(matches!(write, Record::Write(_)) && from + 1 == cut + BUFFER);
+    assert!(script.len() > 2 * BUFFER && script.len() - from < BUFFER);
+    assert!(listing(&script).len() - listing(&script[..from]).len() > OUTPUT);
 }

@@ -18,7 +18,7 @@ fn replayed_scripts_are_those_of_the_sample() {
     assert!(sample::stored(&sample::scripts()) == STORED, "stdin is not the sample");
 }
 
-/// A name is all that `replay` prints of a script whose listing differs.
+/// `replay` prints the name of a script whose listing differs.
 #[test]
 fn no_name_and_no_script_is_stored_twice() {
     let parts = stream::parts(STORED).expect("whole parts");

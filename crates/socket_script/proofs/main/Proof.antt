@@ -37,6 +37,7 @@ run-requires c κs =
     let z : ℕ = 0 in
     record {
       size = omega (arith, length-replicate {A = ℕ} 4096 z);
+      least = omega arith;
       most = omega arith;
       room = omega arith;
     }

@@ -52,7 +52,7 @@ loop-holds c =
     let u : f .result .used ≡ 0 = ap (λ (q : Progress). q .used) (f .ensures) in
     let o : f .result .offset ≡ 0 = ap (λ (q : Progress). q .offset) (f .ensures) in
     let n : f .result .state .number ≡ 0 = ap (λ (q : Progress). q .state .number) (f .ensures) ∙ no-record in
-    (omega (arith, u), record { size = q .size; most = q .most; room = omega (arith, q .room, g .kept .0) }, refl, refl, refl, refl, refl, refl, refl, omega (arith, u, o), omega (arith, n), none)
+    (omega (arith, u), record { size = q .size; least = q .least; most = q .most; room = omega (arith, q .room, g .kept .0) }, refl, refl, refl, refl, refl, refl, refl, omega (arith, u, o), omega (arith, n), none)
 
 is-open-requires : tie.Need-is-open-requires Inv-loop μ-loop
 is-open-requires c κs = search needs
