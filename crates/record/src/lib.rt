@@ -4,6 +4,11 @@ ghost use Rattle.record.specs.Record.{isBody, recordOf};
 
 pub mod fields;
 
+mod order;
+
+pub use order::is_last;
+pub use order::is_misplaced;
+
 // A record that is all there, with its tag and the length of its body; one that no further bytes make good; one that may be cut.
 pub enum Decoded {
     Whole(u8, usize),

@@ -1,8 +1,8 @@
 use borrow.Author.Tests.{eq-eqb, ne-eqb}
-use Rattle.feed.specs.Machine.{isMisplaced}
+use Rattle.record.specs.Order.{isMisplaced}
 use Rattle.status.specs.Choice.{pick}
-use Rattle.feed.proofs.turn.is_misplaced.Statement.{statement}
-use Rattle.feed.proofs.turn.is_misplaced.Tie as tie
+use Rattle.record.proofs.order.is_misplaced.Statement.{statement}
+use Rattle.record.proofs.order.is_misplaced.Tie as tie
 
 returns : tie.Need-returns
 unfolding isMisplaced pick

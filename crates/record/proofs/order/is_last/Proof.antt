@@ -2,10 +2,10 @@ use borrow.Author.Needs.{needs}
 use borrow.Author.Tests.{ne-eqb}
 use mathlib.Core.Bool.{not}
 use mathlib.Core.Path.{ap}
-use Rattle.feed.specs.Machine.{isLast}
+use Rattle.record.specs.Order.{isLast}
 use Rattle.status.specs.Choice.{_and_}
-use Rattle.feed.proofs.turn.is_last.Statement.{statement}
-use Rattle.feed.proofs.turn.is_last.Tie as tie
+use Rattle.record.proofs.order.is_last.Statement.{statement}
+use Rattle.record.proofs.order.is_last.Tie as tie
 
 is-done-requires : tie.Need-is-done-requires
 is-done-requires c κs = search needs
