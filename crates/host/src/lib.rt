@@ -58,7 +58,7 @@ pub extern "C" fn murgwethan_write(
 ) -> i64
     ensures { λ w. ⌜ Answered (Wrote (now (p .entry)) handle (now (bytes .entry)) (now (ring .entry)) (now (ring .exit)) (now (table .entry)) (now (table .exit))) (now (p .exit)) w ⌝ }
 {
-    let t = transfer::write_transfer(socket::ends_of(*p), handle, ring, table, bytes);
+    let t = transfer_write::write_transfer(socket::ends_of(*p), handle, ring, table, bytes);
     kept_pair::wrote(p, handle, t)
 }
 
@@ -74,7 +74,7 @@ pub extern "C" fn murgwethan_read(
 ) -> i64
     ensures { λ w. ⌜ Answered (Read (now (p .entry)) handle peek (now (ring .entry)) (now (table .entry)) (now (buffer .entry)) (now (buffer .exit))) (now (p .exit)) w ⌝ }
 {
-    let t = transfer::read_transfer(socket::ends_of(*p), handle, peek, ring, table, buffer);
+    let t = transfer_read::read_transfer(socket::ends_of(*p), handle, peek, ring, table, buffer);
     kept_pair::read(p, handle, t)
 }
 

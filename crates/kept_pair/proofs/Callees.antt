@@ -29,7 +29,8 @@ use Rattle.status.specs.Choice.{pick as choose}
 use Rattle.status.specs.Answer.{answerWord}
 use Rattle.ends.specs.declared.Outcome.{Outcome}
 use Rattle.transfer.specs.declared.Transfer.{Transfer}
-use Rattle.transfer.specs.Transfer.{wroteBy, readBy}
+use Rattle.transfer_write.specs.Transfer.{wroteBy}
+use Rattle.transfer_read.specs.Transfer.{readBy}
 use Rattle.socket.specs.declared.Pair.{Pair}
 use Rattle.socket.proofs.Pair as T
 use Rattle.socket.proofs.Pair.Laws as T′

@@ -10,7 +10,8 @@ use Rattle.places.specs.Table.{onlyWait}
 use Rattle.ends.specs.declared.Outcome.{Outcome}
 use Rattle.socket.specs.declared.Pair.{Pair}
 use Rattle.transfer.specs.declared.Transfer.{Transfer}
-use Rattle.transfer.specs.Transfer.{fedMoved, wroteBy, drainedMoved, readBy}
+use Rattle.transfer_write.specs.Transfer.{fedMoved, wroteBy}
+use Rattle.transfer_read.specs.Transfer.{drainedMoved, readBy}
 use Rattle.ends.specs.declared.Ends.{Ends}
 use Rattle.ends.specs.Ends.{own as end-own, peer}
 use Rattle.ends.specs.Outcome.{noVisits, outcomeOf, unchangedEnds}

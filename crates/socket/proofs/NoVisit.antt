@@ -14,7 +14,8 @@ use Rattle.ends.specs.declared.Outcome.{Outcome}
 use Rattle.ends.specs.Ends.{own, peer}
 use Rattle.ends.specs.Outcome.{noVisits, keepsWord, canFire, anyFires, outcomeOf}
 use Rattle.transfer.specs.declared.Transfer.{Transfer}
-use Rattle.transfer.specs.Transfer.{fedVisits, fedMoved, wroteBy, drainedVisits, drainedMoved, readBy}
+use Rattle.transfer_write.specs.Transfer.{fedVisits, fedMoved, wroteBy}
+use Rattle.transfer_read.specs.Transfer.{drainedVisits, drainedMoved, readBy}
 use Rattle.socket.specs.declared.Pair.{Pair}
 use Rattle.socket.specs.Pair.{isOne, endsOf}
 use Rattle.socket.specs.Deferred.{withEnds, settled}

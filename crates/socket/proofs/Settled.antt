@@ -17,9 +17,9 @@ use Rattle.ends.specs.declared.Moved.{Moved}
 use Rattle.ends.specs.declared.Outcome.{Outcome}
 use Rattle.ends.specs.Tests.{lentOf}
 use Rattle.ends.specs.Outcome.{keptEnds, unchangedEnds}
-use Rattle.transfer.specs.Write.{fedEnds, wroteEnds, EndsWrote}
+use Rattle.transfer_write.specs.Write.{fedEnds, wroteEnds, EndsWrote}
 use Rattle.transfer_answers.specs.Write as W
-use Rattle.transfer.specs.Read.{leaving, drainedEnds, readEnds, EndsRead}
+use Rattle.transfer_read.specs.Read.{leaving, drainedEnds, readEnds, EndsRead}
 use Rattle.transfer_answers.specs.Read as R
 use Rattle.socket.specs.declared.Pair.{Pair}
 use Rattle.socket.specs.declared.Step.{Step}

@@ -11,7 +11,8 @@ use Rattle.ends.specs.declared.Moved.{Moved}
 use Rattle.ends.specs.Ends.{own, peer}
 use Rattle.ends.specs.Outcome.{canFire}
 use Rattle.transfer.specs.declared.Transfer.{Transfer}
-use Rattle.transfer.specs.Transfer.{fedVisits, fedMoved, drainedVisits, drainedMoved}
+use Rattle.transfer_write.specs.Transfer.{fedVisits, fedMoved}
+use Rattle.transfer_read.specs.Transfer.{drainedVisits, drainedMoved}
 use Rattle.socket.specs.declared.Pair.{Pair}
 use Rattle.socket.specs.Pair.{isOne, endsOf}
 use Rattle.socket.specs.Deferred.{withEnds}

@@ -22,7 +22,8 @@ use Rattle.transfer_answers.specs.Read.{readAnswer as endsReadAnswer}
 use Rattle.ends.specs.Tests.{openingTest, handleTest as endsHandleTest}
 use Rattle.transfer_answers.specs.Write.{writeAnswer}
 use Rattle.ends.proofs.Sound.{SoundEnds, sound-passed}
-use Rattle.transfer.proofs.Moved.{write-fits, read-fits}
+use Rattle.transfer_write.proofs.Moved.{write-fits}
+use Rattle.transfer_read.proofs.Moved.{read-fits}
 use Rattle.socket.specs.declared.Pair.{Pair}
 use Rattle.socket.specs.Pair.{isOne, endsOf, own, peer}
 use Rattle.socket.specs.Tests.{Lent, handleTest}

@@ -10,7 +10,7 @@ ghost use mathlib.Core.Path.{_≡_};
 ghost use Prim.Native.Nat.{_-_};
 ghost use lib.ListN.{length, drop};
 ghost use Rattle.status.specs.Answer.{countOf};
-ghost use Rattle.transfer.specs.Write.{wroteEnds};
+ghost use Rattle.transfer_write.specs.Write.{wroteEnds};
 ghost use Rattle.socket.specs.Pair.{isOne, peer};
 ghost use Rattle.socket.specs.Tests.{lentOf};
 ghost use Rattle.socket.specs.Write.{ringWritten, tableWritten};
@@ -42,7 +42,7 @@ fn write_bytes(
     }
     let from = (address - base) as usize;
     let to = from + m as usize;
-    transfer::write_ends(p, handle, ring, table, &memory[from..to])
+    transfer_write::write_ends(p, handle, ring, table, &memory[from..to])
 }
 
 // Writes the bytes of user memory to the peer's queue and lands the count of those taken, but leaves the visit of the waits for later.
@@ -104,7 +104,7 @@ pub fn read_bytes_ends(
     }
     let from = (address - base) as usize;
     let to = from + count as usize;
-    transfer::read_ends(
+    transfer_read::read_ends(
         p,
         handle,
         options == SOCKET_PEEK,

@@ -46,7 +46,7 @@ use denote.Triple.Clauses.{ensured, lasts}
 use Rattle.status.specs.Answer.{answerWord}
 use Rattle.ends.specs.declared.Ends.{Ends}
 use Rattle.transfer.specs.declared.Transfer.{Transfer}
-use Rattle.transfer.specs.Transfer.{readBy, TransferRead}
+use Rattle.transfer_read.specs.Transfer.{readBy, TransferRead}
 use Rattle.socket.specs.declared.Pair.{Pair}
 use Rattle.socket.specs.declared.Step.{Step}
 use Rattle.socket.proofs.Pair as T
@@ -63,10 +63,10 @@ use Rattle.socket.proofs.Visiting.{places-128}
 use Rattle.kept_pair.proofs.Stored.{settled-as, passed-on, read-answer}
 use Rattle.socket.specs.Read.{Read}
 use Rattle.socket.proofs.Settled.{read-whole}
-use Rattle.transfer.proofs.read_transfer as step
-use Rattle.transfer.proofs.read_transfer.Symbol as step-def
-use Rattle.transfer.proofs.read_transfer.Symbol.{name as #step}
-use Rattle.transfer.proofs.read_transfer.Met as step-thm
+use Rattle.transfer_read.proofs.read_transfer as step
+use Rattle.transfer_read.proofs.read_transfer.Symbol as step-def
+use Rattle.transfer_read.proofs.read_transfer.Symbol.{name as #step}
+use Rattle.transfer_read.proofs.read_transfer.Met as step-thm
 use Rattle.socket.proofs.ends_of as ends
 use Rattle.socket.proofs.ends_of.Symbol as ends-def
 use Rattle.socket.proofs.ends_of.Symbol.{name as #ends}

@@ -48,7 +48,7 @@ use Rattle.socket.proofs.Pair.Laws as T′
 use Rattle.ends.proofs.Outcome as K
 use Rattle.ends.proofs.Outcome.Laws as K′
 use Rattle.transfer.specs.declared.Transfer.{Transfer}
-use Rattle.transfer.specs.Transfer.{readBy}
+use Rattle.transfer_read.specs.Transfer.{readBy}
 use Rattle.transfer.proofs.Transfer as X
 use Rattle.transfer.proofs.Transfer.Laws as X′
 use Rattle.kept_pair.proofs.Callees.{transfer-word-contract, to-transfer-word, goes-transfer-word, transfer-word-told, is-read-without-visit-contract, to-is-read-without-visit, goes-is-read-without-visit, is-read-without-visit-told, with-read-contract, to-with-read, goes-with-read, with-read-told, read-outcome-contract, to-read-outcome, goes-read-outcome, read-outcome-told, outcome-contract, to-outcome, goes-outcome}

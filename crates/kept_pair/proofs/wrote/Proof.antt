@@ -48,7 +48,7 @@ use Rattle.socket.proofs.Pair.Laws as T′
 use Rattle.ends.proofs.Outcome as K
 use Rattle.ends.proofs.Outcome.Laws as K′
 use Rattle.transfer.specs.declared.Transfer.{Transfer}
-use Rattle.transfer.specs.Transfer.{wroteBy}
+use Rattle.transfer_write.specs.Transfer.{wroteBy}
 use Rattle.transfer.proofs.Transfer as X
 use Rattle.transfer.proofs.Transfer.Laws as X′
 use Rattle.kept_pair.proofs.Callees.{transfer-word-contract, to-transfer-word, goes-transfer-word, transfer-word-told, is-write-without-visit-contract, to-is-write-without-visit, goes-is-write-without-visit, is-write-without-visit-told, with-write-contract, to-with-write, goes-with-write, with-write-told, write-outcome-contract, to-write-outcome, goes-write-outcome, write-outcome-told, outcome-contract, to-outcome, goes-outcome}
