@@ -50,9 +50,9 @@ use Rattle.socket.specs.Write.{wrote, pairWritten}
 use Rattle.user_answers.specs.Control.{dispositionOf, userDisposeAnswer, userShutdownAnswer}
 use Rattle.user_memory.specs.Memory.{fits, countFits, isNull, littleEndian, countLanded}
 use Rattle.user_answers.specs.Lookup.{lookup}
-use Rattle.user_answers.specs.Read.{userReadAnswer}
+use Rattle.user_read_answer.specs.Read.{userReadAnswer}
 use Rattle.syscall.specs.Read.{bytesLanded}
-use Rattle.user_answers.specs.Write.{writeRanges, userWriteAnswer}
+use Rattle.user_write_answer.specs.Write.{writeRanges, userWriteAnswer}
 use Rattle.runs.specs.Answers.{controlAnswer, answerTo, controlled, pairAfter}
 use Rattle.runs.specs.Step.{written, stateAfter, landed, counted, deliveredIn, after, outcome, outcomes, pairCreated}
 

@@ -21,8 +21,8 @@ use Rattle.socket.specs.Pair.{noPair}
 use Rattle.socket.specs.Tests.{Lent}
 use Rattle.socket.specs.Disposition.{shutdownAnswer}
 use Rattle.socket.specs.Wait.{takeAnswer, closeAnswer}
-use Rattle.user_answers.specs.Write.{userWriteAnswer}
-use Rattle.user_answers.specs.Read.{userReadAnswer}
+use Rattle.user_write_answer.specs.Write.{userWriteAnswer}
+use Rattle.user_read_answer.specs.Read.{userReadAnswer}
 use Rattle.user_answers.specs.Control.{userDisposeAnswer, userShutdownAnswer}
 use Rattle.runs.specs.Calls.{Control, setDisposition, shutdown, plainDisposition, plainShutdown, setReadThreshold, setWriteThreshold, getThresholds, getInfo, wait, takePacket, Call, write, read, plainWrite, plainRead, close, control, Input, Public, public}
 use Rattle.runs.specs.State.{Slices, State, state, seenOf}

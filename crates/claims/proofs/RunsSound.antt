@@ -35,8 +35,8 @@ use Rattle.socket.specs.Tests.{soundPair, soundTest, Lent, lentOf, slicesTest, 
 use Rattle.socket.specs.Disposition.{shutdownAnswer}
 use Rattle.socket.specs.Wait.{takeAnswer, closeAnswer}
 use Rattle.user_answers.specs.Lookup.{lookup}
-use Rattle.user_answers.specs.Write.{writeRanges, userWriteAnswer}
-use Rattle.user_answers.specs.Read.{userReadAnswer}
+use Rattle.user_write_answer.specs.Write.{writeRanges, userWriteAnswer}
+use Rattle.user_read_answer.specs.Read.{userReadAnswer}
 use Rattle.user_answers.specs.Control.{userDisposeAnswer, userShutdownAnswer}
 use Rattle.runs.specs.Calls.{Control, setDisposition, shutdown, plainDisposition, plainShutdown, setReadThreshold, setWriteThreshold, getThresholds, getInfo, wait, takePacket, Call, write, read, plainWrite, plainRead, close, control, Input}
 use Rattle.runs.specs.State.{State, state, ownSlices, Outcome}

@@ -7,7 +7,7 @@
 --   Delivered bytes           Write, Read, Threshold, Disposition (and shutdown); Wait: close
 --   Info record               Info
 --   Script program            Pair: shownBy, the word that a line shows
---   Calls over user memory    the crate syscall, with the answers in user_answers
+--   Calls over user memory    the crate syscall, with the answers in user_answers, user_write_answer and user_read_answer
 -- Deferred: a call that changes words and visits the waits last. Transferred: a write and a read that visit none.
 pub mod Pair
 pub mod Tests

@@ -1,10 +1,10 @@
 use Rattle.status.proofs.Rules.{via-not, via-not-not, via, then-stop, then-go}
 use Rattle.status.proofs.Rules.{unless-on, unless-off, refuse-on, refuse-off}
 use borrow.Author.Tests.{ne-eqb, eq-eqb}
-use Rattle.user_answers.specs.Write.{userWriteAnswer}
+use Rattle.user_write_answer.specs.Write.{userWriteAnswer}
 use borrow.Author.Needs.{needs}
-use Rattle.user_answers.proofs.write_answer.Statement.{statement}
-use Rattle.user_answers.proofs.write_answer.Tie as tie
+use Rattle.user_write_answer.proofs.write_answer.Statement.{statement}
+use Rattle.user_write_answer.proofs.write_answer.Tie as tie
 
 sound-test-requires : tie.Need-sound-test-requires
 sound-test-requires c κs = search needs

@@ -1,8 +1,8 @@
 use Rattle.status.proofs.Rules.{or-on, or-off}
 use borrow.Author.Tests.{ne-eqb, eq-eqb}
 use mathlib.Core.Path.{refl}
-use Rattle.user_answers.proofs.has_read_options.Statement.{statement}
-use Rattle.user_answers.proofs.has_read_options.Tie as tie
+use Rattle.user_read_answer.proofs.has_read_options.Statement.{statement}
+use Rattle.user_read_answer.proofs.has_read_options.Tie as tie
 
 returns : tie.Need-returns
 returns c = or-on _ _ (eq-eqb _ _ (c .if1 .taken))

@@ -1,10 +1,10 @@
 use Rattle.status.proofs.Rules.{via-not, via-not-not, then-stop, then-go}
 use Rattle.status.proofs.Rules.{unless-on, unless-off}
 use mathlib.Core.Path.{refl}
-use Rattle.user_answers.specs.Write.{writeRanges}
+use Rattle.user_write_answer.specs.Write.{writeRanges}
 use borrow.Author.Needs.{needs}
-use Rattle.user_answers.proofs.write_ranges.Statement.{statement}
-use Rattle.user_answers.proofs.write_ranges.Tie as tie
+use Rattle.user_write_answer.proofs.write_ranges.Statement.{statement}
+use Rattle.user_write_answer.proofs.write_ranges.Tie as tie
 
 is-done-requires : tie.Need-is-done-requires
 is-done-requires c κs = search needs

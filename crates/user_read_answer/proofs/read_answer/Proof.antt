@@ -1,10 +1,10 @@
 use Rattle.status.proofs.Rules.{via-not, via-not-not, via, then-stop, then-go}
 use Rattle.status.proofs.Rules.{unless-on, unless-off, refuse-on, refuse-off}
 use Rattle.ends.specs.Tests.{lentOf}
-use Rattle.user_answers.specs.Read.{userReadAnswer}
+use Rattle.user_read_answer.specs.Read.{userReadAnswer}
 use borrow.Author.Needs.{needs}
-use Rattle.user_answers.proofs.read_answer.Statement.{statement}
-use Rattle.user_answers.proofs.read_answer.Tie as tie
+use Rattle.user_read_answer.proofs.read_answer.Statement.{statement}
+use Rattle.user_read_answer.proofs.read_answer.Tie as tie
 
 sound-test-requires : tie.Need-sound-test-requires
 sound-test-requires c κs = search needs
