@@ -30,13 +30,13 @@ use Rattle.endpoint.specs.Queue.{noQueue, soundLengths, soundQueue, shortTable,
 use Rattle.bits.specs.Bits.{lostByReader, gainedByWriter, reached, missed, bitIf, gainedByPeer, lostByWriter}
 use Rattle.sizes.specs.Read.{emptyAnswer, availableIn, readSize}
 use Rattle.sizes.specs.Write.{datagramSize, writeSize}
-use Rattle.answers.specs.Create.{numbersAnswer, createAnswer}
+use Rattle.create_answer.specs.Create.{numbersAnswer, createAnswer}
 use Rattle.answers.specs.Disposition.{disposeAnswer}
 use Rattle.answers.specs.Info.{infoAnswer}
 use Rattle.transfer_answers.specs.Read.{readAnswer}
 use Rattle.transfer.specs.Read.{leaving, drainedQueue, bufferRead}
 use Rattle.ends.specs.Tests.{soundEnds, isOpen, soundTest, handleTest, openingTest}
-use Rattle.answers.specs.Threshold.{readThresholdAnswer, writeThresholdAnswer, thresholdsAnswer}
+use Rattle.threshold_answers.specs.Threshold.{readThresholdAnswer, writeThresholdAnswer, thresholdsAnswer}
 use Rattle.answers.specs.Wait.{waitAnswer}
 use Rattle.transfer_answers.specs.Write.{writeAnswer}
 use Rattle.transfer.specs.Write.{fedQueue, ringFed, tableFed, ringWritten, tableWritten}

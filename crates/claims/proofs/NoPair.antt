@@ -14,7 +14,7 @@ use Rattle.answers.specs.Disposition.{disposeAnswer}
 use Rattle.answers.specs.Info.{infoAnswer}
 use Rattle.transfer_answers.specs.Read.{readAnswer}
 use Rattle.ends.specs.Tests.{soundEnds, soundTest, openingTest}
-use Rattle.answers.specs.Threshold.{readThresholdAnswer, writeThresholdAnswer, thresholdsAnswer}
+use Rattle.threshold_answers.specs.Threshold.{readThresholdAnswer, writeThresholdAnswer, thresholdsAnswer}
 use Rattle.answers.specs.Wait.{waitAnswer}
 use Rattle.transfer_answers.specs.Write.{writeAnswer}
 use Rattle.socket.specs.Pair.{noPair}

@@ -1,11 +1,12 @@
-// The thresholds.
+// The answers of the calls on thresholds: their tests in their order, over both ends of a pair without its table of places. After `Socket` of
+// ipc/socket.rs.
 use ends::Ends;
 use ends::opening_test;
 use status::Answer;
 use status::Record;
 use status::Status;
 ghost use mathlib.Core.Path.{_≡_};
-ghost use Rattle.answers.specs.Threshold.{readThresholdAnswer, writeThresholdAnswer, thresholdsAnswer};
+ghost use Rattle.threshold_answers.specs.Threshold.{readThresholdAnswer, writeThresholdAnswer, thresholdsAnswer};
 
 // The tests of a read threshold.
 pub fn read_threshold_answer(p: Ends, handle: u32, threshold: u64) -> Answer

@@ -1,8 +1,8 @@
 use Rattle.status.proofs.Rules.{chain}
-use Rattle.answers.specs.Create.{createAnswer}
+use Rattle.create_answer.specs.Create.{createAnswer}
 use borrow.Author.Needs.{needs}
-use Rattle.answers.proofs.create.create_answer.Statement.{statement}
-use Rattle.answers.proofs.create.create_answer.Tie as tie
+use Rattle.create_answer.proofs.create_answer.Statement.{statement}
+use Rattle.create_answer.proofs.create_answer.Tie as tie
 
 numbers-answer-requires : tie.Need-numbers-answer-requires
 numbers-answer-requires c κs = search needs

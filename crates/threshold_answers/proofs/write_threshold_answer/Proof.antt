@@ -1,8 +1,8 @@
 use Rattle.status.proofs.Rules.{chain, via-not, via-not-not, then-stop, then-go}
-use Rattle.answers.specs.Threshold.{writeThresholdAnswer}
+use Rattle.threshold_answers.specs.Threshold.{writeThresholdAnswer}
 use borrow.Author.Needs.{needs}
-use Rattle.answers.proofs.threshold.write_threshold_answer.Statement.{statement}
-use Rattle.answers.proofs.threshold.write_threshold_answer.Tie as tie
+use Rattle.threshold_answers.proofs.write_threshold_answer.Statement.{statement}
+use Rattle.threshold_answers.proofs.write_threshold_answer.Tie as tie
 
 opening-test-requires : tie.Need-opening-test-requires
 opening-test-requires c κs = search needs

@@ -1,7 +1,7 @@
 use Rattle.status.proofs.Rules.{chain}
-use Rattle.answers.specs.Create.{numbersAnswer}
-use Rattle.answers.proofs.create.numbers_answer.Statement.{statement}
-use Rattle.answers.proofs.create.numbers_answer.Tie as tie
+use Rattle.create_answer.specs.Create.{numbersAnswer}
+use Rattle.create_answer.proofs.numbers_answer.Statement.{statement}
+use Rattle.create_answer.proofs.numbers_answer.Tie as tie
 
 returns : tie.Need-returns
 unfolding numbersAnswer

@@ -1,10 +1,10 @@
-// The numbers and the slices of create.
+// The answer of create: its numbers, then the lengths of the rings and tables. After `Socket` of ipc/socket.rs.
 use endpoint::short_slices;
 use status::Answer;
 use status::Record;
 use status::Status;
 ghost use mathlib.Core.Path.{_≡_};
-ghost use Rattle.answers.specs.Create.{numbersAnswer, createAnswer};
+ghost use Rattle.create_answer.specs.Create.{numbersAnswer, createAnswer};
 
 // The numbers of create: kind, capacity, rights.
 fn numbers_answer(kind: u32, capacity: u32, rights_one: u32, rights_two: u32) -> Answer

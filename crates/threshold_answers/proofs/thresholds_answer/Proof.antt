@@ -1,12 +1,12 @@
 use Rattle.status.proofs.Rules.{via-not, via-not-not, then-stop, then-go}
-use Rattle.answers.specs.Threshold.{thresholdsAnswer}
+use Rattle.threshold_answers.specs.Threshold.{thresholdsAnswer}
 use mathlib.Core.Path.{ap}
 use Rattle.status.specs.declared.Record.the-variants.{Limits}
 use Rattle.status.specs.declared.Answer.the-variants.{Done}
 use Rattle.endpoint.specs.declared.Endpoint.{Endpoint}
 use borrow.Author.Needs.{needs}
-use Rattle.answers.proofs.threshold.thresholds_answer.Statement.{statement}
-use Rattle.answers.proofs.threshold.thresholds_answer.Tie as tie
+use Rattle.threshold_answers.proofs.thresholds_answer.Statement.{statement}
+use Rattle.threshold_answers.proofs.thresholds_answer.Tie as tie
 
 opening-test-requires : tie.Need-opening-test-requires
 opening-test-requires c κs = search needs
