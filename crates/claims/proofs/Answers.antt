@@ -26,9 +26,9 @@ use Rattle.socket.specs.Write.{writeAnswer}
 use Rattle.socket.specs.Read.{readAnswer}
 use Rattle.socket.specs.Wait.{waitAnswer, takeAnswer}
 use Rattle.user_memory.specs.Memory.{fits}
-use Rattle.user_answers.specs.Write.{writeRanges, userWriteAnswer as endsUserWriteAnswer}
+use Rattle.user_write_answer.specs.Write.{writeRanges, userWriteAnswer as endsUserWriteAnswer}
 use Rattle.syscall.specs.Write.{userWriteAnswer}
-use Rattle.user_answers.specs.Read.{userReadAnswer as endsUserReadAnswer}
+use Rattle.user_read_answer.specs.Read.{userReadAnswer as endsUserReadAnswer}
 use Rattle.syscall.specs.Read.{userReadAnswer}
 use Rattle.claims.proofs.Moves.{Taken}
 

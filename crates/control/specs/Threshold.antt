@@ -9,7 +9,7 @@ use Rattle.ends.specs.declared.Ends.{Ends}
 use Rattle.ends.specs.declared.Moved.{Moved}
 use Rattle.ends.specs.declared.Outcome.{Outcome}
 use Rattle.ends.specs.Ends.{isOne, own, peer}
-use Rattle.answers.specs.Threshold.{readThresholdAnswer, writeThresholdAnswer}
+use Rattle.threshold_answers.specs.Threshold.{readThresholdAnswer, writeThresholdAnswer}
 use Rattle.control.specs.Signal.{bitVisit, changedEnd, firstOnly, movedIf}
 
 -- the bit is set if the threshold is above 0 and the queued bytes reach it, else cleared

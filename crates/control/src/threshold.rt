@@ -63,7 +63,7 @@ fn write_threshold_moved(
 pub fn read_threshold_ends(e: Ends, handle: u32, threshold: u64) -> Outcome
     ensures { λ r. ⌜ r ≡ readThresholdEnds e handle threshold ⌝ }
 {
-    let a = answers::read_threshold_answer(e, handle, threshold);
+    let a = threshold_answers::read_threshold_answer(e, handle, threshold);
     if !status::is_done(a) {
         return ends::unchanged(e, a);
     }
@@ -76,7 +76,7 @@ pub fn read_threshold_ends(e: Ends, handle: u32, threshold: u64) -> Outcome
 pub fn write_threshold_ends(e: Ends, handle: u32, threshold: u64) -> Outcome
     ensures { λ r. ⌜ r ≡ writeThresholdEnds e handle threshold ⌝ }
 {
-    let a = answers::write_threshold_answer(e, handle, threshold);
+    let a = threshold_answers::write_threshold_answer(e, handle, threshold);
     if !status::is_done(a) {
         return ends::unchanged(e, a);
     }

@@ -2,7 +2,7 @@
 --   Ends: an end by the caller's handle
 --   Tests: the record, the slices lent, the handle. openingTest is the answer of shutdown and close.
 --   Outcome: what a call leaves of the two ends, and the changes of their words
--- The answers are in the crates answers, transfer_answers and user_answers.
+-- The answers are in the crates create_answer, threshold_answers, answers, transfer_answers, user_answers, user_write_answer and user_read_answer.
 pub mod Ends
 pub mod Tests
 pub mod Outcome

@@ -4,7 +4,7 @@ use socket::Pair;
 ghost use mathlib.Core.Path.{_≡_};
 ghost use lib.ListN.{length};
 ghost use lib.Dec.{eqb};
-ghost use Rattle.answers.specs.Create.{createAnswer};
+ghost use Rattle.create_answer.specs.Create.{createAnswer};
 ghost use Rattle.socket.specs.Pair.{isOne, newPair, shownBy};
 ghost use Rattle.socket.specs.Tests.{Steps};
 ghost use Rattle.socket.specs.Write.{Wrote};

@@ -15,7 +15,7 @@ ghost use Rattle.control.specs.Disposition.{disposeEnds};
 ghost use Rattle.socket.specs.Info.{infoAnswer};
 ghost use Rattle.socket.specs.Threshold.{thresholdsAnswer};
 ghost use Rattle.socket.specs.Wait.{takeAnswer};
-ghost use Rattle.answers.specs.Create.{createAnswer};
+ghost use Rattle.create_answer.specs.Create.{createAnswer};
 ghost use lib.ListN.{length};
 ghost use Rattle.user_answers.specs.Control.{dispositionOf};
 ghost use Rattle.host_values.specs.Signal.{signalNumber};
@@ -153,7 +153,7 @@ pub fn create_answer(
 ) -> Answer
     ensures { λ a. ⌜ a ≡ createAnswer kind capacity «rights_one» «rights_two» (length (now («ring_one» .entry))) (length (now («table_one» .entry))) (length (now («ring_two» .entry))) (length (now («table_two» .entry))) ⌝ }
 {
-    answers::create_answer(
+    create_answer::create_answer(
         kind,
         capacity,
         rights_one,

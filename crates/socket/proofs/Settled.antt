@@ -26,7 +26,7 @@ use Rattle.socket.specs.declared.Step.{Step}
 use Rattle.socket.specs.Pair.{isOne, own, peer, endsOf}
 use Rattle.socket.specs.Write.{wrote, pairWritten, Wrote}
 use Rattle.socket.specs.Read.{consumed, pairRead, Read}
-use Rattle.answers.specs.Threshold.{readThresholdAnswer, writeThresholdAnswer}
+use Rattle.threshold_answers.specs.Threshold.{readThresholdAnswer, writeThresholdAnswer}
 use Rattle.ends.proofs.Sound.{passed, opening-passed}
 use Rattle.control.specs.Signal.{movedIf}
 use Rattle.control.specs.Shutdown.{shutEnds}

@@ -30,7 +30,7 @@ impl Pair {
     {
         Step {
             pair: self,
-            answer: answers::thresholds_answer(parts::ends_of(self), handle),
+            answer: threshold_answers::thresholds_answer(parts::ends_of(self), handle),
         }
     }
 }

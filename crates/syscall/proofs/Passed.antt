@@ -31,8 +31,8 @@ use Rattle.socket.specs.Read.{readAnswer}
 use Rattle.socket.specs.Disposition.{disposeAnswer, shutdownAnswer}
 use Rattle.user_memory.specs.Memory.{fits, countFits}
 use Rattle.user_answers.specs.Lookup.{lookup}
-use Rattle.user_answers.specs.Write.{writeRanges, userWriteAnswer as endsUserWriteAnswer}
-use Rattle.user_answers.specs.Read.{userReadAnswer as endsUserReadAnswer}
+use Rattle.user_write_answer.specs.Write.{writeRanges, userWriteAnswer as endsUserWriteAnswer}
+use Rattle.user_read_answer.specs.Read.{userReadAnswer as endsUserReadAnswer}
 use Rattle.user_answers.specs.Control.{userDisposeAnswer as endsUserDisposeAnswer, userShutdownAnswer as endsUserShutdownAnswer}
 use Rattle.syscall.specs.Write.{userWriteAnswer, Taking}
 use Rattle.syscall.specs.Read.{userReadAnswer}

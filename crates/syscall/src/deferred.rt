@@ -4,8 +4,8 @@ use ends::Outcome;
 use ends::unchanged;
 use status::Answer;
 use user_answers::Buffer;
-use user_answers::SOCKET_PEEK;
 use user_memory::land_count;
+use user_read_answer::SOCKET_PEEK;
 ghost use mathlib.Core.Path.{_≡_};
 ghost use Prim.Native.Nat.{_-_};
 ghost use lib.ListN.{length, drop};
@@ -67,7 +67,7 @@ pub fn write_ends(
         count,
         count_at,
     };
-    let a = user_answers::write_answer(p, handle, options, b, ring, table);
+    let a = user_write_answer::write_answer(p, handle, options, b, ring, table);
     if !status::is_done(a) {
         return unchanged(p, a);
     }
@@ -98,7 +98,7 @@ pub fn read_bytes_ends(
         count,
         count_at,
     };
-    let a = user_answers::read_answer(p, handle, options, b, ring, table);
+    let a = user_read_answer::read_answer(p, handle, options, b, ring, table);
     if status::count_of(a) == 0 {
         return unchanged(p, a);
     }

@@ -2,7 +2,7 @@ use mathlib.Core.Path.{sym, _∙_}
 use Rattle.status.proofs.Rules.{via-not, via-not-not}
 use Rattle.ends.specs.Ends.{isOne}
 use Rattle.ends.proofs.Sound.{sound-peer}
-use Rattle.answers.proofs.Passed.{threshold-sound}
+use Rattle.threshold_answers.proofs.Passed.{threshold-sound}
 use Rattle.control.proofs.Outcomes.{refused, done}
 use Rattle.control.specs.Threshold.{writeThresholdEnds}
 use Rattle.control.proofs.threshold.write_threshold_ends.Statement.{statement}
