@@ -1,7 +1,7 @@
 -- Where each paragraph of 01 is defined over the pair. The answers over the two ends are in the crates answers (create, disposition, thresholds,
 -- info, wait) and transfer_answers (write, read), with the tests that come first in ends; what a write and a read do to the two ends is in
--- transfer, what the other calls do in control. Below them: sizes, bits and endpoint (one end), port, packets, firing, places and signal (waits,
--- packets and words), ring (copies) and status (answers).
+-- transfer, what the other calls do in control (shutdown, close), control_disposition and control_threshold. Below them: sizes, bits and endpoint
+-- (one end), port, packets, firing, places and signal (waits, packets and words), ring (copies) and status (answers).
 --   Status and answer word    Tests: the record, the handle; Pair: newPair
 --   Signal word and packets   Pair: signalChange; Wait: wait, take
 --   Delivered bytes           Write, Read, Threshold, Disposition (and shutdown); Wait: close
