@@ -106,7 +106,7 @@ pub extern "C" fn murgwethan_shutdown(p: &mut Pair, handle: u32, read: bool, wri
 pub extern "C" fn murgwethan_set_read_threshold(p: &mut Pair, handle: u32, threshold: u64) -> i64
     ensures { λ w. ⌜ Answered (Steps (now (p .entry)) (readThresholdAnswer (now (p .entry)) handle threshold) (readThresholdSet (isOne handle) threshold (now (p .entry)))) (now (p .exit)) w ⌝ }
 {
-    let r = control::read_threshold_ends(socket::ends_of(*p), handle, threshold);
+    let r = control_threshold::read_threshold_ends(socket::ends_of(*p), handle, threshold);
     kept_pair::outcome(p, r)
 }
 
@@ -115,7 +115,7 @@ pub extern "C" fn murgwethan_set_read_threshold(p: &mut Pair, handle: u32, thres
 pub extern "C" fn murgwethan_set_write_threshold(p: &mut Pair, handle: u32, threshold: u64) -> i64
     ensures { λ w. ⌜ Answered (Steps (now (p .entry)) (writeThresholdAnswer (now (p .entry)) handle threshold) (writeThresholdSet (isOne handle) threshold (now (p .entry)))) (now (p .exit)) w ⌝ }
 {
-    let r = control::write_threshold_ends(socket::ends_of(*p), handle, threshold);
+    let r = control_threshold::write_threshold_ends(socket::ends_of(*p), handle, threshold);
     kept_pair::outcome(p, r)
 }
 

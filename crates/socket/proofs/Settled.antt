@@ -30,7 +30,7 @@ use Rattle.threshold_answers.specs.Threshold.{readThresholdAnswer, writeThresho
 use Rattle.ends.proofs.Sound.{passed, opening-passed}
 use Rattle.control.specs.Signal.{movedIf}
 use Rattle.control.specs.Shutdown.{shutEnds}
-use Rattle.control.specs.Threshold.{readThresholdEnds, writeThresholdEnds}
+use Rattle.control_threshold.specs.Threshold.{readThresholdEnds, writeThresholdEnds}
 use Rattle.control.proofs.Outcomes.{refused, done}
 use Rattle.socket.specs.Tests.{Steps}
 use Rattle.socket.specs.Disposition.{shutdownAnswer, shut}

@@ -8,7 +8,7 @@ use Rattle.status.specs.Answer.{isDone, countOf}
 use Rattle.ends.specs.declared.Ends.{Ends}
 use Rattle.ends.specs.declared.Outcome.{Outcome}
 use Rattle.ends.specs.Outcome.{unchangedEnds}
-use Rattle.control.specs.Disposition.{disposeEnds}
+use Rattle.control_disposition.specs.Disposition.{disposeEnds}
 use Rattle.control.specs.Shutdown.{shutEnds}
 use Rattle.endpoint.specs.Queue.{firstLength}
 use Rattle.transfer_write.specs.Write.{wroteEnds}

@@ -157,7 +157,7 @@ pub fn dispose_ends(e: Ends, handle: u32, disposition: u32, peer_disposition: u3
     if !status::is_done(a) {
         return unchanged(e, a);
     }
-    control::dispose_ends(
+    control_disposition::dispose_ends(
         e,
         handle,
         user_answers::disposition_of(disposition),

@@ -51,7 +51,7 @@ use Rattle.ends.proofs.Outcome.Laws as K′
 use Rattle.ends.proofs.Ends as E
 use Rattle.ends.proofs.Ends.Laws as E′
 use Rattle.host.proofs.Callees.{ends-contract, to-ends, goes-ends, ends-told, write-threshold-ends-contract, to-write-threshold-ends, goes-write-threshold-ends, write-threshold-ends-told, outcome-contract, to-outcome, goes-outcome}
-use Rattle.control.specs.Threshold.{writeThresholdEnds}
+use Rattle.control_threshold.specs.Threshold.{writeThresholdEnds}
 use Rattle.socket.specs.Pair.{isOne, own, endsOf}
 use Rattle.socket.specs.Deferred.{settled}
 use Rattle.host.specs.Host.{Answered}
@@ -64,10 +64,10 @@ use Rattle.socket.proofs.ends_of as ends
 use Rattle.socket.proofs.ends_of.Symbol as ends-def
 use Rattle.socket.proofs.ends_of.Symbol.{name as #ends}
 use Rattle.socket.proofs.ends_of.Met as ends-thm
-use Rattle.control.proofs.write_threshold_ends as write-threshold-ends
-use Rattle.control.proofs.write_threshold_ends.Symbol as write-threshold-ends-def
-use Rattle.control.proofs.write_threshold_ends.Symbol.{name as #write-threshold-ends}
-use Rattle.control.proofs.write_threshold_ends.Met as write-threshold-ends-thm
+use Rattle.control_threshold.proofs.write_threshold_ends as write-threshold-ends
+use Rattle.control_threshold.proofs.write_threshold_ends.Symbol as write-threshold-ends-def
+use Rattle.control_threshold.proofs.write_threshold_ends.Symbol.{name as #write-threshold-ends}
+use Rattle.control_threshold.proofs.write_threshold_ends.Met as write-threshold-ends-thm
 use Rattle.kept_pair.proofs.outcome as outcome
 use Rattle.kept_pair.proofs.outcome.Symbol as outcome-def
 use Rattle.kept_pair.proofs.outcome.Symbol.{name as #outcome}
