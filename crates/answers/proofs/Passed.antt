@@ -8,7 +8,7 @@ use Rattle.status.specs.declared.Answer.{Answer}
 use Rattle.status.specs.Answer.{isDone}
 use Rattle.status.proofs.Chains.{then-both, refuse-passed}
 use Rattle.ends.specs.declared.Ends.{Ends}
-use Rattle.ends.proofs.Sound.{opening-passed}
+use Rattle.ends_tests.proofs.Sound.{opening-passed}
 use Rattle.answers.specs.Wait.{waitAnswer}
 
 -- a wait that may be registered: a place is unused

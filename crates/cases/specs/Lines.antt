@@ -35,7 +35,7 @@ use Rattle.answers.specs.Disposition.{disposeAnswer}
 use Rattle.answers.specs.Info.{infoAnswer}
 use Rattle.transfer_answers.specs.Read.{readAnswer}
 use Rattle.transfer_read.specs.Read.{leaving, drainedQueue, bufferRead}
-use Rattle.ends.specs.Tests.{soundEnds, isOpen, soundTest, handleTest, openingTest}
+use Rattle.ends_tests.specs.Tests.{soundEnds, isOpen, soundTest, handleTest, openingTest}
 use Rattle.threshold_answers.specs.Threshold.{readThresholdAnswer, writeThresholdAnswer, thresholdsAnswer}
 use Rattle.answers.specs.Wait.{waitAnswer}
 use Rattle.transfer_answers.specs.Write.{writeAnswer}

@@ -13,7 +13,7 @@ use Rattle.status.specs.Answer.{refuseUnless, _then_}
 use Rattle.answers.specs.Disposition.{disposeAnswer}
 use Rattle.answers.specs.Info.{infoAnswer}
 use Rattle.transfer_answers.specs.Read.{readAnswer}
-use Rattle.ends.specs.Tests.{soundEnds, soundTest, openingTest}
+use Rattle.ends_tests.specs.Tests.{soundEnds, soundTest, openingTest}
 use Rattle.threshold_answers.specs.Threshold.{readThresholdAnswer, writeThresholdAnswer, thresholdsAnswer}
 use Rattle.answers.specs.Wait.{waitAnswer}
 use Rattle.transfer_answers.specs.Write.{writeAnswer}

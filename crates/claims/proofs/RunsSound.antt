@@ -25,7 +25,7 @@ use Rattle.endpoint.specs.Disposition.{disposeChecks}
 use Rattle.answers.specs.Disposition.{disposeAnswer}
 use Rattle.answers.specs.Info.{infoAnswer}
 use Rattle.transfer_answers.specs.Read.{readAnswer}
-use Rattle.ends.specs.Tests.{soundEnds, isOpen, soundTest as endsSoundTest, handleTest as endsHandleTest, openingTest as endsOpeningTest}
+use Rattle.ends_tests.specs.Tests.{soundEnds, isOpen, soundTest as endsSoundTest, handleTest as endsHandleTest, openingTest as endsOpeningTest}
 use Rattle.threshold_answers.specs.Threshold.{readThresholdAnswer, writeThresholdAnswer, thresholdsAnswer}
 use Rattle.answers.specs.Wait.{waitAnswer}
 use Rattle.transfer_answers.specs.Write.{writeAnswer}

@@ -3,7 +3,6 @@ ghost use mathlib.Core.Path.{_≡_};
 ghost use Rattle.record.specs.Record.{isBody, recordOf};
 
 pub mod fields;
-
 mod order;
 
 pub use order::is_last;

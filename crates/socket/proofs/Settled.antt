@@ -15,7 +15,7 @@ use Rattle.endpoint.specs.Queue.{firstLength}
 use Rattle.ends.specs.declared.Ends.{Ends}
 use Rattle.ends.specs.declared.Moved.{Moved}
 use Rattle.ends.specs.declared.Outcome.{Outcome}
-use Rattle.ends.specs.Tests.{lentOf}
+use Rattle.ends_tests.specs.Tests.{lentOf}
 use Rattle.ends.specs.Outcome.{keptEnds, unchangedEnds}
 use Rattle.transfer_write.specs.Write.{fedEnds, wroteEnds, EndsWrote}
 use Rattle.transfer_answers.specs.Write as W
@@ -27,7 +27,7 @@ use Rattle.socket.specs.Pair.{isOne, own, peer, endsOf}
 use Rattle.socket.specs.Write.{wrote, pairWritten, Wrote}
 use Rattle.socket.specs.Read.{consumed, pairRead, Read}
 use Rattle.threshold_answers.specs.Threshold.{readThresholdAnswer, writeThresholdAnswer}
-use Rattle.ends.proofs.Sound.{passed, opening-passed}
+use Rattle.ends_tests.proofs.Sound.{passed, opening-passed}
 use Rattle.control.specs.Signal.{movedIf}
 use Rattle.control.specs.Shutdown.{shutEnds}
 use Rattle.control_threshold.specs.Threshold.{readThresholdEnds, writeThresholdEnds}

@@ -11,7 +11,7 @@ use Rattle.status.specs.Answer.{countOf}
 use Rattle.endpoint.specs.Queue.{firstLength}
 use Rattle.endpoint.specs.Endpoint.{withQueue}
 use Rattle.bits.specs.Bits.{lostByReader, gainedByWriter}
-use Rattle.ends.specs.Tests.{Lent, lentOf}
+use Rattle.ends_tests.specs.Tests.{Lent, lentOf}
 use Rattle.transfer_read.specs.Read.{leaving, drainedQueue}
 use Rattle.transfer_answers.specs.Read as A
 use Rattle.transfer_read.specs.Read as E

@@ -10,7 +10,7 @@ use Rattle.status.specs.Choice.{pick}
 use Rattle.status.specs.Answer.{countOf}
 use Rattle.endpoint.specs.Endpoint.{withQueue}
 use Rattle.bits.specs.Bits.{gainedByPeer, lostByWriter}
-use Rattle.ends.specs.Tests.{Lent, lentOf}
+use Rattle.ends_tests.specs.Tests.{Lent, lentOf}
 use Rattle.transfer_write.specs.Write.{fedQueue}
 use Rattle.transfer_answers.specs.Write as A
 use Rattle.transfer_write.specs.Write as E

@@ -6,7 +6,7 @@ use Rattle.status.specs.declared.Answer.{Answer}
 use Rattle.status.specs.Answer.{isDone}
 use Rattle.status.proofs.Chains.{then-both}
 use Rattle.ends.specs.declared.Ends.{Ends}
-use Rattle.ends.proofs.Sound.{SoundEnds, opening-passed}
+use Rattle.ends_tests.proofs.Sound.{SoundEnds, opening-passed}
 use Rattle.threshold_answers.specs.Threshold.{writeThresholdAnswer}
 
 -- a write threshold that may be set

@@ -8,7 +8,7 @@ use Rattle.status.specs.declared.Answer.the-variants.{Done}
 use Rattle.status.specs.Answer.{refuseIf, _then_}
 use Rattle.ends.specs.declared.Ends.{Ends}
 use Rattle.ends.specs.Ends.{isOne, own, peer}
-use Rattle.ends.specs.Tests.{openingTest}
+use Rattle.ends_tests.specs.Tests.{openingTest}
 
 -- a read threshold above C is refused
 unfoldable pub readThresholdAnswer : Ends → (h n : ℕ) → Answer

@@ -1,7 +1,7 @@
 // The answers of the calls on thresholds: their tests in their order, over both ends of a pair without its table of places. After `Socket` of
 // ipc/socket.rs.
 use ends::Ends;
-use ends::opening_test;
+use ends_tests::opening_test;
 use status::Answer;
 use status::Record;
 use status::Status;

@@ -5,7 +5,7 @@ use Rattle.status.specs.Answer.{_then_}
 use Rattle.sizes.specs.Read.{readSize}
 use Rattle.ends.specs.declared.Ends.{Ends}
 use Rattle.ends.specs.Ends.{isOne, own, peer}
-use Rattle.ends.specs.Tests.{soundTest, Lent, slicesTest, handleTest}
+use Rattle.ends_tests.specs.Tests.{soundTest, Lent, slicesTest, handleTest}
 
 -- the answer; a read is lent the slices of its own end
 unfoldable pub readAnswer : Ends → Lent → (h n : ℕ) → Answer

@@ -5,7 +5,7 @@ use Rattle.status.specs.Answer.{_then_}
 use Rattle.sizes.specs.Write.{writeSize}
 use Rattle.ends.specs.declared.Ends.{Ends}
 use Rattle.ends.specs.Ends.{isOne, own, peer}
-use Rattle.ends.specs.Tests.{soundTest, Lent, slicesTest, handleTest}
+use Rattle.ends_tests.specs.Tests.{soundTest, Lent, slicesTest, handleTest}
 
 -- the answer; a write is lent the slices of the peer
 unfoldable pub writeAnswer : Ends → Lent → (h n : ℕ) → Answer

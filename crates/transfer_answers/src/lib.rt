@@ -6,7 +6,7 @@ use sizes::write_size;
 use status::Answer;
 ghost use mathlib.Core.Path.{_≡_};
 ghost use Rattle.ends.specs.Ends.{isOne, own, peer};
-ghost use Rattle.ends.specs.Tests.{lentOf};
+ghost use Rattle.ends_tests.specs.Tests.{lentOf};
 ghost use Rattle.transfer_answers.specs.Write.{writeAnswer};
 ghost use Rattle.transfer_answers.specs.Read.{readAnswer};
 
@@ -14,17 +14,17 @@ ghost use Rattle.transfer_answers.specs.Read.{readAnswer};
 pub fn write_answer(p: Ends, handle: u32, ring: &[u8], table: &[u32], n: usize) -> Answer
     ensures { λ r. ⌜ r ≡ writeAnswer p (lentOf (p .datagram) (peer (isOne handle) p .queue) (now (ring .entry)) (now (table .entry))) handle n ⌝ }
 {
-    let sound = ends::sound_test(p);
+    let sound = ends_tests::sound_test(p);
     if !status::is_done(sound) {
         return sound;
     }
     let to = p.peer(handle == 1);
     let q = to.queue;
-    let lent = ends::slices_test(p.datagram, p.capacity, handle, q, ring, table);
+    let lent = ends_tests::slices_test(p.datagram, p.capacity, handle, q, ring, table);
     if !status::is_done(lent) {
         return lent;
     }
-    let opened = ends::handle_test(p, handle);
+    let opened = ends_tests::handle_test(p, handle);
     if !status::is_done(opened) {
         return opened;
     }
@@ -35,17 +35,17 @@ pub fn write_answer(p: Ends, handle: u32, ring: &[u8], table: &[u32], n: usize) 
 pub fn read_answer(p: Ends, handle: u32, ring: &[u8], table: &[u32], n: usize) -> Answer
     ensures { λ r. ⌜ r ≡ readAnswer p (lentOf (p .datagram) (own (isOne handle) p .queue) (now (ring .entry)) (now (table .entry))) handle n ⌝ }
 {
-    let sound = ends::sound_test(p);
+    let sound = ends_tests::sound_test(p);
     if !status::is_done(sound) {
         return sound;
     }
     let from = p.own(handle == 1);
     let q = from.queue;
-    let lent = ends::slices_test(p.datagram, p.capacity, handle, q, ring, table);
+    let lent = ends_tests::slices_test(p.datagram, p.capacity, handle, q, ring, table);
     if !status::is_done(lent) {
         return lent;
     }
-    let opened = ends::handle_test(p, handle);
+    let opened = ends_tests::handle_test(p, handle);
     if !status::is_done(opened) {
         return opened;
     }
@@ -58,17 +58,17 @@ pub fn read_answer(p: Ends, handle: u32, ring: &[u8], table: &[u32], n: usize) -
 pub fn plain_write_answer(p: Ends, handle: u32, ring: &[u8], table: &[u32], n: usize) -> Answer
     ensures { λ r. ⌜ r ≡ writeAnswer p (lentOf (p .datagram) (peer (isOne handle) p .queue) (now (ring .entry)) (now (table .entry))) handle n ⌝ }
 {
-    let sound = ends::sound_test(p);
+    let sound = ends_tests::sound_test(p);
     if !status::is_done(sound) {
         return sound;
     }
     let to = p.peer(handle == 1);
     let q = to.queue;
-    let lent = ends::slices_test(p.datagram, p.capacity, handle, q, ring, table);
+    let lent = ends_tests::slices_test(p.datagram, p.capacity, handle, q, ring, table);
     if !status::is_done(lent) {
         return lent;
     }
-    let opened = ends::handle_test(p, handle);
+    let opened = ends_tests::handle_test(p, handle);
     if !status::is_done(opened) {
         return opened;
     }
@@ -80,17 +80,17 @@ pub fn plain_write_answer(p: Ends, handle: u32, ring: &[u8], table: &[u32], n: u
 pub fn plain_read_answer(p: Ends, handle: u32, ring: &[u8], table: &[u32], n: usize) -> Answer
     ensures { λ r. ⌜ r ≡ readAnswer p (lentOf (p .datagram) (own (isOne handle) p .queue) (now (ring .entry)) (now (table .entry))) handle n ⌝ }
 {
-    let sound = ends::sound_test(p);
+    let sound = ends_tests::sound_test(p);
     if !status::is_done(sound) {
         return sound;
     }
     let from = p.own(handle == 1);
     let q = from.queue;
-    let lent = ends::slices_test(p.datagram, p.capacity, handle, q, ring, table);
+    let lent = ends_tests::slices_test(p.datagram, p.capacity, handle, q, ring, table);
     if !status::is_done(lent) {
         return lent;
     }
-    let opened = ends::handle_test(p, handle);
+    let opened = ends_tests::handle_test(p, handle);
     if !status::is_done(opened) {
         return opened;
     }

@@ -21,7 +21,7 @@ use Rattle.ends.specs.declared.Pending.{Pending}
 use Rattle.ends.specs.declared.Outcome.{Outcome}
 use Rattle.ends.specs.declared.Moved.{Moved}
 use Rattle.ends.specs.Ends.{isOne, own, peer}
-use Rattle.ends.specs.Tests.{lentOf}
+use Rattle.ends_tests.specs.Tests.{lentOf}
 use Rattle.ends.specs.Outcome.{noVisit, noVisits, outcomeOf, keptEnds}
 use Rattle.transfer_answers.specs.Read.{readAnswer}
 

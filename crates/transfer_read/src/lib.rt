@@ -25,7 +25,7 @@ ghost use lib.Seq.{paste};
 ghost use Rattle.status.specs.Choice.{pick, _and_, _or_};
 ghost use Rattle.ring.specs.Ring.{front};
 ghost use Rattle.ends.specs.Ends.{isOne, own, peer};
-ghost use Rattle.ends.specs.Tests.{lentOf};
+ghost use Rattle.ends_tests.specs.Tests.{lentOf};
 ghost use Rattle.ends.specs.Outcome.{keptEnds, canFire};
 ghost use Rattle.transfer.specs.Transfer.{keptTransfer};
 ghost use Rattle.transfer_read.specs.Transfer.{drainedTransfer, TransferRead, drainedVisits, drainedMoved, readBy};

@@ -16,10 +16,10 @@ use Rattle.endpoint.specs.declared.Endpoint.{Endpoint}
 use Rattle.sizes.specs.Write.{datagramSize, writeSize}
 use Rattle.ends.specs.declared.Ends.{Ends}
 use Rattle.ends.specs.Ends.{isOne, own, peer}
-use Rattle.ends.specs.Tests.{lentOf}
+use Rattle.ends_tests.specs.Tests.{lentOf}
 use Rattle.transfer_answers.specs.Write.{writeAnswer}
 use Rattle.transfer_write.specs.Write.{Feed}
-use Rattle.ends.proofs.Sound.{sound-peer, passed}
+use Rattle.ends_tests.proofs.Sound.{sound-peer, passed}
 use Rattle.transfer.proofs.Smaller.{min-left, min-right}
 
 datagram-fits : (C space n : ℕ) → isDone (datagramSize C space n) ≡ true → (countOf (datagramSize C space n) ≡ n) × (n ≤ space)

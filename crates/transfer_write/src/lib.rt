@@ -21,7 +21,7 @@ ghost use Prim.Native.Nat.{_+_, _≤_, _<_, _^_};
 ghost use lib.Dec.{eqb};
 ghost use Rattle.status.specs.Choice.{pick, _and_};
 ghost use Rattle.ends.specs.Ends.{isOne, own, peer};
-ghost use Rattle.ends.specs.Tests.{lentOf};
+ghost use Rattle.ends_tests.specs.Tests.{lentOf};
 ghost use Rattle.ends.specs.Outcome.{keptEnds, canFire};
 ghost use Rattle.transfer.specs.Transfer.{keptTransfer};
 ghost use Rattle.transfer_write.specs.Transfer.{fedTransfer, TransferWrote, fedVisits, fedMoved, wroteBy};

@@ -3,8 +3,8 @@
 use endpoint::Disposition;
 use endpoint::dispose_checks;
 use ends::Ends;
-use ends::handle_test;
-use ends::sound_test;
+use ends_tests::handle_test;
+use ends_tests::sound_test;
 use status::Answer;
 use status::Record;
 use status::Status;

@@ -1,7 +1,7 @@
 // The answer of a read or peek over user memory: its tests in their order, over both ends of a pair. After zircon-syscall's socket.rs.
 use ends::Ends;
-use ends::slices_test;
-use ends::sound_test;
+use ends_tests::slices_test;
+use ends_tests::sound_test;
 use sizes::read_size;
 use status::Answer;
 use status::Status;
@@ -12,7 +12,7 @@ ghost use mathlib.Core.Path.{_≡_};
 ghost use lib.Dec.{eqb};
 ghost use Rattle.status.specs.Choice.{_or_};
 ghost use Rattle.ends.specs.Ends.{isOne, own};
-ghost use Rattle.ends.specs.Tests.{lentOf};
+ghost use Rattle.ends_tests.specs.Tests.{lentOf};
 ghost use Rattle.user_read_answer.specs.Read.{isPeek, userReadAnswer};
 
 // The option of a read that is a peek.

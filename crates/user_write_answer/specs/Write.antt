@@ -7,7 +7,7 @@ use Rattle.status.specs.Answer.{refuseIf, refuseUnless, _then_, countOf}
 use Rattle.sizes.specs.Write.{writeSize}
 use Rattle.ends.specs.declared.Ends.{Ends}
 use Rattle.ends.specs.Ends.{isOne, own, peer}
-use Rattle.ends.specs.Tests.{soundTest, Lent, slicesTest}
+use Rattle.ends_tests.specs.Tests.{soundTest, Lent, slicesTest}
 use Rattle.user_memory.specs.Memory.{fits, countFits, isNull}
 use Rattle.user_answers.specs.Lookup.{RIGHT-WRITE, lookup}
 

@@ -1,7 +1,7 @@
 // The answer of a write over user memory: its tests in their order, over both ends of a pair. After zircon-syscall's socket.rs.
 use ends::Ends;
-use ends::slices_test;
-use ends::sound_test;
+use ends_tests::slices_test;
+use ends_tests::sound_test;
 use sizes::write_size;
 use status::Answer;
 use status::Status;
@@ -10,7 +10,7 @@ use user_answers::RIGHT_WRITE;
 use user_answers::lookup;
 ghost use mathlib.Core.Path.{_≡_};
 ghost use Rattle.ends.specs.Ends.{isOne, peer};
-ghost use Rattle.ends.specs.Tests.{lentOf};
+ghost use Rattle.ends_tests.specs.Tests.{lentOf};
 ghost use Rattle.user_write_answer.specs.Write.{writeRanges, userWriteAnswer};
 
 // The range of the bytes that a write of this size takes, then the count's.

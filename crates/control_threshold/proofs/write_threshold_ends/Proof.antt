@@ -1,7 +1,7 @@
 use mathlib.Core.Path.{sym, _∙_}
 use Rattle.status.proofs.Rules.{via-not, via-not-not}
 use Rattle.ends.specs.Ends.{isOne}
-use Rattle.ends.proofs.Sound.{sound-peer}
+use Rattle.ends_tests.proofs.Sound.{sound-peer}
 use Rattle.threshold_answers.proofs.Passed.{threshold-sound}
 use Rattle.control.proofs.Outcomes.{refused, done}
 use Rattle.control_threshold.specs.Threshold.{writeThresholdEnds}

@@ -1,6 +1,6 @@
 use Rattle.status.proofs.Rules.{via-not, via-not-not, then-stop, then-go}
 use Rattle.transfer_answers.specs.Read.{readAnswer}
-use Rattle.ends.specs.Tests.{lentOf}
+use Rattle.ends_tests.specs.Tests.{lentOf}
 use borrow.Author.Needs.{needs}
 use Rattle.transfer_answers.proofs.read_answer.Statement.{statement}
 use Rattle.transfer_answers.proofs.read_answer.Tie as tie

@@ -1,6 +1,6 @@
 use Rattle.status.proofs.Rules.{via-not, via-not-not, via, then-stop, then-go}
 use Rattle.status.proofs.Rules.{unless-on, unless-off, refuse-on, refuse-off}
-use Rattle.ends.specs.Tests.{lentOf}
+use Rattle.ends_tests.specs.Tests.{lentOf}
 use Rattle.user_read_answer.specs.Read.{userReadAnswer}
 use borrow.Author.Needs.{needs}
 use Rattle.user_read_answer.proofs.read_answer.Statement.{statement}

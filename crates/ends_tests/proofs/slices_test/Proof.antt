@@ -1,8 +1,8 @@
 use Rattle.status.proofs.Rules.{chain, pick-on, refuse-off, refuse-last, pass-last}
-use Rattle.ends.specs.Tests.{slicesTest, lentOf}
+use Rattle.ends_tests.specs.Tests.{slicesTest, lentOf}
 use borrow.Author.Needs.{needs}
-use Rattle.ends.proofs.tests.slices_test.Statement.{statement}
-use Rattle.ends.proofs.tests.slices_test.Tie as tie
+use Rattle.ends_tests.proofs.slices_test.Statement.{statement}
+use Rattle.ends_tests.proofs.slices_test.Tie as tie
 
 is-handle-requires : tie.Need-is-handle-requires
 is-handle-requires c κs = search needs

@@ -1,7 +1,7 @@
 use Rattle.status.proofs.Rules.{chain}
 use Rattle.ends.specs.Ends.{isHandle}
-use Rattle.ends.proofs.tests.is_handle.Statement.{statement}
-use Rattle.ends.proofs.tests.is_handle.Tie as tie
+use Rattle.ends_tests.proofs.is_handle.Statement.{statement}
+use Rattle.ends_tests.proofs.is_handle.Tie as tie
 
 returns : tie.Need-returns
 unfolding isHandle

@@ -1,8 +1,8 @@
 use Rattle.status.proofs.Rules.{chain}
-use Rattle.ends.specs.Tests.{soundTest}
+use Rattle.ends_tests.specs.Tests.{soundTest}
 use borrow.Author.Needs.{needs}
-use Rattle.ends.proofs.tests.sound_test.Statement.{statement}
-use Rattle.ends.proofs.tests.sound_test.Tie as tie
+use Rattle.ends_tests.proofs.sound_test.Statement.{statement}
+use Rattle.ends_tests.proofs.sound_test.Tie as tie
 
 is-sound-requires : tie.Need-is-sound-requires
 is-sound-requires c κs = search needs

@@ -1,9 +1,9 @@
 use mathlib.Core.Path.{refl}
 use Rattle.status.proofs.Rules.{chain, and-on}
-use Rattle.ends.specs.Tests.{isOpen}
+use Rattle.ends_tests.specs.Tests.{isOpen}
 use borrow.Author.Needs.{needs}
-use Rattle.ends.proofs.tests.is_open.Statement.{statement}
-use Rattle.ends.proofs.tests.is_open.Tie as tie
+use Rattle.ends_tests.proofs.is_open.Statement.{statement}
+use Rattle.ends_tests.proofs.is_open.Tie as tie
 
 is-handle-requires : tie.Need-is-handle-requires
 is-handle-requires c κs = search needs

@@ -1,8 +1,8 @@
 use Rattle.status.proofs.Rules.{via-not, via-not-not, then-stop, then-go}
-use Rattle.ends.specs.Tests.{openingTest}
+use Rattle.ends_tests.specs.Tests.{openingTest}
 use borrow.Author.Needs.{needs}
-use Rattle.ends.proofs.tests.opening_test.Statement.{statement}
-use Rattle.ends.proofs.tests.opening_test.Tie as tie
+use Rattle.ends_tests.proofs.opening_test.Statement.{statement}
+use Rattle.ends_tests.proofs.opening_test.Tie as tie
 
 sound-test-requires : tie.Need-sound-test-requires
 sound-test-requires c κs = search needs

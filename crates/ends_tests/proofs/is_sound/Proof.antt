@@ -1,8 +1,8 @@
 use Rattle.status.proofs.Rules.{chain}
-use Rattle.ends.specs.Tests.{soundEnds}
+use Rattle.ends_tests.specs.Tests.{soundEnds}
 use borrow.Author.Needs.{needs}
-use Rattle.ends.proofs.tests.is_sound.Statement.{statement}
-use Rattle.ends.proofs.tests.is_sound.Tie as tie
+use Rattle.ends_tests.proofs.is_sound.Statement.{statement}
+use Rattle.ends_tests.proofs.is_sound.Tie as tie
 
 returns : tie.Need-returns
 unfolding soundEnds

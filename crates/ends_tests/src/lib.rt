@@ -1,13 +1,14 @@
-// The tests that come before a call's own: the record, the slices lent, the handle. Each answers done, with no record, where it passes.
-use crate::Ends;
+// The tests that come before a call's own, over both ends of a pair: the record, the slices lent, the handle. Each answers done, with no record,
+// where it passes. After `Socket` of ipc/socket.rs.
 use endpoint::Queue;
+use ends::Ends;
 use status::Answer;
 use status::Record;
 use status::Status;
 ghost use mathlib.Core.Path.{_≡_};
 ghost use mathlib.Core.List.{[]};
 ghost use Rattle.ends.specs.Ends.{isHandle};
-ghost use Rattle.ends.specs.Tests.{soundEnds, soundTest, lentOf, slicesTest, tableTest, isOpen, handleTest, openingTest};
+ghost use Rattle.ends_tests.specs.Tests.{soundEnds, soundTest, lentOf, slicesTest, tableTest, isOpen, handleTest, openingTest};
 
 // Whether the record is not INTERNAL.
 fn is_sound(p: Ends) -> bool

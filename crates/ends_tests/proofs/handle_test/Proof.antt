@@ -1,8 +1,8 @@
 use Rattle.status.proofs.Rules.{chain}
-use Rattle.ends.specs.Tests.{handleTest}
+use Rattle.ends_tests.specs.Tests.{handleTest}
 use borrow.Author.Needs.{needs}
-use Rattle.ends.proofs.tests.handle_test.Statement.{statement}
-use Rattle.ends.proofs.tests.handle_test.Tie as tie
+use Rattle.ends_tests.proofs.handle_test.Statement.{statement}
+use Rattle.ends_tests.proofs.handle_test.Tie as tie
 
 is-open-requires : tie.Need-is-open-requires
 is-open-requires c κs = search needs

@@ -11,9 +11,9 @@ use Rattle.status.specs.Answer.{isDone, _then_}
 use Rattle.status.proofs.Chains.{both, both-off, neither, then-both, then-is, refuse-passed, unless-passed}
 use Rattle.endpoint.specs.declared.Queue.{Queue}
 use Rattle.endpoint.specs.Queue.{soundQueue, soundLengths, shortSlices, shortTable, badFirst}
 use Rattle.ends.specs.declared.Ends.{Ends}
 use Rattle.ends.specs.Ends.{isHandle, own, peer}
-use Rattle.ends.specs.Tests.{soundEnds, soundTest, Lent, slicesTest, isOpen, handleTest, openingTest}
+use Rattle.ends_tests.specs.Tests.{soundEnds, soundTest, Lent, slicesTest, isOpen, handleTest, openingTest}
 
 -- ---- a sound queue
 
