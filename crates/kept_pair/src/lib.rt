@@ -11,7 +11,7 @@ ghost use Rattle.status.specs.Answer.{answerWord};
 ghost use Rattle.transfer_write.specs.Transfer.{wroteBy};
 ghost use Rattle.transfer_read.specs.Transfer.{readBy};
 ghost use Rattle.socket.specs.Pair.{isOne, endsOf};
-ghost use Rattle.socket.specs.Transferred.{writeWithoutVisit, readWithoutVisit};
+ghost use Rattle.transferred.specs.Transferred.{writeWithoutVisit, readWithoutVisit};
 ghost use Rattle.socket.specs.Deferred.{visitedAll, settled, closedWaits, settledClose};
 
 // The word of an outcome's answer.
@@ -94,7 +94,7 @@ pub fn wrote(p: &mut Pair, handle: u32, t: Transfer) -> i64
 {
     let w = transfer_word(t);
     if is_write_without_visit(*p, handle, t) {
-        *p = socket::with_write(*p, handle, t);
+        *p = transferred::with_write(*p, handle, t);
     } else {
         let r = write_outcome(*p, handle, t);
         outcome(p, r);
@@ -108,7 +108,7 @@ pub fn read(p: &mut Pair, handle: u32, t: Transfer) -> i64
 {
     let w = transfer_word(t);
     if is_read_without_visit(*p, handle, t) {
-        *p = socket::with_read(*p, handle, t);
+        *p = transferred::with_read(*p, handle, t);
     } else {
         let r = read_outcome(*p, handle, t);
         outcome(p, r);

@@ -1,4 +1,4 @@
-// A record of a script: what the bytes at hand begin with, and the fields of its body.
+// A record of a script: what the bytes at hand begin with, the fields of its body, where a create may stand, and which record ends a script.
 ghost use mathlib.Core.Path.{_≡_};
 ghost use Rattle.record.specs.Record.{isBody, recordOf};
 

@@ -9,7 +9,7 @@
 --   Info record               Info
 --   Script program            Pair: shownBy, the word that a line shows
 --   Calls over user memory    the crate syscall, with the answers in user_answers, user_write_answer and user_read_answer
--- Deferred: a call that changes words and visits the waits last. Transferred: a write and a read that visit none.
+-- Deferred: a call that changes words and visits the waits last.
 pub mod Pair
 pub mod Tests
 pub mod Write
@@ -19,4 +19,3 @@ pub mod Disposition
 pub mod Info
 pub mod Wait
 pub mod Deferred
-pub mod Transferred

@@ -1,5 +1,5 @@
 -- The tests that come before a call's own, over a pair, and what a call that changes no slice does. 01 "Status and answer word". The crate
--- ends has the tests' definitions.
+-- ends_tests has the tests' definitions.
 use Prim.Native.Nat.{ℕ}
 use mathlib.Core.Path.{_≡_}
 use mathlib.Core.Bool.{Bool}

@@ -1,2 +1,2 @@
--- 01 "Delivered bytes": of what a write and a read change, the case that nothing changes. What they do else is in the crates transfer_write and transfer_read.
+-- 01 "Delivered bytes": of what a write and a read change, the case that nothing changes. What else they do is in the crates transfer_write and transfer_read.
 pub mod Transfer

@@ -1,17 +1,17 @@
 // A write and a read that can fire no wait: what they change, put into the pair.
-use crate::Pair;
 use endpoint::Endpoint;
 use endpoint::Queue;
 use ends::queue_if;
 use places::word_if;
 use signal::changed;
+use socket::Pair;
 use transfer::Transfer;
 ghost use mathlib.Core.Path.{_≡_};
 ghost use Rattle.status.specs.Choice.{pick};
 ghost use Rattle.signal.specs.Signal.{changedWord};
 ghost use Rattle.endpoint.specs.Endpoint.{withQueue, withSignals};
 ghost use Rattle.socket.specs.Pair.{isOne};
-ghost use Rattle.socket.specs.Transferred.{transferredPair, wrotePair};
+ghost use Rattle.transferred.specs.Transferred.{transferredPair, wrotePair};
 
 // The end with its word changed, and with this queue if it takes it.
 fn end_with(e: Endpoint, takes: bool, queue: Queue, lost: u32, gained: u32) -> Endpoint

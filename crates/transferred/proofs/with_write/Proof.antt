@@ -1,8 +1,8 @@
 use mathlib.Core.Path.{_≡_, refl, sym, ap, _∙_}
-use Rattle.socket.proofs.NoVisit.{transferred-wrote}
+use Rattle.transferred.proofs.NoVisit.{transferred-wrote}
 use borrow.Author.Needs.{needs}
-use Rattle.socket.proofs.transferred.with_write.Statement.{statement}
-use Rattle.socket.proofs.transferred.with_write.Tie as tie
+use Rattle.transferred.proofs.with_write.Statement.{statement}
+use Rattle.transferred.proofs.with_write.Tie as tie
 
 with-transfer-requires : tie.Need-with-transfer-requires
 with-transfer-requires c κs = search needs

@@ -1,6 +1,6 @@
 use borrow.Author.Needs.{needs}
-use Rattle.socket.proofs.transferred.with_read.Statement.{statement}
-use Rattle.socket.proofs.transferred.with_read.Tie as tie
+use Rattle.transferred.proofs.with_read.Statement.{statement}
+use Rattle.transferred.proofs.with_read.Tie as tie
 
 with-transfer-requires : tie.Need-with-transfer-requires
 with-transfer-requires c κs = search needs

@@ -1,7 +1,7 @@
 use mathlib.Core.Path.{_≡_, refl, sym, ap, _∙_}
 use borrow.Author.Needs.{needs}
-use Rattle.socket.proofs.transferred.end_with.Statement.{statement}
-use Rattle.socket.proofs.transferred.end_with.Tie as tie
+use Rattle.transferred.proofs.end_with.Statement.{statement}
+use Rattle.transferred.proofs.end_with.Tie as tie
 
 queue-if-requires : tie.Need-queue-if-requires
 queue-if-requires c κs = search needs

@@ -1,9 +1,9 @@
 use mathlib.Core.Path.{_≡_, refl, sym, ap, _∙_}
 use Rattle.socket.specs.Deferred.{withEnds}
-use Rattle.socket.specs.Transferred.{transferredPair}
+use Rattle.transferred.specs.Transferred.{transferredPair}
 use borrow.Author.Needs.{needs}
-use Rattle.socket.proofs.transferred.with_transfer.Statement.{statement}
-use Rattle.socket.proofs.transferred.with_transfer.Tie as tie
+use Rattle.transferred.proofs.with_transfer.Statement.{statement}
+use Rattle.transferred.proofs.with_transfer.Tie as tie
 
 word-if-requires : tie.Need-word-if-requires
 word-if-requires c κs = search needs

@@ -16,18 +16,18 @@ use Rattle.ends.specs.Outcome.{noVisits, keepsWord, canFire, anyFires, outcomeO
 use Rattle.transfer.specs.declared.Transfer.{Transfer}
 use Rattle.transfer_write.specs.Transfer.{fedVisits, fedMoved, wroteBy}
 use Rattle.transfer_read.specs.Transfer.{drainedVisits, drainedMoved, readBy}
 use Rattle.socket.specs.declared.Pair.{Pair}
 use Rattle.socket.specs.Pair.{isOne, endsOf}
 use Rattle.socket.specs.Deferred.{withEnds, settled}
-use Rattle.socket.specs.Transferred.{transferredPair, withMoved, wrotePair, readPair, writeWithoutVisit, readWithoutVisit}
+use Rattle.transferred.specs.Transferred.{transferredPair, withMoved, wrotePair, readPair, writeWithoutVisit, readWithoutVisit}
 
 pub transferred-wrote : (t : Bool) (x : Transfer) (p : Pair) → transferredPair t (not t) x p ≡ wrotePair t x p
-unfolding transferredPair wrotePair withMoved fedMoved endsOf withSignals withQueue pick
+unfolding transferredPair wrotePair withMoved fedMoved withSignals withQueue pick
 transferred-wrote true x p = refl
 transferred-wrote false x p = refl
 
 transferred-read : (t : Bool) (x : Transfer) (p : Pair) → peer t (endsOf p) .closed ≡ false → transferredPair t t x p ≡ readPair t x p
-unfolding transferredPair readPair withMoved drainedMoved endsOf withSignals withQueue pick
+unfolding transferredPair readPair withMoved drainedMoved withSignals withQueue pick
 transferred-read true x p e = rw e refl
 transferred-read false x p e = rw e refl
 
