@@ -1,3 +1,3 @@
 -- 01 "Status and answer word", the tests that come before a call's own: the record, the slices lent, the handle. openingTest is the answer of
--- shutdown and close. The other answers are in the crates answers, transfer_answers and user_answers.
+-- shutdown and close. The other answers are in the crates answers, write_answer, read_answer and user_answers.
 pub mod Tests
