@@ -29,7 +29,7 @@ use Rattle.sizes.specs.Info.{unlessClosed, infoOf}
 use Rattle.endpoint.specs.Queue.{noQueue, soundLengths, soundQueue, shortTable, shortSlices, hasLength, firstLength, badFirst}
 use Rattle.bits.specs.Bits.{lostByReader, gainedByWriter, reached, missed, bitIf, gainedByPeer, lostByWriter}
 use Rattle.sizes.specs.Read.{emptyAnswer, availableIn, readSize}
-use Rattle.sizes.specs.Write.{datagramSize, writeSize}
+use Rattle.write_size.specs.Write.{datagramSize, writeSize}
 use Rattle.create_answer.specs.Create.{numbersAnswer, createAnswer}
 use Rattle.answers.specs.Disposition.{disposeAnswer}
 use Rattle.answers.specs.Info.{infoAnswer}

@@ -14,7 +14,7 @@ use Rattle.status.specs.Choice.{pick, _and_, _or_}
 use Rattle.status.specs.Answer.{recordCount, countOf, isDone, refuseIf, refuseUnless, _then_}
 use Rattle.places.specs.Table.{used}
 use Rattle.endpoint.specs.declared.Endpoint.{Endpoint}
-use Rattle.sizes.specs.Write.{datagramSize, writeSize}
+use Rattle.write_size.specs.Write.{datagramSize, writeSize}
 use Rattle.sizes.specs.Read.{emptyAnswer, availableIn, readSize}
 use Rattle.read_answer.specs.Read.{readAnswer as endsReadAnswer}
 use Rattle.answers.specs.Wait.{waitAnswer as endsWaitAnswer}

@@ -15,7 +15,7 @@ use Rattle.status.specs.Answer.{isDone, countOf, recordCount, refuseIf, refuseU
 use Rattle.status.proofs.Rules.{refuse-off, pass-last, pass-unless}
 use Rattle.status.proofs.Chains.{then-both, then-is, refuse-passed, unless-passed}
 use Rattle.endpoint.specs.declared.Endpoint.{Endpoint}
-use Rattle.sizes.specs.Write.{datagramSize, writeSize}
+use Rattle.write_size.specs.Write.{datagramSize, writeSize}
 use Rattle.sizes.specs.Read.{readSize}
 use Rattle.answers.specs.Disposition.{disposeAnswer as endsDisposeAnswer}
 use Rattle.read_answer.specs.Read.{readAnswer as endsReadAnswer}

@@ -13,7 +13,7 @@ use Rattle.status.specs.Choice.{pick}
 use Rattle.status.specs.Answer.{isDone, countOf, recordCount}
 use Rattle.status.proofs.Chains.{then-both, then-is, refuse-passed, counted}
 use Rattle.endpoint.specs.declared.Endpoint.{Endpoint}
-use Rattle.sizes.specs.Write.{datagramSize, writeSize}
+use Rattle.write_size.specs.Write.{datagramSize, writeSize}
 use Rattle.ends.specs.declared.Ends.{Ends}
 use Rattle.ends.specs.Ends.{isOne, own, peer}
 use Rattle.ends_tests.specs.Tests.{lentOf}

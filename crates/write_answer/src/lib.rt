@@ -1,7 +1,7 @@
 // The answer of a write: its tests in their order, over both ends of a pair, then the size. After `Socket::write_size` of ipc/socket.rs.
 use ends::Ends;
-use sizes::write_size;
 use status::Answer;
+use write_size::write_size;
 ghost use mathlib.Core.Path.{_≡_};
 ghost use Rattle.ends.specs.Ends.{isOne, peer};
 ghost use Rattle.ends_tests.specs.Tests.{lentOf};
