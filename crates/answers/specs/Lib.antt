@@ -2,7 +2,7 @@
 --   Status and answer word    create is in the crate create_answer
 --   Signal word and packets   Wait: wait
 --   Delivered bytes           Disposition; thresholds are in the crate threshold_answers, shutdown and close are answered by openingTest of the
---                             crate ends_tests, write and read are in the crate transfer_answers
+--                             crate ends_tests, write and read are in the crates write_answer and read_answer
 --   Info record               Info
 pub mod Info
 pub mod Disposition

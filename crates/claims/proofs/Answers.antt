@@ -14,11 +14,11 @@ use Rattle.status.specs.Choice.{pick, _and_, _or_}
 use Rattle.status.specs.Answer.{recordCount, countOf, isDone, refuseIf, refuseUnless, _then_}
 use Rattle.places.specs.Table.{used}
 use Rattle.endpoint.specs.declared.Endpoint.{Endpoint}
-use Rattle.sizes.specs.Write.{datagramSize, writeSize}
+use Rattle.write_size.specs.Write.{datagramSize, writeSize}
 use Rattle.sizes.specs.Read.{emptyAnswer, availableIn, readSize}
-use Rattle.transfer_answers.specs.Read.{readAnswer as endsReadAnswer}
+use Rattle.read_answer.specs.Read.{readAnswer as endsReadAnswer}
 use Rattle.answers.specs.Wait.{waitAnswer as endsWaitAnswer}
-use Rattle.transfer_answers.specs.Write.{writeAnswer as endsWriteAnswer}
+use Rattle.write_answer.specs.Write.{writeAnswer as endsWriteAnswer}
 use Rattle.socket.specs.declared.Pair.{Pair}
 use Rattle.socket.specs.Pair.{isOne, own, peer}
 use Rattle.socket.specs.Tests.{Lent}

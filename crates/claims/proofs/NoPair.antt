@@ -12,11 +12,11 @@ use Rattle.status.specs.Choice.{_and_}
 use Rattle.status.specs.Answer.{refuseUnless, _then_}
 use Rattle.answers.specs.Disposition.{disposeAnswer}
 use Rattle.answers.specs.Info.{infoAnswer}
-use Rattle.transfer_answers.specs.Read.{readAnswer}
+use Rattle.read_answer.specs.Read.{readAnswer}
 use Rattle.ends_tests.specs.Tests.{soundEnds, soundTest, openingTest}
 use Rattle.threshold_answers.specs.Threshold.{readThresholdAnswer, writeThresholdAnswer, thresholdsAnswer}
 use Rattle.answers.specs.Wait.{waitAnswer}
-use Rattle.transfer_answers.specs.Write.{writeAnswer}
+use Rattle.write_answer.specs.Write.{writeAnswer}
 use Rattle.socket.specs.Pair.{noPair}
 use Rattle.socket.specs.Tests.{Lent}
 use Rattle.socket.specs.Disposition.{shutdownAnswer}

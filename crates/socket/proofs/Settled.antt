@@ -18,9 +18,9 @@ use Rattle.ends.specs.declared.Outcome.{Outcome}
 use Rattle.ends_tests.specs.Tests.{lentOf}
 use Rattle.ends.specs.Outcome.{keptEnds, unchangedEnds}
 use Rattle.transfer_write.specs.Write.{fedEnds, wroteEnds, EndsWrote}
-use Rattle.transfer_answers.specs.Write as W
+use Rattle.write_answer.specs.Write as W
 use Rattle.transfer_read.specs.Read.{leaving, drainedEnds, readEnds, EndsRead}
-use Rattle.transfer_answers.specs.Read as R
+use Rattle.read_answer.specs.Read as R
 use Rattle.socket.specs.declared.Pair.{Pair}
 use Rattle.socket.specs.declared.Step.{Step}
 use Rattle.socket.specs.Pair.{isOne, own, peer, endsOf}

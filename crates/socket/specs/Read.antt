@@ -13,7 +13,7 @@ use Rattle.endpoint.specs.Endpoint.{withQueue}
 use Rattle.bits.specs.Bits.{lostByReader, gainedByWriter}
 use Rattle.ends_tests.specs.Tests.{Lent, lentOf}
 use Rattle.transfer_read.specs.Read.{leaving, drainedQueue}
-use Rattle.transfer_answers.specs.Read as A
+use Rattle.read_answer.specs.Read as A
 use Rattle.transfer_read.specs.Read as E
 use Rattle.socket.specs.declared.Pair.{Pair}
 use Rattle.socket.specs.declared.Step.{Step}

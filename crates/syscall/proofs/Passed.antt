@@ -15,12 +15,12 @@ use Rattle.status.specs.Answer.{isDone, countOf, recordCount, refuseIf, refuseU
 use Rattle.status.proofs.Rules.{refuse-off, pass-last, pass-unless}
 use Rattle.status.proofs.Chains.{then-both, then-is, refuse-passed, unless-passed}
 use Rattle.endpoint.specs.declared.Endpoint.{Endpoint}
-use Rattle.sizes.specs.Write.{datagramSize, writeSize}
+use Rattle.write_size.specs.Write.{datagramSize, writeSize}
 use Rattle.sizes.specs.Read.{readSize}
 use Rattle.answers.specs.Disposition.{disposeAnswer as endsDisposeAnswer}
-use Rattle.transfer_answers.specs.Read.{readAnswer as endsReadAnswer}
+use Rattle.read_answer.specs.Read.{readAnswer as endsReadAnswer}
 use Rattle.ends_tests.specs.Tests.{openingTest, handleTest as endsHandleTest}
-use Rattle.transfer_answers.specs.Write.{writeAnswer}
+use Rattle.write_answer.specs.Write.{writeAnswer}
 use Rattle.ends_tests.proofs.Sound.{SoundEnds, sound-passed}
 use Rattle.transfer_write.proofs.Moved.{write-fits}
 use Rattle.transfer_read.proofs.Moved.{read-fits}

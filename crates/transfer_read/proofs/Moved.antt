@@ -19,7 +19,7 @@ use Rattle.sizes.specs.Read.{emptyAnswer, availableIn, readSize}
 use Rattle.ends.specs.declared.Ends.{Ends}
 use Rattle.ends.specs.Ends.{isOne, own, peer}
 use Rattle.ends_tests.specs.Tests.{lentOf}
-use Rattle.transfer_answers.specs.Read.{readAnswer}
+use Rattle.read_answer.specs.Read.{readAnswer}
 use Rattle.transfer_read.specs.Read.{leaving, Drain}
 use Rattle.ends_tests.proofs.Sound.{sound-own, passed}
 use Rattle.transfer.proofs.Smaller.{min-left, min-right}

@@ -24,7 +24,7 @@ use Rattle.ends.specs.Outcome.{noVisits, canFire, outcomeOf, keptEnds, unchange
 use Rattle.transfer.specs.declared.Transfer.{Transfer}
 use Rattle.transfer.specs.Transfer.{keptTransfer}
 use Rattle.transfer_read.specs.Transfer.{drainedTransfer, readTransfer, TransferRead, drainedVisits, drainedMoved, readBy}
-use Rattle.transfer_answers.specs.Read.{readAnswer}
+use Rattle.read_answer.specs.Read.{readAnswer}
 use Rattle.transfer_read.specs.Read.{leaving, bufferRead, drainedEnds, readEnds, EndsRead}
 use Rattle.transfer.proofs.Outcomes.{kept-unchanged}
 

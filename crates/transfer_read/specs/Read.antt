@@ -23,7 +23,7 @@ use Rattle.ends.specs.declared.Moved.{Moved}
 use Rattle.ends.specs.Ends.{isOne, own, peer}
 use Rattle.ends_tests.specs.Tests.{lentOf}
 use Rattle.ends.specs.Outcome.{noVisit, noVisits, outcomeOf, keptEnds}
-use Rattle.transfer_answers.specs.Read.{readAnswer}
+use Rattle.read_answer.specs.Read.{readAnswer}
 
 -- the bytes that leave the queue where k are delivered: on datagram pairs the whole first datagram, its tail with it
 unfoldable pub leaving : Bool → (first k : ℕ) → ℕ

@@ -13,11 +13,11 @@ use Rattle.status.specs.Choice.{pick}
 use Rattle.status.specs.Answer.{isDone, countOf, recordCount}
 use Rattle.status.proofs.Chains.{then-both, then-is, refuse-passed, counted}
 use Rattle.endpoint.specs.declared.Endpoint.{Endpoint}
-use Rattle.sizes.specs.Write.{datagramSize, writeSize}
+use Rattle.write_size.specs.Write.{datagramSize, writeSize}
 use Rattle.ends.specs.declared.Ends.{Ends}
 use Rattle.ends.specs.Ends.{isOne, own, peer}
 use Rattle.ends_tests.specs.Tests.{lentOf}
-use Rattle.transfer_answers.specs.Write.{writeAnswer}
+use Rattle.write_answer.specs.Write.{writeAnswer}
 use Rattle.transfer_write.specs.Write.{Feed}
 use Rattle.ends_tests.proofs.Sound.{sound-peer, passed}
 use Rattle.transfer.proofs.Smaller.{min-left, min-right}

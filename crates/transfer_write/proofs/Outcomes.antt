@@ -18,7 +18,7 @@ use Rattle.ends.specs.declared.Moved.{Moved}
 use Rattle.ends.specs.Ends.{isOne, own, peer}
 use Rattle.ends_tests.specs.Tests.{lentOf}
 use Rattle.ends.specs.Outcome.{noVisits, canFire, outcomeOf, keptEnds, unchangedEnds}
-use Rattle.transfer_answers.specs.Write.{writeAnswer}
+use Rattle.write_answer.specs.Write.{writeAnswer}
 use Rattle.transfer_write.specs.Write.{ringFed, ringWritten, tableFed, tableWritten, fedEnds, wroteEnds, EndsWrote}
 use Rattle.transfer.specs.declared.Transfer.{Transfer}
 use Rattle.transfer.specs.Transfer.{keptTransfer}

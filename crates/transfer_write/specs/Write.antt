@@ -20,7 +20,7 @@ use Rattle.ends.specs.declared.Moved.{Moved}
 use Rattle.ends.specs.Ends.{isOne, own, peer}
 use Rattle.ends_tests.specs.Tests.{lentOf}
 use Rattle.ends.specs.Outcome.{noVisits, outcomeOf, keptEnds}
-use Rattle.transfer_answers.specs.Write.{writeAnswer}
+use Rattle.write_answer.specs.Write.{writeAnswer}
 
 -- the queue that m bytes went into, on datagram pairs as one more length
 unfoldable pub fedQueue : Bool → (m : ℕ) → Queue → Queue

@@ -4,7 +4,7 @@ use lib.Dec.{eqb}
 use Rattle.status.specs.declared.Status.the-variants.{InvalidArgs}
 use Rattle.status.specs.declared.Answer.{Answer}
 use Rattle.status.specs.Answer.{refuseIf, refuseUnless, _then_, countOf}
-use Rattle.sizes.specs.Write.{writeSize}
+use Rattle.write_size.specs.Write.{writeSize}
 use Rattle.ends.specs.declared.Ends.{Ends}
 use Rattle.ends.specs.Ends.{isOne, own, peer}
 use Rattle.ends_tests.specs.Tests.{soundTest, Lent, slicesTest}

@@ -2,12 +2,12 @@
 use ends::Ends;
 use ends_tests::slices_test;
 use ends_tests::sound_test;
-use sizes::write_size;
 use status::Answer;
 use status::Status;
 use user_answers::Buffer;
 use user_answers::RIGHT_WRITE;
 use user_answers::lookup;
+use write_size::write_size;
 ghost use mathlib.Core.Path.{_≡_};
 ghost use Rattle.ends.specs.Ends.{isOne, peer};
 ghost use Rattle.ends_tests.specs.Tests.{lentOf};

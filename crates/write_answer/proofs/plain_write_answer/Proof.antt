@@ -1,8 +1,8 @@
 use Rattle.status.proofs.Rules.{via-not, via-not-not, then-stop, then-go}
-use Rattle.transfer_answers.specs.Write.{writeAnswer}
+use Rattle.write_answer.specs.Write.{writeAnswer}
 use borrow.Author.Needs.{needs}
-use Rattle.transfer_answers.proofs.write_answer.Statement.{statement}
-use Rattle.transfer_answers.proofs.write_answer.Tie as tie
+use Rattle.write_answer.proofs.plain_write_answer.Statement.{statement}
+use Rattle.write_answer.proofs.plain_write_answer.Tie as tie
 
 sound-test-requires : tie.Need-sound-test-requires
 sound-test-requires c κs = search needs
@@ -47,8 +47,8 @@ returns-4 : tie.Need-returns-4
 unfolding writeAnswer
 returns-4 c = rw (← c .before .before .before .before .before .before .before .before .before .peer .ensures, ← c .before .own .ensures) (then-go _ _ _ _ (c .before .before .before .before .before .before .before .before .before .before .before .before .sound-test .ensures) (via-not-not (c .before .before .before .before .before .before .before .before .before .before .before .is-done .ensures) (c .before .before .before .before .before .before .before .before .before .before .if1 .left)) (then-go _ _ _ _ (c .before .before .before .before .before .before .before .slices-test .ensures) (via-not-not (c .before .before .before .before .before .before .is-done2 .ensures) (c .before .before .before .before .before .if2 .left)) (then-go _ _ _ _ (c .before .before .before .before .handle-test .ensures) (via-not-not (c .before .before .before .is-done3 .ensures) (c .before .before .if3 .left)) (c .write-size .ensures))))
 
-pub write-answer-spec : {M : Type 1} → statement M
-write-answer-spec =
+pub plain-write-answer-spec : {M : Type 1} → statement M
+plain-write-answer-spec =
     tie.close
     (tie.spec
     sound-test-requires

@@ -2,10 +2,10 @@ use borrow.Author.Tests.{lt-ltb, le-ltb, eq-eqb, ne-eqb}
 use mathlib.Core.Path.{refl}
 use native.Mathlib.Omega.{arith}
 use Rattle.status.proofs.Rules.{refuse-on, refuse-off}
-use Rattle.sizes.specs.Write.{datagramSize}
+use Rattle.write_size.specs.Write.{datagramSize}
 use borrow.Author.Needs.{needs}
-use Rattle.sizes.proofs.datagram_size.Statement.{statement}
-use Rattle.sizes.proofs.datagram_size.Tie as tie
+use Rattle.write_size.proofs.datagram_size.Statement.{statement}
+use Rattle.write_size.proofs.datagram_size.Tie as tie
 
 returns : tie.Need-returns
 unfolding datagramSize

@@ -1,10 +1,10 @@
 use borrow.Author.Tests.{lt-ltb, le-ltb, le-leb, lt-leb}
 use Rattle.status.specs.Choice.{pick}
 use Rattle.status.specs.Answer.{refuseIf, _then_}
-use Rattle.sizes.specs.Write.{writeSize}
+use Rattle.write_size.specs.Write.{writeSize}
 use native.Mathlib.Omega.{arith}
-use Rattle.sizes.proofs.write_size.Statement.{statement}
-use Rattle.sizes.proofs.write_size.Tie as tie
+use Rattle.write_size.proofs.write_size.Statement.{statement}
+use Rattle.write_size.proofs.write_size.Tie as tie
 
 returns : tie.Need-returns
 unfolding writeSize refuseIf _then_

@@ -2,7 +2,7 @@
 use Prim.Native.Nat.{ℕ}
 use Rattle.status.specs.declared.Answer.{Answer}
 use Rattle.status.specs.Answer.{_then_}
-use Rattle.sizes.specs.Write.{writeSize}
+use Rattle.write_size.specs.Write.{writeSize}
 use Rattle.ends.specs.declared.Ends.{Ends}
 use Rattle.ends.specs.Ends.{isOne, own, peer}
 use Rattle.ends_tests.specs.Tests.{soundTest, Lent, slicesTest, handleTest}

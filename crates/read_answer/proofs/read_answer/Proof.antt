@@ -1,9 +1,9 @@
 use Rattle.status.proofs.Rules.{via-not, via-not-not, then-stop, then-go}
-use Rattle.transfer_answers.specs.Read.{readAnswer}
+use Rattle.read_answer.specs.Read.{readAnswer}
 use Rattle.ends_tests.specs.Tests.{lentOf}
 use borrow.Author.Needs.{needs}
-use Rattle.transfer_answers.proofs.plain_read_answer.Statement.{statement}
-use Rattle.transfer_answers.proofs.plain_read_answer.Tie as tie
+use Rattle.read_answer.proofs.read_answer.Statement.{statement}
+use Rattle.read_answer.proofs.read_answer.Tie as tie
 
 sound-test-requires : tie.Need-sound-test-requires
 sound-test-requires c κs = search needs
@@ -51,8 +51,8 @@ returns-4 : tie.Need-returns-4
 unfolding readAnswer lentOf
 returns-4 c = rw (← c .before .before .before .before .before .before .before .before .before .before .own .ensures, ← c .before .peer .ensures) (then-go _ _ _ _ (c .before .before .before .before .before .before .before .before .before .before .before .before .before .sound-test .ensures) (via-not-not (c .before .before .before .before .before .before .before .before .before .before .before .before .is-done .ensures) (c .before .before .before .before .before .before .before .before .before .before .before .if1 .left)) (then-go _ _ _ _ (c .before .before .before .before .before .before .before .before .slices-test .ensures) (via-not-not (c .before .before .before .before .before .before .before .is-done2 .ensures) (c .before .before .before .before .before .before .if2 .left)) (then-go _ _ _ _ (c .before .before .before .before .before .handle-test .ensures) (via-not-not (c .before .before .before .before .is-done3 .ensures) (c .before .before .before .if3 .left)) (rw (← c .before .before .first-length .ensures) (c .read-size .ensures)))))
 
-pub plain-read-answer-spec : {M : Type 1} → statement M
-plain-read-answer-spec =
+pub read-answer-spec : {M : Type 1} → statement M
+read-answer-spec =
     tie.close
     (tie.spec
     sound-test-requires
