@@ -34,21 +34,21 @@ counted-agrees t from to Agrees e = refl
 counted-agrees t from to (DiffersAt i) e = absurd (let z : _≡_ {A = ℕ} 0 1 = cc in omega arith)
 counted-agrees t from to NoRoom e = absurd (let z : _≡_ {A = ℕ} 0 1 = cc in omega arith)
 
-missed-is : (t : Tally) (from to : ℕ) (o : Outcome) → (o ≡ Agrees → ⊥) → missed t from to o ≡ countedOf t from to o
+pub missed-is : {r : Tally} (t : Tally) (from to : ℕ) (o : Outcome) → (o ≡ Agrees → ⊥) → r ≡ missed t from to o → r ≡ countedOf t from to o
 unfolding countedOf
-missed-is t from to Agrees h = absurd (h refl)
-missed-is t from to (DiffersAt i) h = refl
-missed-is t from to NoRoom h = refl
+missed-is t from to Agrees h e = absurd (h refl)
+missed-is t from to (DiffersAt i) h e = e
+missed-is t from to NoRoom h e = e
 
-pub counted-again : (t : Tally) (from to : ℕ) (o : Outcome) → (o ≡ Agrees → ⊥) → t .agree < t .total
-    → record { total = t .total + 1; agree = t .agree; number = t .number; from = t .from; to = t .to; first = t .first } ≡ countedOf t from to o
+pub missed-again : (t : Tally) (from to : ℕ) (o : Outcome) → t .agree < t .total
+    → record { total = t .total + 1; agree = t .agree; number = t .number; from = t .from; to = t .to; first = t .first } ≡ missed t from to o
 unfolding missed pick
-counted-again t from to o h g = rw (← missed-is t from to o h, lt-ltb (t .agree) (t .total) g) refl
+missed-again t from to o g = rw (lt-ltb (t .agree) (t .total) g) refl
 
-pub counted-first : (t : Tally) (from to : ℕ) (o : Outcome) → (o ≡ Agrees → ⊥) → t .total ≤ t .agree
-    → record { total = t .total + 1; agree = t .agree; number = t .total; from = from; to = to; first = o } ≡ countedOf t from to o
+pub missed-first : (t : Tally) (from to : ℕ) (o : Outcome) → t .total ≤ t .agree
+    → record { total = t .total + 1; agree = t .agree; number = t .total; from = from; to = to; first = o } ≡ missed t from to o
 unfolding missed pick
-counted-first t from to o h g = rw (← missed-is t from to o h, le-ltb (t .agree) (t .total) g) refl
+missed-first t from to o g = rw (le-ltb (t .agree) (t .total) g) refl
 
 -- an entry is counted where the tally is not full
 pub counted-small : {r : Tally} (t : Tally) (from to : ℕ) (o : Outcome) → t .total < 9223372036854775808 → t .agree < 9223372036854775808

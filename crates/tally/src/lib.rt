@@ -1,7 +1,8 @@
 // How many stored entries were run, how many of them agree, and which is the first that does not.
+ghost use Prim.Native.Nat.{_<_};
 ghost use mathlib.Core.Path.{_≡_};
 ghost use Rattle.status.specs.Choice.{pick};
-ghost use Rattle.tally.specs.Count.{isFull, countedOf};
+ghost use Rattle.tally.specs.Count.{isFull, missed, countedOf};
 
 // What came of an entry: its listing agrees, or first differs at a byte, or another line might not have fit behind it.
 pub enum Outcome {
@@ -21,6 +22,32 @@ pub struct Tally {
     pub first: Outcome,
 }
 
+// An entry is counted that does not agree, whose name begins and ends at the two places.
+fn missed(t: Tally, from: usize, to: usize, o: Outcome) -> Tally
+    requires { ⌜ t .total < 9223372036854775808 ⌝ }
+    ensures { λ r. ⌜ r ≡ missed t from to o ⌝ }
+{
+    let first = t.first;
+    if t.agree < t.total {
+        return Tally {
+            total: t.total + 1,
+            agree: t.agree,
+            number: t.number,
+            from: t.from,
+            to: t.to,
+            first,
+        };
+    }
+    Tally {
+        total: t.total + 1,
+        agree: t.agree,
+        number: t.total,
+        from,
+        to,
+        first: o,
+    }
+}
+
 // One entry more is counted, whose name begins and ends at the two places. A tally that could overflow is left as it is; no input is so
 // long.
 pub fn counted(t: Tally, from: usize, to: usize, o: Outcome) -> Tally
@@ -32,35 +59,18 @@ pub fn counted(t: Tally, from: usize, to: usize, o: Outcome) -> Tally
     if t.agree >= 9223372036854775808 {
         return t;
     }
-    let first = t.first;
     match o {
-        Outcome::Agrees => Tally {
-            total: t.total + 1,
-            agree: t.agree + 1,
-            number: t.number,
-            from: t.from,
-            to: t.to,
-            first,
-        },
-        Outcome::DiffersAt(_) | Outcome::NoRoom => {
-            if t.agree < t.total {
-                return Tally {
-                    total: t.total + 1,
-                    agree: t.agree,
-                    number: t.number,
-                    from: t.from,
-                    to: t.to,
-                    first,
-                };
-            }
+        Outcome::Agrees => {
+            let first = t.first;
             Tally {
                 total: t.total + 1,
-                agree: t.agree,
-                number: t.total,
-                from,
-                to,
-                first: o,
+                agree: t.agree + 1,
+                number: t.number,
+                from: t.from,
+                to: t.to,
+                first,
             }
         }
+        Outcome::DiffersAt(_) | Outcome::NoRoom => missed(t, from, to, o),
     }
 }

@@ -4,7 +4,7 @@ use native.Mathlib.Omega.{arith}
 use mathlib.Core.Logic.{⊎-elim}
 use mathlib.Core.Path.{_≡_, refl}
 use Rattle.status.proofs.Rules.{pick-on, pick-off}
-use Rattle.tally.proofs.Counts.{full-total, full-agree, not-full, counted-agrees, counted-again, counted-first}
+use Rattle.tally.proofs.Counts.{full-total, full-agree, not-full, counted-agrees, missed-is}
 use borrow.Author.Needs.{needs}
 use Rattle.tally.proofs.counted.Statement.{statement}
 use Rattle.tally.proofs.counted.Tie as tie
@@ -26,33 +26,22 @@ add-t8 c = search needs
 add-t9 : tie.Need-add-t9
 add-t9 c = search needs
 
-add-t11 : tie.Need-add-t11
-add-t11 c = search needs
+missed-requires : tie.Need-missed-requires
+missed-requires c κs = search needs
 
 returns-3 : tie.Need-returns-3
 returns-3 c =
     let l = c .before .before .before .before in
     let a = l .before .before .before .before .args in
     pick-off _ _ _ _ _ (not-full (a .t) (l .before .before .if1 .left) (l .if2 .left))
-    (counted-again (a .t) (a .from) (a .to) (a .o) (λ e. ⊎-elim (λ p. let z : _≡_ {A = ℕ} 0 1 = rw e at p in omega arith) (λ p. let z : _≡_ {A = ℕ} 0 2 = rw e at p in omega arith) (c .before .before .before .match .keys2)) (c .before .if3 .taken))
-
-add-t12 : tie.Need-add-t12
-add-t12 c = search needs
+    (counted-agrees (a .t) (a .from) (a .to) (a .o) (c .before .before .enum-told .given .1))
 
 returns-4 : tie.Need-returns-4
 returns-4 c =
-    let l = c .before .before .before .before in
+    let l = c .before .before in
     let a = l .before .before .before .before .args in
     pick-off _ _ _ _ _ (not-full (a .t) (l .before .before .if1 .left) (l .if2 .left))
-    (counted-agrees (a .t) (a .from) (a .to) (a .o) (c .before .before .enum-told .given .1))
-
-returns-5 : tie.Need-returns-5
-returns-5 c =
-    let l = c .before .before .before .before in
-    let a = l .before .before .before .before .args in
-    pick-off _ _ _ _ _ (not-full (a .t) (l .before .before .if1 .left) (l .if2 .left))
-    (counted-first (a .t) (a .from) (a .to) (a .o) (λ e. ⊎-elim (λ p. let z : _≡_ {A = ℕ} 0 1 = rw e at p in omega arith) (λ p. let z : _≡_ {A = ℕ} 0 2 = rw e at p in omega arith) (c .before .before .before .match .keys2)) (c .before .if3 .left))
+    (missed-is (a .t) (a .from) (a .to) (a .o) (λ e. ⊎-elim (λ p. let z : _≡_ {A = ℕ} 0 1 = rw e at p in omega arith) (λ p. let z : _≡_ {A = ℕ} 0 2 = rw e at p in omega arith) (c .before .match .keys2)) (c .missed .ensures))
 
 pub counted-spec : {M : Type 1} → statement M
-counted-spec =
-    tie.close (tie.spec returns returns-2 enum-told add-t8 add-t9 add-t11 returns-3 add-t12 returns-4 returns-5)
+counted-spec = tie.close (tie.spec returns returns-2 enum-told add-t8 add-t9 missed-requires returns-3 returns-4)
