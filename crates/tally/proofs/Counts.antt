@@ -50,6 +50,14 @@ pub missed-first : (t : Tally) (from to : ℕ) (o : Outcome) → t .total ≤ t 
 unfolding missed pick
 missed-first t from to o g = rw (le-ltb (t .agree) (t .total) g) refl
 
+pub counted-again : (t : Tally) (from to : ℕ) (o : Outcome) → (o ≡ Agrees → ⊥) → t .agree < t .total
+    → record { total = t .total + 1; agree = t .agree; number = t .number; from = t .from; to = t .to; first = t .first } ≡ countedOf t from to o
+counted-again t from to o h g = missed-is t from to o h (missed-again t from to o g)
+
+pub counted-first : (t : Tally) (from to : ℕ) (o : Outcome) → (o ≡ Agrees → ⊥) → t .total ≤ t .agree
+    → record { total = t .total + 1; agree = t .agree; number = t .total; from = from; to = to; first = o } ≡ countedOf t from to o
+counted-first t from to o h g = missed-is t from to o h (missed-first t from to o g)
+
 -- an entry is counted where the tally is not full
 pub counted-small : {r : Tally} (t : Tally) (from to : ℕ) (o : Outcome) → t .total < 9223372036854775808 → t .agree < 9223372036854775808
     → r ≡ pick (isFull t) t (countedOf t from to o) → r ≡ countedOf t from to o
