@@ -1,4 +1,4 @@
--- What the tests of a write threshold and of a wait, once passed, tell of the record. Assumes nothing.
+-- What the tests of a wait, once passed, tell of the record. Assumes nothing.
 use Prim.Native.Nat.{ℕ, _+_, _<_}
 use mathlib.Core.Path.{_≡_, sym, ap, _∙_}
 use mathlib.Core.Bool.{true}
@@ -8,14 +8,8 @@ use Rattle.status.specs.declared.Answer.{Answer}
 use Rattle.status.specs.Answer.{isDone}
 use Rattle.status.proofs.Chains.{then-both, refuse-passed}
 use Rattle.ends.specs.declared.Ends.{Ends}
-use Rattle.ends.proofs.Sound.{SoundEnds, opening-passed}
-use Rattle.answers.specs.Threshold.{writeThresholdAnswer}
+use Rattle.ends_tests.proofs.Sound.{opening-passed}
 use Rattle.answers.specs.Wait.{waitAnswer}
-
--- a write threshold that may be set
-pub threshold-sound : (p : Ends) (h n : ℕ) (x : Answer) → x ≡ writeThresholdAnswer p h n → isDone x ≡ true → SoundEnds p
-unfolding writeThresholdAnswer
-threshold-sound p h n x e d = opening-passed p h (then-both _ _ (ap isDone (sym e) ∙ d) .0)
 
 -- a wait that may be registered: a place is unused
 pub wait-room : (p : Ends) (h edge : ℕ) (x : Answer) → x ≡ waitAnswer p h edge → isDone x ≡ true → p .packets + p .waits < 128

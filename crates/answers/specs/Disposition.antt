@@ -6,7 +6,7 @@ use Rattle.endpoint.specs.declared.Disposition.{Disposition}
 use Rattle.endpoint.specs.Disposition.{disposeChecks}
 use Rattle.ends.specs.declared.Ends.{Ends}
 use Rattle.ends.specs.Ends.{isOne, own, peer}
-use Rattle.ends.specs.Tests.{openingTest}
+use Rattle.ends_tests.specs.Tests.{openingTest}
 
 -- both checks come before any change
 unfoldable pub disposeAnswer : Ends → (h : ℕ) → (disposition peerDisposition : Disposition) → Answer

@@ -7,7 +7,7 @@ use Rattle.status.specs.Answer.{_then_}
 use Rattle.sizes.specs.Info.{infoOf}
 use Rattle.ends.specs.declared.Ends.{Ends}
 use Rattle.ends.specs.Ends.{isOne, own, peer}
-use Rattle.ends.specs.Tests.{soundTest, Lent, tableTest, handleTest}
+use Rattle.ends_tests.specs.Tests.{soundTest, Lent, tableTest, handleTest}
 
 -- the answer; info is lent its own table on datagram pairs
 unfoldable pub infoAnswer : Ends → Lent → (h : ℕ) → Answer

@@ -1,11 +1,9 @@
 -- Where the answers of 01 are defined, over both ends of a pair without its table of places:
---   Status and answer word    Create: create
+--   Status and answer word    create is in the crate create_answer
 --   Signal word and packets   Wait: wait
---   Delivered bytes           Threshold, Disposition; shutdown and close are answered by openingTest of the crate ends, write and read are in
---                             the crate transfer_answers
+--   Delivered bytes           Disposition; thresholds are in the crate threshold_answers, shutdown and close are answered by openingTest of the
+--                             crate ends_tests, write and read are in the crates write_answer and read_answer
 --   Info record               Info
-pub mod Create
 pub mod Info
-pub mod Threshold
 pub mod Disposition
 pub mod Wait

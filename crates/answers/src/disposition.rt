@@ -2,7 +2,7 @@
 use endpoint::Disposition;
 use endpoint::dispose_checks;
 use ends::Ends;
-use ends::opening_test;
+use ends_tests::opening_test;
 use status::Answer;
 ghost use mathlib.Core.Path.{_≡_};
 ghost use Rattle.answers.specs.Disposition.{disposeAnswer};

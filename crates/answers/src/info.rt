@@ -1,15 +1,15 @@
 // Info.
 use ends::Ends;
-use ends::handle_test;
-use ends::sound_test;
-use ends::table_test;
+use ends_tests::handle_test;
+use ends_tests::sound_test;
+use ends_tests::table_test;
 use sizes::get_info;
 use status::Answer;
 use status::Record;
 ghost use mathlib.Core.Path.{_≡_};
 ghost use mathlib.Core.List.{[]};
 ghost use Rattle.ends.specs.Ends.{isOne, own};
-ghost use Rattle.ends.specs.Tests.{lentOf};
+ghost use Rattle.ends_tests.specs.Tests.{lentOf};
 ghost use Rattle.answers.specs.Info.{infoAnswer};
 
 // The tests of info, then the record.

@@ -1,6 +1,6 @@
 // Wait.
 use ends::Ends;
-use ends::opening_test;
+use ends_tests::opening_test;
 use status::Answer;
 use status::Record;
 use status::Status;

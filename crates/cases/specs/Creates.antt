@@ -4,7 +4,7 @@ use mathlib.Core.List.{List, [], _∷_, map}
 use lib.ListN.{replicate}
 use lib.IntN.{ℤ, pos, negℤ}
 use Rattle.status.specs.Answer.{answerWord}
-use Rattle.answers.specs.Create.{createAnswer}
+use Rattle.create_answer.specs.Create.{createAnswer}
 use Rattle.cases.specs.Lines.{linesOf}
 
 -- each line: kind, C, the rights of end 1 and of end 2, then the lengths of the ring and the table of end 1 and of end 2

@@ -29,17 +29,17 @@ use Rattle.sizes.specs.Info.{unlessClosed, infoOf}
 use Rattle.endpoint.specs.Queue.{noQueue, soundLengths, soundQueue, shortTable, shortSlices, hasLength, firstLength, badFirst}
 use Rattle.bits.specs.Bits.{lostByReader, gainedByWriter, reached, missed, bitIf, gainedByPeer, lostByWriter}
 use Rattle.sizes.specs.Read.{emptyAnswer, availableIn, readSize}
-use Rattle.sizes.specs.Write.{datagramSize, writeSize}
-use Rattle.answers.specs.Create.{numbersAnswer, createAnswer}
+use Rattle.write_size.specs.Write.{datagramSize, writeSize}
+use Rattle.create_answer.specs.Create.{numbersAnswer, createAnswer}
 use Rattle.answers.specs.Disposition.{disposeAnswer}
 use Rattle.answers.specs.Info.{infoAnswer}
-use Rattle.transfer_answers.specs.Read.{readAnswer}
-use Rattle.transfer.specs.Read.{leaving, drainedQueue, bufferRead}
-use Rattle.ends.specs.Tests.{soundEnds, isOpen, soundTest, handleTest, openingTest}
-use Rattle.answers.specs.Threshold.{readThresholdAnswer, writeThresholdAnswer, thresholdsAnswer}
+use Rattle.read_answer.specs.Read.{readAnswer}
+use Rattle.transfer_read.specs.Read.{leaving, drainedQueue, bufferRead}
+use Rattle.ends_tests.specs.Tests.{soundEnds, isOpen, soundTest, handleTest, openingTest}
+use Rattle.threshold_answers.specs.Threshold.{readThresholdAnswer, writeThresholdAnswer, thresholdsAnswer}
 use Rattle.answers.specs.Wait.{waitAnswer}
-use Rattle.transfer_answers.specs.Write.{writeAnswer}
-use Rattle.transfer.specs.Write.{fedQueue, ringFed, tableFed, ringWritten, tableWritten}
+use Rattle.write_answer.specs.Write.{writeAnswer}
+use Rattle.transfer_write.specs.Write.{fedQueue, ringFed, tableFed, ringWritten, tableWritten}
 use Rattle.socket.specs.Disposition.{switchWriting, disposeOwn, disposePeer, disposedOwn, disposedPeer, disposed, shutdownAnswer, shutEnd, shut}
 use Rattle.socket.specs.Pair.{isHandle, withEnd, withPlaces, withChange, signalChange, putBit, switchReading, newPair, noPair}
 use Rattle.socket.specs.Read.{consumed, pairRead}
@@ -50,9 +50,9 @@ use Rattle.socket.specs.Write.{wrote, pairWritten}
 use Rattle.user_answers.specs.Control.{dispositionOf, userDisposeAnswer, userShutdownAnswer}
 use Rattle.user_memory.specs.Memory.{fits, countFits, isNull, littleEndian, countLanded}
 use Rattle.user_answers.specs.Lookup.{lookup}
-use Rattle.user_answers.specs.Read.{userReadAnswer}
+use Rattle.user_read_answer.specs.Read.{userReadAnswer}
 use Rattle.syscall.specs.Read.{bytesLanded}
-use Rattle.user_answers.specs.Write.{writeRanges, userWriteAnswer}
+use Rattle.user_write_answer.specs.Write.{writeRanges, userWriteAnswer}
 use Rattle.runs.specs.Answers.{controlAnswer, answerTo, controlled, pairAfter}
 use Rattle.runs.specs.Step.{written, stateAfter, landed, counted, deliveredIn, after, outcome, outcomes, pairCreated}
 

@@ -14,11 +14,11 @@ use Rattle.status.specs.Choice.{pick, _and_, _or_}
 use Rattle.status.specs.Answer.{recordCount, countOf, isDone, refuseIf, refuseUnless, _then_}
 use Rattle.places.specs.Table.{used}
 use Rattle.endpoint.specs.declared.Endpoint.{Endpoint}
-use Rattle.sizes.specs.Write.{datagramSize, writeSize}
+use Rattle.write_size.specs.Write.{datagramSize, writeSize}
 use Rattle.sizes.specs.Read.{emptyAnswer, availableIn, readSize}
-use Rattle.transfer_answers.specs.Read.{readAnswer as endsReadAnswer}
+use Rattle.read_answer.specs.Read.{readAnswer as endsReadAnswer}
 use Rattle.answers.specs.Wait.{waitAnswer as endsWaitAnswer}
-use Rattle.transfer_answers.specs.Write.{writeAnswer as endsWriteAnswer}
+use Rattle.write_answer.specs.Write.{writeAnswer as endsWriteAnswer}
 use Rattle.socket.specs.declared.Pair.{Pair}
 use Rattle.socket.specs.Pair.{isOne, own, peer}
 use Rattle.socket.specs.Tests.{Lent}
@@ -26,9 +26,9 @@ use Rattle.socket.specs.Write.{writeAnswer}
 use Rattle.socket.specs.Read.{readAnswer}
 use Rattle.socket.specs.Wait.{waitAnswer, takeAnswer}
 use Rattle.user_memory.specs.Memory.{fits}
-use Rattle.user_answers.specs.Write.{writeRanges, userWriteAnswer as endsUserWriteAnswer}
+use Rattle.user_write_answer.specs.Write.{writeRanges, userWriteAnswer as endsUserWriteAnswer}
 use Rattle.syscall.specs.Write.{userWriteAnswer}
-use Rattle.user_answers.specs.Read.{userReadAnswer as endsUserReadAnswer}
+use Rattle.user_read_answer.specs.Read.{userReadAnswer as endsUserReadAnswer}
 use Rattle.syscall.specs.Read.{userReadAnswer}
 use Rattle.claims.proofs.Moves.{Taken}
 

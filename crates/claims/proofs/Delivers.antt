@@ -13,7 +13,7 @@ use Rattle.status.specs.Choice.{pick}
 use Rattle.ring.specs.Ring.{front}
 use Rattle.ring.proofs.Laws.{length-front}
 use Rattle.endpoint.specs.declared.Queue.{Queue}
-use Rattle.transfer.specs.Read.{bufferRead}
+use Rattle.transfer_read.specs.Read.{bufferRead}
 use Rattle.socket.specs.Pair.{isOne, own}
 use Rattle.syscall.specs.Read.{bytesLanded}
 use Rattle.runs.specs.Calls.{Call, write, read, plainWrite, plainRead, close, control}

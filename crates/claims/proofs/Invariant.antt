@@ -16,8 +16,8 @@ use Rattle.status.specs.Answer.{isDone}
 use Rattle.places.specs.Table.{used, sound}
 use Rattle.endpoint.specs.declared.Queue.{Queue}
 use Rattle.endpoint.specs.Endpoint.{withQueue, closedEnd}
-use Rattle.transfer.specs.Read.{leaving}
-use Rattle.transfer.specs.Write.{ringFed, tableFed, ringWritten, tableWritten}
+use Rattle.transfer_read.specs.Read.{leaving}
+use Rattle.transfer_write.specs.Write.{ringFed, tableFed, ringWritten, tableWritten}
 use Rattle.socket.specs.declared.Pair.{Pair}
 use Rattle.socket.specs.Pair.{isOne, own, peer, withEnd}
 use Rattle.socket.specs.Tests.{lentOf}

@@ -16,8 +16,8 @@ use Rattle.endpoint.specs.declared.Endpoint.{Endpoint}
 use Rattle.endpoint.specs.declared.Disposition.{Disposition}
 use Rattle.endpoint.specs.declared.Disposition.the-variants.{Unchanged, Disable, Enable}
 use Rattle.endpoint.specs.Endpoint.{withQueue, withSignals, withReadDisabled, withThresholds, closedEnd}
-use Rattle.transfer.specs.Read.{drainedQueue}
-use Rattle.transfer.specs.Write.{fedQueue}
+use Rattle.transfer_read.specs.Read.{drainedQueue}
+use Rattle.transfer_write.specs.Write.{fedQueue}
 use Rattle.socket.specs.declared.Pair.{Pair}
 use Rattle.socket.specs.Pair.{own, peer, withEnd, withPlaces, withChange, signalChange, putBit, switchReading}
 use Rattle.socket.specs.Write.{wrote}

@@ -12,8 +12,8 @@ use Rattle.ring.specs.Ring.{place, front}
 use Rattle.ring.proofs.Laws.{place-lt, front-none, front-put, front-set, take-front, drop-front, length-put}
 use Rattle.endpoint.specs.declared.Queue.{Queue}
 use Rattle.endpoint.specs.Queue.{noQueue}
-use Rattle.transfer.specs.Read.{leaving, drainedQueue}
-use Rattle.transfer.specs.Write.{fedQueue, ringFed, tableFed}
+use Rattle.transfer_read.specs.Read.{leaving, drainedQueue}
+use Rattle.transfer_write.specs.Write.{fedQueue, ringFed, tableFed}
 use Rattle.runs.specs.State.{Slices}
 use Rattle.claims.specs.Origins.{Origin, origins, Line, flat, shrunk}
 use Rattle.claims.proofs.Lists.{map-append, map-drop, map-take, flat-snoc, length-origins, origin-bytes, full-snoc, full-drop, full-none, headLength}

@@ -12,17 +12,17 @@ use Rattle.status.specs.Choice.{_and_}
 use Rattle.status.specs.Answer.{refuseUnless, _then_}
 use Rattle.answers.specs.Disposition.{disposeAnswer}
 use Rattle.answers.specs.Info.{infoAnswer}
-use Rattle.transfer_answers.specs.Read.{readAnswer}
-use Rattle.ends.specs.Tests.{soundEnds, soundTest, openingTest}
-use Rattle.answers.specs.Threshold.{readThresholdAnswer, writeThresholdAnswer, thresholdsAnswer}
+use Rattle.read_answer.specs.Read.{readAnswer}
+use Rattle.ends_tests.specs.Tests.{soundEnds, soundTest, openingTest}
+use Rattle.threshold_answers.specs.Threshold.{readThresholdAnswer, writeThresholdAnswer, thresholdsAnswer}
 use Rattle.answers.specs.Wait.{waitAnswer}
-use Rattle.transfer_answers.specs.Write.{writeAnswer}
+use Rattle.write_answer.specs.Write.{writeAnswer}
 use Rattle.socket.specs.Pair.{noPair}
 use Rattle.socket.specs.Tests.{Lent}
 use Rattle.socket.specs.Disposition.{shutdownAnswer}
 use Rattle.socket.specs.Wait.{takeAnswer, closeAnswer}
-use Rattle.user_answers.specs.Write.{userWriteAnswer}
-use Rattle.user_answers.specs.Read.{userReadAnswer}
+use Rattle.user_write_answer.specs.Write.{userWriteAnswer}
+use Rattle.user_read_answer.specs.Read.{userReadAnswer}
 use Rattle.user_answers.specs.Control.{userDisposeAnswer, userShutdownAnswer}
 use Rattle.runs.specs.Calls.{Control, setDisposition, shutdown, plainDisposition, plainShutdown, setReadThreshold, setWriteThreshold, getThresholds, getInfo, wait, takePacket, Call, write, read, plainWrite, plainRead, close, control, Input, Public, public}
 use Rattle.runs.specs.State.{Slices, State, state, seenOf}

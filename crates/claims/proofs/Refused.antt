@@ -8,8 +8,8 @@ use Rattle.status.specs.declared.Answer.{Answer}
 use Rattle.status.specs.declared.Answer.the-variants.{Refused}
 use Rattle.status.specs.Choice.{pick, _or_}
 use Rattle.status.specs.Answer.{countOf, isDone}
-use Rattle.transfer.specs.Read.{bufferRead}
-use Rattle.transfer.specs.Write.{ringWritten, tableWritten}
+use Rattle.transfer_read.specs.Read.{bufferRead}
+use Rattle.transfer_write.specs.Write.{ringWritten, tableWritten}
 use Rattle.socket.specs.declared.Pair.{Pair}
 use Rattle.socket.specs.Pair.{isOne}
 use Rattle.socket.specs.Write.{pairWritten}

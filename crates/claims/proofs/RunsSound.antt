@@ -19,24 +19,24 @@ use Rattle.endpoint.specs.declared.Queue.{Queue}
 use Rattle.endpoint.specs.declared.Endpoint.{Endpoint}
 use Rattle.endpoint.specs.declared.Disposition.{Disposition}
 use Rattle.endpoint.specs.Queue.{shortSlices, firstLength, badFirst}
-use Rattle.sizes.specs.Write.{datagramSize, writeSize}
+use Rattle.write_size.specs.Write.{datagramSize, writeSize}
 use Rattle.sizes.specs.Read.{emptyAnswer, readSize}
 use Rattle.endpoint.specs.Disposition.{disposeChecks}
 use Rattle.answers.specs.Disposition.{disposeAnswer}
 use Rattle.answers.specs.Info.{infoAnswer}
-use Rattle.transfer_answers.specs.Read.{readAnswer}
-use Rattle.ends.specs.Tests.{soundEnds, isOpen, soundTest as endsSoundTest, handleTest as endsHandleTest, openingTest as endsOpeningTest}
-use Rattle.answers.specs.Threshold.{readThresholdAnswer, writeThresholdAnswer, thresholdsAnswer}
+use Rattle.read_answer.specs.Read.{readAnswer}
+use Rattle.ends_tests.specs.Tests.{soundEnds, isOpen, soundTest as endsSoundTest, handleTest as endsHandleTest, openingTest as endsOpeningTest}
+use Rattle.threshold_answers.specs.Threshold.{readThresholdAnswer, writeThresholdAnswer, thresholdsAnswer}
 use Rattle.answers.specs.Wait.{waitAnswer}
-use Rattle.transfer_answers.specs.Write.{writeAnswer}
+use Rattle.write_answer.specs.Write.{writeAnswer}
 use Rattle.socket.specs.declared.Pair.{Pair}
 use Rattle.socket.specs.Pair.{isOne, endsOf, own, peer}
 use Rattle.socket.specs.Tests.{soundPair, soundTest, Lent, lentOf, slicesTest, tableTest, handleTest, openingTest}
 use Rattle.socket.specs.Disposition.{shutdownAnswer}
 use Rattle.socket.specs.Wait.{takeAnswer, closeAnswer}
 use Rattle.user_answers.specs.Lookup.{lookup}
-use Rattle.user_answers.specs.Write.{writeRanges, userWriteAnswer}
-use Rattle.user_answers.specs.Read.{userReadAnswer}
+use Rattle.user_write_answer.specs.Write.{writeRanges, userWriteAnswer}
+use Rattle.user_read_answer.specs.Read.{userReadAnswer}
 use Rattle.user_answers.specs.Control.{userDisposeAnswer, userShutdownAnswer}
 use Rattle.runs.specs.Calls.{Control, setDisposition, shutdown, plainDisposition, plainShutdown, setReadThreshold, setWriteThreshold, getThresholds, getInfo, wait, takePacket, Call, write, read, plainWrite, plainRead, close, control, Input}
 use Rattle.runs.specs.State.{State, state, ownSlices, Outcome}

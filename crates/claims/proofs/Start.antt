@@ -12,7 +12,7 @@ use Rattle.status.specs.Answer.{isDone}
 use Rattle.port.proofs.Sound.{sound-new}
 use Rattle.endpoint.specs.Endpoint.{newEnd}
 use Rattle.endpoint.specs.Queue.{shortTable, shortSlices}
-use Rattle.answers.specs.Create.{numbersAnswer, createAnswer}
+use Rattle.create_answer.specs.Create.{numbersAnswer, createAnswer}
 use Rattle.socket.specs.Pair.{newPair}
 use Rattle.runs.specs.Calls.{Create}
 use Rattle.runs.specs.State.{Slices, state}

@@ -13,7 +13,7 @@ use Rattle.status.specs.declared.Answer.{Answer}
 use Rattle.status.specs.declared.Answer.the-variants.{Done, Refused}
 use Rattle.status.specs.Choice.{pick}
 use Rattle.status.specs.Answer.{isDone}
-use Rattle.answers.specs.Create.{createAnswer}
+use Rattle.create_answer.specs.Create.{createAnswer}
 use Rattle.socket.specs.declared.Pair.{Pair}
 use Rattle.socket.specs.Pair.{isOne, newPair, noPair}
 use Rattle.socket.specs.Tests.{Lent}

@@ -14,7 +14,7 @@ use Rattle.ends.specs.declared.Moved.{Moved}
 use Rattle.ends.specs.declared.Outcome.{Outcome}
 use Rattle.ends.specs.Ends.{isOne, own, peer}
 use Rattle.ends.specs.Outcome.{noVisits, outcomeOf, keptEnds, unchangedEnds}
-use Rattle.ends.specs.Tests.{openingTest}
+use Rattle.ends_tests.specs.Tests.{openingTest}
 use Rattle.control.specs.Signal.{changedEnd, firstOnly}
 
 -- one change at a peer that is open: WRITABLE is cleared and PEER_CLOSED set

@@ -12,7 +12,7 @@ use Rattle.ends.specs.declared.Pending.{Pending}
 use Rattle.ends.specs.declared.Moved.{Moved}
 use Rattle.ends.specs.declared.Outcome.{Outcome}
 use Rattle.ends.specs.Ends.{isOne, own, peer}
-use Rattle.ends.specs.Tests.{openingTest}
+use Rattle.ends_tests.specs.Tests.{openingTest}
 use Rattle.control.specs.Signal.{changedEnd, firstOnly, movedIf}
 
 -- one end: with the flag read it gains PEER_WRITE_DISABLED, with the flag write it loses WRITABLE and gains WRITE_DISABLED; one change

@@ -47,7 +47,7 @@ fn close_outcome(waits: usize, one: bool, answer: Answer, moved: Moved) -> Outco
 pub fn close_ends(e: Ends, handle: u32) -> Outcome
     ensures { λ r. ⌜ r ≡ closeEnds e handle ⌝ }
 {
-    let a = ends::opening_test(e, handle);
+    let a = ends_tests::opening_test(e, handle);
     if !status::is_done(a) {
         return ends::unchanged(e, a);
     }

@@ -56,7 +56,7 @@ fn shut_moved(one: bool, own: Endpoint, peer: Endpoint, read: bool, write: bool)
 pub fn shutdown_ends(e: Ends, handle: u32, read: bool, write: bool) -> Outcome
     ensures { λ r. ⌜ r ≡ shutEnds e handle read write ⌝ }
 {
-    let a = ends::opening_test(e, handle);
+    let a = ends_tests::opening_test(e, handle);
     if !status::is_done(a) {
         return ends::unchanged(e, a);
     }

@@ -1,2 +1,1 @@
 pub mod Fieldwise
-pub mod Sound

@@ -1,8 +1,7 @@
 -- Both ends of a pair without its table of places. 01 "Status and answer word":
 --   Ends: an end by the caller's handle
---   Tests: the record, the slices lent, the handle. openingTest is the answer of shutdown and close.
 --   Outcome: what a call leaves of the two ends, and the changes of their words
--- The answers are in the crates answers, transfer_answers and user_answers.
+-- The tests that come before a call's own are in the crate ends_tests, the answers in the crates whose names end in `answer` or
+-- `answers`.
 pub mod Ends
-pub mod Tests
 pub mod Outcome

@@ -1,5 +1,4 @@
-// Both ends of a pair without its table of places: the tests that come before a call's own, and what a call leaves of the two ends.
-// After `Socket` of ipc/socket.rs.
+// Both ends of a pair without its table of places, and what a call leaves of the two ends. After `Socket` of ipc/socket.rs.
 use endpoint::Endpoint;
 use status::Answer;
 ghost use mathlib.Core.Path.{_≡_};
@@ -7,7 +6,6 @@ ghost use Rattle.ends.specs.Ends.{own, peer};
 
 mod change;
 mod choice;
-mod tests;
 
 pub use change::can_fire;
 pub use change::keeps_word;
@@ -16,12 +14,6 @@ pub use change::no_visits;
 pub use change::put_back;
 pub use change::unchanged;
 pub use choice::queue_if;
-pub use tests::handle_test;
-pub use tests::is_handle;
-pub use tests::opening_test;
-pub use tests::slices_test;
-pub use tests::sound_test;
-pub use tests::table_test;
 
 // What every answer but that of take is made of. It is small, so that it is passed on at little cost. `one` names an end throughout: true is end 1.
 pub struct Ends {

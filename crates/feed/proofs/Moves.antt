@@ -10,7 +10,8 @@ use Rattle.record.specs.declared.Decoded.{Decoded}
 use Rattle.record.specs.declared.Decoded.the-variants.{Whole, Bad, Cut}
 use Rattle.record.specs.Record.{recordOf}
 use Rattle.record.proofs.Records.{cases, full, bad-more, whole-more, body-more}
-use Rattle.feed.specs.Machine.{Machine, Move, stay, halt, go, moveBy, moveOf, isMisplaced, stepped, steppedState, stepLine}
+use Rattle.record.specs.Order.{isMisplaced}
+use Rattle.feed.specs.Machine.{Machine, Move, stay, halt, go, moveBy, moveOf, stepped, steppedState, stepLine}
 
 pub move-ended : (m : Machine) (s : List ℕ) → m .state .ended ≡ true → moveOf m s ≡ stay
 unfolding moveOf pick

@@ -32,7 +32,8 @@ use Rattle.plain_call.specs.Rings.{Rings, rings}
 use Rattle.delivered.specs.Delivered.{delivered, settled}
 use Rattle.call.specs.Call.{callOf}
 use Rattle.call.specs.Transfer.{CallDone}
-use Rattle.feed.specs.Machine.{Machine, machine, Move, stay, halt, go, moveOf, isMisplaced, isLast, steppedState, stepped, calledLine, stepLine}
+use Rattle.record.specs.Order.{isMisplaced, isLast}
+use Rattle.feed.specs.Machine.{Machine, machine, Move, stay, halt, go, moveOf, steppedState, stepped, calledLine, stepLine}
 use Rattle.feed.proofs.Moves.{move-ended, move-cut, move-bad, move-misplaced, move-step}
 use Rattle.feed.specs.Turn.{changedState, placed, nextOf, machineAfter, textOf, takenBy, goesOn, StepDone, StopDone, TurnDone}
 

@@ -1,17 +1,15 @@
 -- One move of the machine that a script drives. 01 "Script program".
 use Prim.Native.Nat.{ℕ, _+_}
-use mathlib.Core.Bool.{Bool, true, false, not}
+use mathlib.Core.Bool.{true, false}
 use mathlib.Core.List.{List}
 use lib.ListN.{take, drop, replicate}
-use lib.Dec.{eqb}
-use Rattle.status.specs.declared.Answer.{Answer}
-use Rattle.status.specs.Choice.{pick, _and_}
-use Rattle.status.specs.Answer.{isDone}
+use Rattle.status.specs.Choice.{pick}
 use Rattle.socket.specs.Pair.{noPair, shownBy}
 use Rattle.record.specs.declared.Decoded.{Decoded}
 use Rattle.record.specs.declared.Decoded.the-variants.{Whole, Bad, Cut}
 use Rattle.feed.specs.declared.State.{State}
-use Rattle.record.specs.Record.{CREATE, recordOf}
+use Rattle.record.specs.Record.{recordOf}
+use Rattle.record.specs.Order.{isMisplaced, isLast}
 use Rattle.line.specs.Line.{lineOf}
 use Rattle.plain_call.specs.Rings.{Rings, rings}
 use Rattle.call.specs.Transfer.{Called}
@@ -39,14 +37,6 @@ zeros = replicate 4096 0
 -- what a script finds before its first record
 unfoldable pub start : Machine
 start = machine startState zeros (rings zeros zeros zeros zeros)
-
--- 01 "Script program": create is first and only once
-unfoldable pub isMisplaced : (tag number : ℕ) → Bool
-isMisplaced tag number = pick (eqb number 0) (not (eqb tag CREATE)) (eqb tag CREATE)
-
--- 01 "Script program": a refused create ends the script
-unfoldable pub isLast : (tag : ℕ) → Answer → Bool
-isLast tag a = eqb tag CREATE and not (isDone a)
 
 -- after a call: its pair, one record more, and whether the script ends with it
 unfoldable pub steppedState : State → (tag : ℕ) → Called → State

@@ -18,7 +18,8 @@ use Rattle.socket.specs.Deferred.{withOutcome}
 use Rattle.pair_outcome.specs.PairOutcome.{withTable, nextPair}
 use Rattle.line.specs.Line.{LINE}
 use Rattle.plain_call.specs.Rings.{Rings}
-use Rattle.feed.specs.Machine.{Machine, machine, isMisplaced, stepped, stepLine, stoppedState, Move, stay, halt, go}
+use Rattle.record.specs.Order.{isMisplaced}
+use Rattle.feed.specs.Machine.{Machine, machine, stepped, stepLine, stoppedState, Move, stay, halt, go}
 
 -- the numbers that a block may begin with are a quarter of what 64 bits count, so that sums of two of them fit
 abbrev pub LIMIT : ℕ

@@ -16,7 +16,7 @@ ghost use Rattle.pair_outcome.specs.PairOutcome.{rebuildsTable};
 ghost use Rattle.line.specs.Line.{LINE, lineOf};
 ghost use Rattle.plain_call.specs.Rings.{rings};
 ghost use Rattle.delivered.specs.Delivered.{delivered};
-ghost use Rattle.feed.specs.Machine.{machine, isMisplaced, isLast, moveOf};
+ghost use Rattle.feed.specs.Machine.{machine, moveOf};
 ghost use Rattle.feed.specs.Turn.{LIMIT, changedState, withEndsState, withTableState, nextOf, StepMay, StepDone, StopDone, TurnMay, TurnDone};
 
 // What a move leaves of the state: what its call leaves of the pair, how many records have been run, and whether the script has ended.
@@ -38,24 +38,6 @@ pub struct Turned {
     pub from: usize,
     pub at: usize,
     pub more: bool,
-}
-
-fn is_last(tag: u8, a: Answer) -> bool
-    ensures { λ r. ⌜ r ≡ isLast tag a ⌝ }
-{
-    if tag == 0 {
-        return !status::is_done(a);
-    }
-    false
-}
-
-fn is_misplaced(tag: u8, number: u64) -> bool
-    ensures { λ r. ⌜ r ≡ isMisplaced tag number ⌝ }
-{
-    if number == 0 {
-        return tag != 0;
-    }
-    tag == 0
 }
 
 // The line of a call, before the count of a read lands.
@@ -117,7 +99,7 @@ fn step(
         change: StateChange {
             pair: d,
             number: st.number + 1,
-            ended: is_last(tag, a),
+            ended: record::is_last(tag, a),
         },
         at: to,
     }
@@ -162,7 +144,7 @@ fn next(ended: bool, number: u64, input: &[u8], from: usize) -> Decoded
         Decoded::Cut => Decoded::Cut,
         Decoded::Bad => Decoded::Bad,
         Decoded::Whole(tag, n) => {
-            if is_misplaced(tag, number) {
+            if record::is_misplaced(tag, number) {
                 return Decoded::Bad;
             }
             Decoded::Whole(tag, n)

@@ -41,9 +41,9 @@ use Rattle.ends.proofs.Ends.Laws as E′
 use Rattle.status.proofs.Answer as N
 use Rattle.status.proofs.Answer.Laws as N′
 use Rattle.answers.specs.Wait.{waitAnswer as waitAnswerOf}
-use Rattle.control.specs.Disposition.{disposeEnds}
+use Rattle.control_disposition.specs.Disposition.{disposeEnds}
 use Rattle.control.specs.Shutdown.{shutEnds}
-use Rattle.control.specs.Threshold.{readThresholdEnds, writeThresholdEnds}
+use Rattle.control_threshold.specs.Threshold.{readThresholdEnds, writeThresholdEnds}
 use Rattle.control.specs.Close.{closeEnds}
 use Rattle.socket.specs.Pair.{own, endsOf}
 use Rattle.syscall.specs.Control.{dispositionOf}
@@ -51,8 +51,8 @@ use Rattle.syscall.specs.Ends.{userDisposeEnds, userShutEnds}
 use Rattle.socket.proofs.ends_of as ends
 use Rattle.answers.proofs.wait_answer as wait-answer
 use Rattle.control.proofs.shutdown_ends as shutdown-ends
-use Rattle.control.proofs.read_threshold_ends as read-threshold-ends
-use Rattle.control.proofs.write_threshold_ends as write-threshold-ends
+use Rattle.control_threshold.proofs.read_threshold_ends as read-threshold-ends
+use Rattle.control_threshold.proofs.write_threshold_ends as write-threshold-ends
 use Rattle.control.proofs.close_ends as close-ends
 use Rattle.host_values.proofs.dispose_ends as dispose-ends
 use Rattle.syscall.proofs.dispose_ends as user-dispose-ends

@@ -4,7 +4,7 @@ use socket::Pair;
 ghost use mathlib.Core.Path.{_≡_};
 ghost use lib.ListN.{length};
 ghost use lib.Dec.{eqb};
-ghost use Rattle.answers.specs.Create.{createAnswer};
+ghost use Rattle.create_answer.specs.Create.{createAnswer};
 ghost use Rattle.socket.specs.Pair.{isOne, newPair, shownBy};
 ghost use Rattle.socket.specs.Tests.{Steps};
 ghost use Rattle.socket.specs.Write.{Wrote};
@@ -58,7 +58,7 @@ pub extern "C" fn murgwethan_write(
 ) -> i64
     ensures { λ w. ⌜ Answered (Wrote (now (p .entry)) handle (now (bytes .entry)) (now (ring .entry)) (now (ring .exit)) (now (table .entry)) (now (table .exit))) (now (p .exit)) w ⌝ }
 {
-    let t = transfer::write_transfer(socket::ends_of(*p), handle, ring, table, bytes);
+    let t = transfer_write::write_transfer(socket::ends_of(*p), handle, ring, table, bytes);
     kept_pair::wrote(p, handle, t)
 }
 
@@ -74,7 +74,7 @@ pub extern "C" fn murgwethan_read(
 ) -> i64
     ensures { λ w. ⌜ Answered (Read (now (p .entry)) handle peek (now (ring .entry)) (now (table .entry)) (now (buffer .entry)) (now (buffer .exit))) (now (p .exit)) w ⌝ }
 {
-    let t = transfer::read_transfer(socket::ends_of(*p), handle, peek, ring, table, buffer);
+    let t = transfer_read::read_transfer(socket::ends_of(*p), handle, peek, ring, table, buffer);
     kept_pair::read(p, handle, t)
 }
 
@@ -106,7 +106,7 @@ pub extern "C" fn murgwethan_shutdown(p: &mut Pair, handle: u32, read: bool, wri
 pub extern "C" fn murgwethan_set_read_threshold(p: &mut Pair, handle: u32, threshold: u64) -> i64
     ensures { λ w. ⌜ Answered (Steps (now (p .entry)) (readThresholdAnswer (now (p .entry)) handle threshold) (readThresholdSet (isOne handle) threshold (now (p .entry)))) (now (p .exit)) w ⌝ }
 {
-    let r = control::read_threshold_ends(socket::ends_of(*p), handle, threshold);
+    let r = control_threshold::read_threshold_ends(socket::ends_of(*p), handle, threshold);
     kept_pair::outcome(p, r)
 }
 
@@ -115,7 +115,7 @@ pub extern "C" fn murgwethan_set_read_threshold(p: &mut Pair, handle: u32, thres
 pub extern "C" fn murgwethan_set_write_threshold(p: &mut Pair, handle: u32, threshold: u64) -> i64
     ensures { λ w. ⌜ Answered (Steps (now (p .entry)) (writeThresholdAnswer (now (p .entry)) handle threshold) (writeThresholdSet (isOne handle) threshold (now (p .entry)))) (now (p .exit)) w ⌝ }
 {
-    let r = control::write_threshold_ends(socket::ends_of(*p), handle, threshold);
+    let r = control_threshold::write_threshold_ends(socket::ends_of(*p), handle, threshold);
     kept_pair::outcome(p, r)
 }
 

@@ -11,11 +11,11 @@ ghost use mathlib.Core.Path.{_≡_};
 ghost use mathlib.Core.List.{[]};
 ghost use Rattle.socket.specs.Pair.{isOne, own, shownBy};
 ghost use Rattle.socket.specs.Tests.{lentOf};
-ghost use Rattle.control.specs.Disposition.{disposeEnds};
+ghost use Rattle.control_disposition.specs.Disposition.{disposeEnds};
 ghost use Rattle.socket.specs.Info.{infoAnswer};
 ghost use Rattle.socket.specs.Threshold.{thresholdsAnswer};
 ghost use Rattle.socket.specs.Wait.{takeAnswer};
-ghost use Rattle.answers.specs.Create.{createAnswer};
+ghost use Rattle.create_answer.specs.Create.{createAnswer};
 ghost use lib.ListN.{length};
 ghost use Rattle.user_answers.specs.Control.{dispositionOf};
 ghost use Rattle.host_values.specs.Signal.{signalNumber};
@@ -25,7 +25,7 @@ ghost use Rattle.host_values.specs.Records.{thresholdNumbers, infoNumber
 pub fn dispose_ends(e: Ends, handle: u32, disposition: u32, peer_disposition: u32) -> Outcome
     ensures { λ r. ⌜ r ≡ disposeEnds e handle (dispositionOf disposition) (dispositionOf «peer_disposition») ⌝ }
 {
-    control::dispose_ends(
+    control_disposition::dispose_ends(
         e,
         handle,
         disposition_of(disposition),
@@ -153,7 +153,7 @@ pub fn create_answer(
 ) -> Answer
     ensures { λ a. ⌜ a ≡ createAnswer kind capacity «rights_one» «rights_two» (length (now («ring_one» .entry))) (length (now («table_one» .entry))) (length (now («ring_two» .entry))) (length (now («table_two» .entry))) ⌝ }
 {
-    answers::create_answer(
+    create_answer::create_answer(
         kind,
         capacity,
         rights_one,

@@ -29,7 +29,8 @@ use Rattle.status.specs.Choice.{pick as choose}
 use Rattle.status.specs.Answer.{answerWord}
 use Rattle.ends.specs.declared.Outcome.{Outcome}
 use Rattle.transfer.specs.declared.Transfer.{Transfer}
-use Rattle.transfer.specs.Transfer.{wroteBy, readBy}
+use Rattle.transfer_write.specs.Transfer.{wroteBy}
+use Rattle.transfer_read.specs.Transfer.{readBy}
 use Rattle.socket.specs.declared.Pair.{Pair}
 use Rattle.socket.proofs.Pair as T
 use Rattle.socket.proofs.Pair.Laws as T′
@@ -39,7 +40,7 @@ use Rattle.transfer.proofs.Transfer as X
 use Rattle.transfer.proofs.Transfer.Laws as X′
 use Rattle.places.specs.Table.{onlyWait}
 use Rattle.socket.specs.Pair.{isOne, own, endsOf}
-use Rattle.socket.specs.Transferred.{wrotePair, transferredPair, writeWithoutVisit, readWithoutVisit}
+use Rattle.transferred.specs.Transferred.{wrotePair, transferredPair, writeWithoutVisit, readWithoutVisit}
 use Rattle.socket.specs.Deferred.{needsVisit, visitedAll, withOutcome, withoutWaits}
 use Rattle.kept_pair.proofs.outcome_word as outcome-word
 use Rattle.kept_pair.proofs.fires as fires
@@ -52,10 +53,10 @@ use Rattle.socket.proofs.close_waits as by-value-close-waits
 use Rattle.kept_pair.proofs.transfer_word as transfer-word
 use Rattle.kept_pair.proofs.is_write_without_visit as is-write-without-visit
 use Rattle.kept_pair.proofs.write_outcome as write-outcome
-use Rattle.socket.proofs.with_write as with-write
+use Rattle.transferred.proofs.with_write as with-write
 use Rattle.kept_pair.proofs.is_read_without_visit as is-read-without-visit
 use Rattle.kept_pair.proofs.read_outcome as read-outcome
-use Rattle.socket.proofs.with_read as with-read
+use Rattle.transferred.proofs.with_read as with-read
 use Rattle.kept_pair.proofs.outcome as outcome
 use Rattle.kept_pair.proofs.visit as visit
 use Rattle.kept_pair.proofs.close_waits as close-waits

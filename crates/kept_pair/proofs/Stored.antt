@@ -10,13 +10,14 @@ use Rattle.places.specs.Table.{onlyWait}
 use Rattle.ends.specs.declared.Outcome.{Outcome}
 use Rattle.socket.specs.declared.Pair.{Pair}
 use Rattle.transfer.specs.declared.Transfer.{Transfer}
-use Rattle.transfer.specs.Transfer.{fedMoved, wroteBy, drainedMoved, readBy}
+use Rattle.transfer_write.specs.Transfer.{fedMoved, wroteBy}
+use Rattle.transfer_read.specs.Transfer.{drainedMoved, readBy}
 use Rattle.ends.specs.declared.Ends.{Ends}
 use Rattle.ends.specs.Ends.{own as end-own, peer}
 use Rattle.ends.specs.Outcome.{noVisits, outcomeOf, unchangedEnds}
 use Rattle.socket.specs.Pair.{isOne, endsOf}
-use Rattle.socket.specs.Transferred.{transferredPair, wrotePair, writeWithoutVisit, readWithoutVisit}
-use Rattle.socket.proofs.NoVisit.{no-visit-wrote, no-visit-read}
+use Rattle.transferred.specs.Transferred.{transferredPair, wrotePair, writeWithoutVisit, readWithoutVisit}
+use Rattle.transferred.proofs.NoVisit.{no-visit-wrote, no-visit-read}
 use Rattle.socket.specs.Deferred.{needsVisit, visitedAll, withOutcome, settled, withoutWaits, closedWaits, settledClose}
 use Rattle.socket.proofs.Needed.{need}
 use Rattle.socket.proofs.Closed.{closed-later}

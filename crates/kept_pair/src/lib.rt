@@ -8,9 +8,10 @@ ghost use mathlib.Core.Path.{_≡_};
 ghost use lib.Dec.{eqb};
 ghost use Rattle.status.specs.Choice.{pick};
 ghost use Rattle.status.specs.Answer.{answerWord};
-ghost use Rattle.transfer.specs.Transfer.{wroteBy, readBy};
+ghost use Rattle.transfer_write.specs.Transfer.{wroteBy};
+ghost use Rattle.transfer_read.specs.Transfer.{readBy};
 ghost use Rattle.socket.specs.Pair.{isOne, endsOf};
-ghost use Rattle.socket.specs.Transferred.{writeWithoutVisit, readWithoutVisit};
+ghost use Rattle.transferred.specs.Transferred.{writeWithoutVisit, readWithoutVisit};
 ghost use Rattle.socket.specs.Deferred.{visitedAll, settled, closedWaits, settledClose};
 
 // The word of an outcome's answer.
@@ -63,28 +64,28 @@ fn transfer_word(t: Transfer) -> i64
 fn is_write_without_visit(p: Pair, handle: u32, t: Transfer) -> bool
     ensures { λ r. ⌜ r ≡ writeWithoutVisit handle t p ⌝ }
 {
-    transfer::is_write_without_visit(socket::ends_of(p), handle, t)
+    transfer_write::is_write_without_visit(socket::ends_of(p), handle, t)
 }
 
 // Whether bytes left by a read whose peer is open, and no wait can fire.
 fn is_read_without_visit(p: Pair, handle: u32, t: Transfer) -> bool
     ensures { λ r. ⌜ r ≡ readWithoutVisit handle t p ⌝ }
 {
-    transfer::is_read_without_visit(socket::ends_of(p), handle, t)
+    transfer_read::is_read_without_visit(socket::ends_of(p), handle, t)
 }
 
 // The outcome of a write.
 fn write_outcome(p: Pair, handle: u32, t: Transfer) -> Outcome
     ensures { λ r. ⌜ r ≡ wroteBy (endsOf p) handle t ⌝ }
 {
-    transfer::write_outcome(socket::ends_of(p), handle, t)
+    transfer_write::write_outcome(socket::ends_of(p), handle, t)
 }
 
 // The outcome of a read.
 fn read_outcome(p: Pair, handle: u32, t: Transfer) -> Outcome
     ensures { λ r. ⌜ r ≡ readBy (endsOf p) handle t ⌝ }
 {
-    transfer::read_outcome(socket::ends_of(p), handle, t)
+    transfer_read::read_outcome(socket::ends_of(p), handle, t)
 }
 
 // Both ends after a write; then the waits are visited. Where bytes went in and no wait can fire, what changes is put into the pair without an outcome.
@@ -93,7 +94,7 @@ pub fn wrote(p: &mut Pair, handle: u32, t: Transfer) -> i64
 {
     let w = transfer_word(t);
     if is_write_without_visit(*p, handle, t) {
-        *p = socket::with_write(*p, handle, t);
+        *p = transferred::with_write(*p, handle, t);
     } else {
         let r = write_outcome(*p, handle, t);
         outcome(p, r);
@@ -107,7 +108,7 @@ pub fn read(p: &mut Pair, handle: u32, t: Transfer) -> i64
 {
     let w = transfer_word(t);
     if is_read_without_visit(*p, handle, t) {
-        *p = socket::with_read(*p, handle, t);
+        *p = transferred::with_read(*p, handle, t);
     } else {
         let r = read_outcome(*p, handle, t);
         outcome(p, r);

@@ -8,7 +8,7 @@ use lib.Dec.{ltb, eqb}
 use Rattle.status.specs.declared.Answer.{Answer}
 use Rattle.status.specs.Choice.{pick}
 use Rattle.status.specs.Answer.{isDone}
-use Rattle.answers.specs.Create.{createAnswer}
+use Rattle.create_answer.specs.Create.{createAnswer}
 use Rattle.socket.specs.declared.Pair.{Pair}
 use Rattle.socket.specs.declared.Step.{Step}
 use Rattle.socket.specs.Pair.{isOne, own, newPair, noPair}

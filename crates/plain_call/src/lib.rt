@@ -64,7 +64,7 @@ fn set_read_threshold(p: Pair, body: &[u8]) -> PairOutcome
 {
     let handle = fields::u32_at(body, 0);
     let threshold = fields::u64_at(body, 4);
-    visits(control::read_threshold_ends(ends_of(p), handle, threshold))
+    visits(control_threshold::read_threshold_ends(ends_of(p), handle, threshold))
 }
 
 fn set_write_threshold(p: Pair, body: &[u8]) -> PairOutcome
@@ -72,7 +72,7 @@ fn set_write_threshold(p: Pair, body: &[u8]) -> PairOutcome
 {
     let handle = fields::u32_at(body, 0);
     let threshold = fields::u64_at(body, 4);
-    visits(control::write_threshold_ends(ends_of(p), handle, threshold))
+    visits(control_threshold::write_threshold_ends(ends_of(p), handle, threshold))
 }
 
 // Info is lent the table of its own end.

@@ -1,8 +1,12 @@
-// A record of a script: what the bytes at hand begin with, and the fields of its body.
+// A record of a script: what the bytes at hand begin with, the fields of its body, where a create may stand, and which record ends a script.
 ghost use mathlib.Core.Path.{_≡_};
 ghost use Rattle.record.specs.Record.{isBody, recordOf};
 
 pub mod fields;
+mod order;
+
+pub use order::is_last;
+pub use order::is_misplaced;
 
 // A record that is all there, with its tag and the length of its body; one that no further bytes make good; one that may be cut.
 pub enum Decoded {

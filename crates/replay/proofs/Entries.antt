@@ -3,18 +3,20 @@ use Prim.Native.Nat.{ℕ, _+_, _≤_, _<_}
 use mathlib.Core.Bool.{Bool, true, false}
 use native.Mathlib.Omega.{arith}
 use mathlib.Core.Path.{_≡_, refl, sym, subst, _∙_}
-use borrow.Author.Tests.{lt-ltb, le-ltb, ltb-true, ltb-false}
+use borrow.Author.Tests.{ltb-true, ltb-false}
 use lib.Dec.{ltb}
 use Rattle.status.specs.Choice.{pick}
 use mathlib.Core.List.{List, _++_}
 use lib.ListN.{length}
 use Rattle.feed.specs.Machine.{start}
 use Rattle.script.specs.Listing.{header, run, listing}
-use Rattle.replay.specs.declared.entry.Outcome.{Outcome}
-use Rattle.replay.specs.declared.entry.Outcome.the-variants.{Agrees, DiffersAt, NoRoom}
+use Rattle.tally.specs.declared.Outcome.{Outcome}
+use Rattle.tally.specs.declared.Outcome.the-variants.{Agrees, DiffersAt, NoRoom}
+use Rattle.tally.specs.declared.Tally.{Tally}
+use Rattle.tally.specs.Count.{missed, countedOf}
+use Rattle.tally.proofs.Counts.{counted-again, counted-first}
 use Rattle.replay.specs.declared.entry.Replayed.{Replayed}
-use Rattle.replay.specs.declared.entry.Tally.{Tally}
-use Rattle.replay.specs.Entry.{fieldEnd, entryEnd, bytesOf, FirstDifference, Compares, EntryIn, Agreement, firstName, noTally, missed, countedOf, Tallied, begun, next, AllAgree, FirstMissed, Replays, AgreeTo}
+use Rattle.replay.specs.Entry.{fieldEnd, entryEnd, bytesOf, FirstDifference, Compares, EntryIn, Agreement, firstName, noTally, Tallied, begun, next, AllAgree, FirstMissed, Replays, AgreeTo}
 
 -- what is cut in the second field, or in the third, is a cut entry
 pub cut-second : (s : List ℕ) (at nameEnd : ℕ) → nameEnd ≡ fieldEnd s at → length s < fieldEnd s nameEnd → length s < entryEnd s at
@@ -37,32 +39,8 @@ agreement room s at scriptEnd end text Agrees e h = sym e ∙ h
 agreement room s at scriptEnd end text (DiffersAt i) e h = subst (λ (x : List ℕ). FirstDifference x (bytesOf s scriptEnd end) i) e h
 agreement room s at scriptEnd end text NoRoom e h = absurd h
 
--- ---- what is counted
+-- ---- what the loop needs of a tally
 
-pub counted-agrees : (t : Tally) (from to : ℕ) (o : Outcome) → o ≡ Agrees
-    → record { total = t .total + 1; agree = t .agree + 1; number = t .number; from = t .from; to = t .to; first = t .first } ≡ countedOf t from to o
-unfolding countedOf
-counted-agrees t from to Agrees e = refl
-counted-agrees t from to (DiffersAt i) e = absurd (let z : _≡_ {A = ℕ} 0 1 = cc in omega arith)
-counted-agrees t from to NoRoom e = absurd (let z : _≡_ {A = ℕ} 0 1 = cc in omega arith)
-
-missed-is : (t : Tally) (from to : ℕ) (o : Outcome) → (o ≡ Agrees → ⊥) → missed t from to o ≡ countedOf t from to o
-unfolding countedOf
-missed-is t from to Agrees h = absurd (h refl)
-missed-is t from to (DiffersAt i) h = refl
-missed-is t from to NoRoom h = refl
-
-pub counted-again : (t : Tally) (from to : ℕ) (o : Outcome) → (o ≡ Agrees → ⊥) → t .agree < t .total
-    → record { total = t .total + 1; agree = t .agree; number = t .number; from = t .from; to = t .to; first = t .first } ≡ countedOf t from to o
-unfolding missed pick
-counted-again t from to o h g = rw (← missed-is t from to o h, lt-ltb (t .agree) (t .total) g) refl
-
-pub counted-first : (t : Tally) (from to : ℕ) (o : Outcome) → (o ≡ Agrees → ⊥) → t .total ≤ t .agree
-    → record { total = t .total + 1; agree = t .agree; number = t .total; from = from; to = to; first = o } ≡ countedOf t from to o
-unfolding missed pick
-counted-first t from to o h g = rw (← missed-is t from to o h, le-ltb (t .agree) (t .total) g) refl
-
--- what the loop needs of a tally
 pub counted-total : (t : Tally) (from to : ℕ) (o : Outcome) → countedOf t from to o .total ≡ t .total + 1
 unfolding countedOf missed
 counted-total t from to Agrees = refl

@@ -4,21 +4,20 @@ use Prim.Native.Nat.{ℕ, _+_, _-_, _≤_, _<_}
 use mathlib.Core.Path.{_≡_}
 use mathlib.Core.List.{List}
 use lib.ListN.{length, take, drop, getD}
-use lib.Dec.{ltb}
-use Rattle.status.specs.Choice.{pick}
 use Rattle.record.specs.Fields.{four}
 use Rattle.text.specs.Put.{place}
 use Rattle.line.specs.Line.{LINE}
 use Rattle.feed.specs.Machine.{start}
 use Rattle.script.specs.Listing.{listing}
 use Rattle.listing.specs.Ran.{ranText}
+use Rattle.tally.specs.declared.Outcome.{Outcome}
+use Rattle.tally.specs.declared.Outcome.the-variants.{Agrees, DiffersAt, NoRoom}
+use Rattle.tally.specs.declared.Tally.{Tally}
+use Rattle.tally.specs.Count.{countedOf}
 use Rattle.replay.specs.declared.entry.Field.{Field}
 use Rattle.replay.specs.declared.entry.Field.the-variants as Field
 use Rattle.replay.specs.declared.entry.Found.{Found}
 use Rattle.replay.specs.declared.entry.Found.the-variants as Found
-use Rattle.replay.specs.declared.entry.Outcome.{Outcome}
-use Rattle.replay.specs.declared.entry.Outcome.the-variants.{Agrees, DiffersAt, NoRoom}
-use Rattle.replay.specs.declared.entry.Tally.{Tally}
 use Rattle.replay.specs.declared.entry.Replayed.{Replayed}
 
 -- where a field ends that begins at a place: four bytes with its length, and so many bytes
@@ -90,25 +89,6 @@ firstName s t = take (t .to - t .from) (drop (t .from) s)
 -- the tally before any entry
 unfoldable pub noTally : Tally
 noTally = record { total = 0; agree = 0; number = 0; from = 0; to = 0; first = Agrees }
-
--- an entry is counted that does not agree, and whose name begins and ends at two places: it is the first such if all before it agree
-unfoldable pub missed : Tally → (from to : ℕ) → Outcome → Tally
-missed t from to o =
-    record {
-      total = t .total + 1;
-      agree = t .agree;
-      number = pick (ltb (t .agree) (t .total)) (t .number) (t .total);
-      from = pick (ltb (t .agree) (t .total)) (t .from) from;
-      to = pick (ltb (t .agree) (t .total)) (t .to) to;
-      first = pick (ltb (t .agree) (t .total)) (t .first) o;
-    }
-
--- one entry more is counted
-unfoldable pub countedOf : Tally → (from to : ℕ) → Outcome → Tally
-countedOf t from to Agrees =
-    record { total = t .total + 1; agree = t .agree + 1; number = t .number; from = t .from; to = t .to; first = t .first }
-countedOf t from to (DiffersAt i) = missed t from to (DiffersAt i)
-countedOf t from to NoRoom = missed t from to NoRoom
 
 -- the tally of the entries before a place, and the buffer after them: each, from the first on, is run and counted. Its name lies behind its length
 pub data Tallied (s out₀ : List ℕ) : ℕ → Tally → List ℕ → Type 0 where

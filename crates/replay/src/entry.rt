@@ -1,10 +1,12 @@
 // The stored entries, each a name, a script and its listing: where they lie in the input, whether they agree, how many do, and where the name of
 // the first lies that does not.
+use tally::Outcome;
+use tally::Tally;
 ghost use Prim.Native.Nat.{_+_, _≤_, _<_};
 ghost use mathlib.Core.Path.{_≡_};
 ghost use lib.ListN.{length};
 ghost use Rattle.record.specs.Fields.{four};
-ghost use Rattle.replay.specs.Entry.{FieldAt, EntryAt, ScriptIn, Compares, EntryRun, AgreeTo, countedOf};
+ghost use Rattle.replay.specs.Entry.{FieldAt, EntryAt, ScriptIn, Compares, EntryRun, AgreeTo};
 
 // Where a field ends: its length and its bytes.
 enum Field {
@@ -16,23 +18,6 @@ enum Field {
 enum Found {
     Whole(usize, usize, usize),
     Cut,
-}
-
-pub enum Outcome {
-    Agrees,
-    DiffersAt(usize),
-    NoRoom,
-}
-
-// How many entries were run, how many agree, and the first that does not: its number from 0, where its name begins and ends in the input, and its
-// outcome.
-pub struct Tally {
-    pub total: u64,
-    pub agree: u64,
-    pub number: u64,
-    pub from: usize,
-    pub to: usize,
-    pub first: Outcome,
 }
 
 // The tally, and where in the input the entries end that were run.
@@ -122,44 +107,6 @@ fn replay_entry(s: &[u8], name_end: usize, script_end: usize, end: usize, out: &
     compare(&out[0..n], &s[listing..end])
 }
 
-// One entry more is counted, whose name begins and ends at the two places.
-fn counted(t: Tally, from: usize, to: usize, o: Outcome) -> Tally
-    requires { ⌜ (t .total < 9223372036854775808) × (t .agree ≤ t .total) ⌝ }
-    ensures { λ r. ⌜ r ≡ countedOf t from to o ⌝ }
-{
-    let first = t.first;
-    match o {
-        Outcome::Agrees => Tally {
-            total: t.total + 1,
-            agree: t.agree + 1,
-            number: t.number,
-            from: t.from,
-            to: t.to,
-            first,
-        },
-        Outcome::DiffersAt(_) | Outcome::NoRoom => {
-            if t.agree < t.total {
-                return Tally {
-                    total: t.total + 1,
-                    agree: t.agree,
-                    number: t.number,
-                    from: t.from,
-                    to: t.to,
-                    first,
-                };
-            }
-            Tally {
-                total: t.total + 1,
-                agree: t.agree,
-                number: t.total,
-                from,
-                to,
-                first: o,
-            }
-        }
-    }
-}
-
 // Runs the entries from the start of the input, until its end or an entry that is cut.
 pub fn replay(s: &[u8], out: &mut [u8]) -> Replayed
     ensures { λ r. ⌜ AgreeTo (now (s .entry)) (now (out .entry)) (now (out .exit)) r ⌝ }
@@ -180,7 +127,7 @@ pub fn replay(s: &[u8], out: &mut [u8]) -> Replayed
             }
             Found::Whole(name_end, script_end, end) => {
                 let o = replay_entry(s, name_end, script_end, end, out);
-                t = counted(t, at + 4, name_end, o);
+                t = tally::counted(t, at + 4, name_end, o);
                 at = end;
             }
         }

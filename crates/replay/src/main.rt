@@ -5,7 +5,7 @@
 mod entry;
 mod report;
 
-use crate::entry::Tally;
+use tally::Tally;
 ghost use Prim.Native.Nat.{_≤_};
 ghost use mathlib.Core.Path.{_≡_};
 ghost use lib.ListN.{length, take};

@@ -1,6 +1,6 @@
 // What the program writes.
-use crate::entry::Outcome;
-use crate::entry::Tally;
+use tally::Outcome;
+use tally::Tally;
 
 const STDOUT: i32 = 1;
 

@@ -8,7 +8,7 @@ use lib.Dec.{eqb}
 use Rattle.status.specs.declared.Answer.{Answer}
 use Rattle.status.specs.Answer.{countOf}
 use Rattle.endpoint.specs.declared.Disposition.{Disposition}
-use Rattle.answers.specs.Create.{createAnswer}
+use Rattle.create_answer.specs.Create.{createAnswer}
 use Rattle.socket.specs.declared.Step.{Step}
 use Rattle.socket.specs.Pair.{isOne, own, newPair, noPair}
 use Rattle.socket.specs.Tests.{lentOf, Steps}

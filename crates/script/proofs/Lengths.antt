@@ -30,7 +30,8 @@ use Rattle.delivered.specs.Delivered.{BASE, delivered, settled}
 use Rattle.plain_call.specs.Rings.{Rings, ownRing, ownTable, peerRing, peerTable}
 use Rattle.call.specs.Transfer.{Called, writeAnswerOf, wroteBy, writeCall, readAnswerOf, gotBy, readCall, filled, fillCall}
 use Rattle.call.specs.Call.{callOf}
-use Rattle.feed.specs.Machine.{Machine, Move, stay, halt, go, moveBy, moveOf, isMisplaced, stepped, calledLine, stepLine}
+use Rattle.record.specs.Order.{isMisplaced}
+use Rattle.feed.specs.Machine.{Machine, Move, stay, halt, go, moveBy, moveOf, stepped, calledLine, stepLine}
 use Rattle.feed.specs.Turn.{machineAfter}
 use Rattle.feed.specs.Feed.{Block, noBlock, fedMove, fedBy, fedFrom}
 

@@ -27,7 +27,7 @@ use Rattle.ends.specs.declared.Pending.{Pending}
 use Rattle.ends.specs.declared.Visits.{Visits}
 use Rattle.ends.specs.declared.Outcome.{Outcome}
 use Rattle.ends.specs.Outcome.{noVisit, noVisits, outcomeOf, keptEnds, unchangedEnds}
-use Rattle.ends.proofs.Sound.{opening-passed}
+use Rattle.ends_tests.proofs.Sound.{opening-passed}
 use Rattle.control.specs.Signal.{changedEnd, firstOnly}
 use Rattle.control.specs.Close.{closeVisit, closeMoved, closeOutcome, closeEnds}
 use Rattle.socket.specs.declared.Pair.{Pair}

@@ -15,10 +15,10 @@ use Rattle.ends.specs.declared.Pending.{Pending}
 use Rattle.ends.specs.declared.Moved.{Moved}
 use Rattle.ends.specs.Outcome.{keptEnds}
 use Rattle.control.specs.Signal.{bitVisit, changedEnd, firstOnly}
-use Rattle.control.specs.Disposition.{writingVisit, ownDisposed, peerDisposed, ownMoved, peerMoved}
+use Rattle.control_disposition.specs.Disposition.{writingVisit, ownDisposed, peerDisposed, ownMoved, peerMoved}
 use Rattle.control.specs.Shutdown.{shutVisit, shutMoved}
 use Rattle.control.specs.Shutdown as C
-use Rattle.control.specs.Threshold.{readThresholdMoved, writeThresholdMoved}
+use Rattle.control_threshold.specs.Threshold.{readThresholdMoved, writeThresholdMoved}
 use Rattle.socket.specs.declared.Pair.{Pair}
 use Rattle.socket.specs.Pair.{own, peer, withEnd, withPlaces, withChange, signalChange, putBit, switchReading}
 use Rattle.socket.specs.Disposition.{switchWriting, disposeOwn, disposePeer, disposedOwn, disposedPeer, disposed, shutEnd, shut}

@@ -16,8 +16,8 @@ use Rattle.ends.specs.declared.Moved.{Moved}
 use Rattle.ends.specs.declared.Outcome.{Outcome}
 use Rattle.ends.specs.Outcome.{canFire, anyFires, outcomeOf, unchangedEnds}
 use Rattle.answers.specs.Disposition as E
-use Rattle.ends.proofs.Sound.{opening-passed}
-use Rattle.control.specs.Disposition.{ownMoved, peerMoved, disposedEnds, disposeEnds}
+use Rattle.ends_tests.proofs.Sound.{opening-passed}
+use Rattle.control_disposition.specs.Disposition.{ownMoved, peerMoved, disposedEnds, disposeEnds}
 use Rattle.socket.specs.declared.Pair.{Pair}
 use Rattle.socket.specs.declared.Step.{Step}
 use Rattle.socket.specs.Pair.{isOne, own, peer, endsOf, withPlaces}

@@ -6,4 +6,3 @@ pub mod Settled
 pub mod Disposed
 pub mod Closed
 pub mod Waits
-pub mod NoVisit

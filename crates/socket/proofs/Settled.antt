@@ -15,22 +15,22 @@ use Rattle.endpoint.specs.Queue.{firstLength}
 use Rattle.ends.specs.declared.Ends.{Ends}
 use Rattle.ends.specs.declared.Moved.{Moved}
 use Rattle.ends.specs.declared.Outcome.{Outcome}
-use Rattle.ends.specs.Tests.{lentOf}
+use Rattle.ends_tests.specs.Tests.{lentOf}
 use Rattle.ends.specs.Outcome.{keptEnds, unchangedEnds}
-use Rattle.transfer.specs.Write.{fedEnds, wroteEnds, EndsWrote}
-use Rattle.transfer_answers.specs.Write as W
-use Rattle.transfer.specs.Read.{leaving, drainedEnds, readEnds, EndsRead}
-use Rattle.transfer_answers.specs.Read as R
+use Rattle.transfer_write.specs.Write.{fedEnds, wroteEnds, EndsWrote}
+use Rattle.write_answer.specs.Write as W
+use Rattle.transfer_read.specs.Read.{leaving, drainedEnds, readEnds, EndsRead}
+use Rattle.read_answer.specs.Read as R
 use Rattle.socket.specs.declared.Pair.{Pair}
 use Rattle.socket.specs.declared.Step.{Step}
 use Rattle.socket.specs.Pair.{isOne, own, peer, endsOf}
 use Rattle.socket.specs.Write.{wrote, pairWritten, Wrote}
 use Rattle.socket.specs.Read.{consumed, pairRead, Read}
-use Rattle.answers.specs.Threshold.{readThresholdAnswer, writeThresholdAnswer}
-use Rattle.ends.proofs.Sound.{passed, opening-passed}
+use Rattle.threshold_answers.specs.Threshold.{readThresholdAnswer, writeThresholdAnswer}
+use Rattle.ends_tests.proofs.Sound.{passed, opening-passed}
 use Rattle.control.specs.Signal.{movedIf}
 use Rattle.control.specs.Shutdown.{shutEnds}
-use Rattle.control.specs.Threshold.{readThresholdEnds, writeThresholdEnds}
+use Rattle.control_threshold.specs.Threshold.{readThresholdEnds, writeThresholdEnds}
 use Rattle.control.proofs.Outcomes.{refused, done}
 use Rattle.socket.specs.Tests.{Steps}
 use Rattle.socket.specs.Disposition.{shutdownAnswer, shut}

@@ -29,8 +29,8 @@ use Rattle.ends.specs.declared.Visits.{Visits}
 use Rattle.ends.specs.declared.Outcome.{Outcome}
 use Rattle.ends.specs.declared.Moved.{Moved}
 use Rattle.ends.specs.Outcome.{noVisit, noVisits, keepsWord, canFire, anyFires, outcomeOf, keptEnds}
-use Rattle.transfer.specs.Write.{fedQueue, fedEnds}
-use Rattle.transfer.specs.Read.{drainedQueue, drainedEnds}
+use Rattle.transfer_write.specs.Write.{fedQueue, fedEnds}
+use Rattle.transfer_read.specs.Read.{drainedQueue, drainedEnds}
 use Rattle.socket.specs.declared.Pair.{Pair}
 use Rattle.socket.proofs.Pair as T
 use Rattle.socket.proofs.Pair.Laws as T′

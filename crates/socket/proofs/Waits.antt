@@ -23,7 +23,7 @@ use Rattle.packets.specs.Packets.{takeOf}
 use Rattle.places.proofs.Lists.{either}
 use Rattle.port.proofs.Operations.{register-done}
 use Rattle.packets.proofs.Operations.{take-none, take-done}
-use Rattle.ends.proofs.Sound.{sound-passed}
+use Rattle.ends_tests.proofs.Sound.{sound-passed}
 use Rattle.answers.proofs.Passed.{wait-room}
 use Rattle.socket.specs.declared.Pair.{Pair}
 use Rattle.socket.specs.Pair.{isOne, own, endsOf, withPlaces}

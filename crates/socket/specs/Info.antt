@@ -1,7 +1,7 @@
 -- Info. 01 "Info record".
 use Prim.Native.Nat.{ℕ}
 use Rattle.status.specs.declared.Answer.{Answer}
-use Rattle.ends.specs.Tests.{Lent}
+use Rattle.ends_tests.specs.Tests.{Lent}
 use Rattle.answers.specs.Info as E
 use Rattle.socket.specs.declared.Pair.{Pair}
 use Rattle.socket.specs.Pair.{endsOf}

@@ -11,10 +11,10 @@ use Rattle.status.specs.Answer.{countOf}
 use Rattle.endpoint.specs.Queue.{firstLength}
 use Rattle.endpoint.specs.Endpoint.{withQueue}
 use Rattle.bits.specs.Bits.{lostByReader, gainedByWriter}
-use Rattle.ends.specs.Tests.{Lent, lentOf}
-use Rattle.transfer.specs.Read.{leaving, drainedQueue}
-use Rattle.transfer_answers.specs.Read as A
-use Rattle.transfer.specs.Read as E
+use Rattle.ends_tests.specs.Tests.{Lent, lentOf}
+use Rattle.transfer_read.specs.Read.{leaving, drainedQueue}
+use Rattle.read_answer.specs.Read as A
+use Rattle.transfer_read.specs.Read as E
 use Rattle.socket.specs.declared.Pair.{Pair}
 use Rattle.socket.specs.declared.Step.{Step}
 use Rattle.socket.specs.Pair.{isOne, endsOf, own, peer, withEnd, signalChange}

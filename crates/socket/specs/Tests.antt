@@ -1,17 +1,17 @@
 -- The tests that come before a call's own, over a pair, and what a call that changes no slice does. 01 "Status and answer word". The crate
--- ends has the tests' definitions.
+-- ends_tests has the tests' definitions.
 use Prim.Native.Nat.{ℕ}
 use mathlib.Core.Path.{_≡_}
 use mathlib.Core.Bool.{Bool}
 use Rattle.status.specs.declared.Answer.{Answer}
 use Rattle.status.specs.Choice.{pick}
 use Rattle.status.specs.Answer.{isDone}
-use Rattle.ends.specs.Tests as E
+use Rattle.ends_tests.specs.Tests as E
 use Rattle.socket.specs.declared.Pair.{Pair}
 use Rattle.socket.specs.declared.Step.{Step}
 use Rattle.socket.specs.Pair.{endsOf}
-pub use Rattle.ends.specs.Tests.{Lent}
-unfoldable pub use Rattle.ends.specs.Tests.{lentOf, slicesTest, tableTest}
+pub use Rattle.ends_tests.specs.Tests.{Lent}
+unfoldable pub use Rattle.ends_tests.specs.Tests.{lentOf, slicesTest, tableTest}
 
 -- a record that is not INTERNAL
 abbrev pub soundPair : Pair → Bool

@@ -5,7 +5,7 @@ use Rattle.status.specs.declared.Answer.{Answer}
 use Rattle.signal.specs.Signal.{«READ_THRESHOLD», «WRITE_THRESHOLD»}
 use Rattle.endpoint.specs.Endpoint.{withThresholds}
 use Rattle.bits.specs.Bits.{reached}
-use Rattle.answers.specs.Threshold as E
+use Rattle.threshold_answers.specs.Threshold as E
 use Rattle.socket.specs.declared.Pair.{Pair}
 use Rattle.socket.specs.Pair.{endsOf, own, peer, withEnd, putBit}
 

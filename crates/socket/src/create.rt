@@ -10,7 +10,7 @@ ghost use lib.ListN.{length};
 ghost use lib.Dec.{eqb};
 ghost use Rattle.status.specs.Choice.{pick};
 ghost use Rattle.endpoint.specs.Endpoint.{newEnd, noEnd};
-ghost use Rattle.answers.specs.Create.{createAnswer};
+ghost use Rattle.create_answer.specs.Create.{createAnswer};
 ghost use Rattle.socket.specs.Pair.{newPair, noPair};
 ghost use Rattle.socket.specs.Tests.{Steps};
 
@@ -75,7 +75,7 @@ impl Pair {
     ) -> Step
         ensures { λ r. ⌜ Steps noPair (createAnswer kind capacity «rights_one» «rights_two» (length (now («ring_one» .entry))) (length (now («table_one» .entry))) (length (now («ring_two» .entry))) (length (now («table_two» .entry)))) (newPair (eqb kind 1) capacity «rights_one» «rights_two») r ⌝ }
     {
-        let a = answers::create_answer(
+        let a = create_answer::create_answer(
             kind,
             capacity,
             rights_one,

@@ -18,7 +18,12 @@ impl Pair {
     ) -> Step
         ensures { λ r. ⌜ Steps self (disposeAnswer self handle disposition «peer_disposition») (disposed (isOne handle) disposition «peer_disposition» self) r ⌝ }
     {
-        let r = control::dispose_ends(parts::ends_of(self), handle, disposition, peer_disposition);
+        let r = control_disposition::dispose_ends(
+            parts::ends_of(self),
+            handle,
+            disposition,
+            peer_disposition,
+        );
         deferred::settle(self, r)
     }
 }

@@ -14,7 +14,6 @@ mod parts;
 mod read;
 mod shutdown;
 mod threshold;
-mod transferred;
 mod wait;
 mod write;
 
@@ -27,8 +26,6 @@ pub use deferred::visit_each;
 pub use deferred::visit_only;
 pub use deferred::with_outcome;
 pub use parts::ends_of;
-pub use transferred::with_read;
-pub use transferred::with_write;
 pub use wait::has_only_packet;
 pub use wait::is_unused;
 pub use wait::registered;

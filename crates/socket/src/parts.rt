@@ -3,7 +3,7 @@ use crate::Pair;
 use endpoint::Endpoint;
 use endpoint::SignalWord;
 use ends::Ends;
-use ends::is_handle;
+use ends_tests::is_handle;
 use places::Places;
 ghost use mathlib.Core.Path.{_≡_};
 ghost use Rattle.socket.specs.Pair.{own, endsOf, shownBy, withPlaces};

@@ -17,7 +17,7 @@ impl Pair {
     ) -> Step
         ensures { λ r. ⌜ Read self handle peek (now (ring .entry)) (now (table .entry)) (now (buffer .entry)) (now (buffer .exit)) r ⌝ }
     {
-        let r = transfer::read_ends(parts::ends_of(self), handle, peek, ring, table, buffer);
+        let r = transfer_read::read_ends(parts::ends_of(self), handle, peek, ring, table, buffer);
         deferred::settle(self, r)
     }
 }

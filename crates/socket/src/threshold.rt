@@ -12,7 +12,7 @@ impl Pair {
     pub fn set_read_threshold(self, handle: u32, threshold: u64) -> Step
         ensures { λ r. ⌜ Steps self (readThresholdAnswer self handle threshold) (readThresholdSet (isOne handle) threshold self) r ⌝ }
     {
-        let r = control::read_threshold_ends(parts::ends_of(self), handle, threshold);
+        let r = control_threshold::read_threshold_ends(parts::ends_of(self), handle, threshold);
         deferred::settle(self, r)
     }
 
@@ -20,7 +20,7 @@ impl Pair {
     pub fn set_write_threshold(self, handle: u32, threshold: u64) -> Step
         ensures { λ r. ⌜ Steps self (writeThresholdAnswer self handle threshold) (writeThresholdSet (isOne handle) threshold self) r ⌝ }
     {
-        let r = control::write_threshold_ends(parts::ends_of(self), handle, threshold);
+        let r = control_threshold::write_threshold_ends(parts::ends_of(self), handle, threshold);
         deferred::settle(self, r)
     }
 
@@ -30,7 +30,7 @@ impl Pair {
     {
         Step {
             pair: self,
-            answer: answers::thresholds_answer(parts::ends_of(self), handle),
+            answer: threshold_answers::thresholds_answer(parts::ends_of(self), handle),
         }
     }
 }

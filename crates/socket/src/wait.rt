@@ -46,7 +46,7 @@ pub fn registered_first(p: Pair, a: Answer, handle: u32, key: u64, mask: u32, ed
 pub fn take_answer(p: Pair) -> Answer
     ensures { λ r. ⌜ r ≡ takeAnswer p ⌝ }
 {
-    let a = ends::sound_test(parts::ends_of(p));
+    let a = ends_tests::sound_test(parts::ends_of(p));
     if !is_done(a) {
         return a;
     }

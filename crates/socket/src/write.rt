@@ -10,7 +10,7 @@ impl Pair {
     pub fn write(self, handle: u32, ring: &mut [u8], table: &mut [u32], bytes: &[u8]) -> Step
         ensures { λ r. ⌜ Wrote self handle (now (bytes .entry)) (now (ring .entry)) (now (ring .exit)) (now (table .entry)) (now (table .exit)) r ⌝ }
     {
-        let r = transfer::write_ends(parts::ends_of(self), handle, ring, table, bytes);
+        let r = transfer_write::write_ends(parts::ends_of(self), handle, ring, table, bytes);
         deferred::settle(self, r)
     }
 }

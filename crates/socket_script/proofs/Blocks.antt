@@ -1,13 +1,15 @@
 -- Blocks read and fed, from the first, and why no other follows. Assumes nothing.
 use Prim.Native.Nat.{ℕ}
-use mathlib.Core.Path.{_≡_, sym, subst}
+use mathlib.Core.Path.{_≡_, refl, sym, subst}
 use mathlib.Core.Bool.{true, false}
 use mathlib.Core.List.{List}
 use Rattle.text.specs.Put.{place}
 use Rattle.plain_call.specs.Rings.{Rings}
 use Rattle.buffer.specs.declared.Progress.{Progress}
 use Rattle.script.specs.Listing.{header}
-use Rattle.socket_script.specs.Drain.{ReadIn, Held, held}
+use Rattle.status.specs.Choice.{pick}
+use Rattle.feed.specs.Machine.{startState}
+use Rattle.socket_script.specs.Drain.{isOpen, ReadIn, Held, held}
 use Rattle.socket_script.specs.Run.{firstProgress, goesOn, Blocks, Stops, shut, ended}
 
 -- the header is put out before the first
@@ -16,6 +18,11 @@ pub begun : {p : Progress} {buffer memory out₁ : List ℕ} {z : Rings} {y : He
 begun {p} {buffer} {memory} {out₁} {z} {y} out e f b =
     subst (λ (q : Progress). Blocks (held q buffer memory z (place 0 header out)) y) e
     (subst (λ (o : List ℕ). Blocks (held p buffer memory z o) y) f b)
+
+-- before the first block the script may go on
+pub open-first : {p : Progress} → p ≡ firstProgress → true ≡ isOpen (p .state .ended) (p .offset)
+unfolding isOpen pick startState
+open-first e = subst (λ (q : Progress). true ≡ isOpen (q .state .ended) (q .offset)) (sym e) refl
 
 pub stops-shut : {x : Held} {buffer : List ℕ} → goesOn x ≡ false → buffer ≡ x .buffer → Stops x buffer
 stops-shut {x} {buffer} e f = subst (λ (l : List ℕ). Stops x l) (sym f) (shut e)

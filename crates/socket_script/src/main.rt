@@ -130,8 +130,9 @@ fn run(
     ensures { λ _. ⌜ RunDone (now (memory .entry)) (rings (now («ring_one» .entry)) (now («table_one» .entry)) (now («ring_two» .entry)) (now («table_two» .entry))) (now (buffer .entry)) (now (out .entry)) (now (memory .exit)) (rings (now («ring_one» .exit)) (now («table_one» .exit)) (now («ring_two» .exit)) (now («table_two» .exit))) (now (buffer .exit)) (now (out .exit)) ⌝ }
 {
     let mut p = buffer::first();
+    let mut open = true;
     begin(out);
-    while is_open(p.state.ended, p.offset) {
+    while open {
         let used = p.used;
         let got = read_in(buffer, used);
         if got == 0 {
@@ -148,6 +149,9 @@ fn run(
             table_two,
             out,
         );
+        if !is_open(p.state.ended, p.offset) {
+            open = false;
+        }
     }
     close(p, buffer, out);
 }

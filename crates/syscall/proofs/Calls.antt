@@ -17,11 +17,11 @@ use Rattle.status.proofs.Chains.{counted}
 use Rattle.ring.proofs.Laws.{length-front}
 use Rattle.endpoint.specs.Queue.{firstLength}
 use Rattle.ends.specs.Outcome.{outcomeOf}
-use Rattle.transfer.specs.Read.{readEnds, EndsRead, bufferRead as endsBufferRead}
-use Rattle.transfer.specs.Write.{wroteEnds, EndsWrote, ringFed, ringWritten as endsRingWritten, tableWritten as endsTableWritten}
+use Rattle.transfer_read.specs.Read.{readEnds, EndsRead, bufferRead as endsBufferRead}
+use Rattle.transfer_write.specs.Write.{wroteEnds, EndsWrote, ringFed, ringWritten as endsRingWritten, tableWritten as endsTableWritten}
 use Rattle.ends.specs.declared.Ends.{Ends}
 use Rattle.ends.specs.declared.Outcome.{Outcome}
-use Rattle.transfer.proofs.Moved.{read-drains}
+use Rattle.transfer_read.proofs.Moved.{read-drains}
 use Rattle.socket.specs.declared.Pair.{Pair}
 use Rattle.socket.specs.declared.Step.{Step}
 use Rattle.socket.specs.Pair.{isOne, endsOf, own, peer}

@@ -10,8 +10,8 @@ use Rattle.status.proofs.Rules.{pick-on, pick-off}
 use Rattle.ends.specs.declared.Ends.{Ends}
 use Rattle.ends.specs.declared.Outcome.{Outcome}
 use Rattle.ends.specs.Outcome.{unchangedEnds}
-use Rattle.ends.proofs.Sound.{opening-passed}
-use Rattle.control.specs.Disposition.{disposeEnds}
+use Rattle.ends_tests.proofs.Sound.{opening-passed}
+use Rattle.control_disposition.specs.Disposition.{disposeEnds}
 use Rattle.control.specs.Shutdown.{shutEnds}
 use Rattle.socket.specs.declared.Pair.{Pair}
 use Rattle.socket.specs.Pair.{isOne, endsOf}

@@ -15,14 +15,15 @@ use Rattle.status.specs.Answer.{isDone, countOf, recordCount, refuseIf, refuseU
 use Rattle.status.proofs.Rules.{refuse-off, pass-last, pass-unless}
 use Rattle.status.proofs.Chains.{then-both, then-is, refuse-passed, unless-passed}
 use Rattle.endpoint.specs.declared.Endpoint.{Endpoint}
-use Rattle.sizes.specs.Write.{datagramSize, writeSize}
+use Rattle.write_size.specs.Write.{datagramSize, writeSize}
 use Rattle.sizes.specs.Read.{readSize}
 use Rattle.answers.specs.Disposition.{disposeAnswer as endsDisposeAnswer}
-use Rattle.transfer_answers.specs.Read.{readAnswer as endsReadAnswer}
-use Rattle.ends.specs.Tests.{openingTest, handleTest as endsHandleTest}
-use Rattle.transfer_answers.specs.Write.{writeAnswer}
-use Rattle.ends.proofs.Sound.{SoundEnds, sound-passed}
-use Rattle.transfer.proofs.Moved.{write-fits, read-fits}
+use Rattle.read_answer.specs.Read.{readAnswer as endsReadAnswer}
+use Rattle.ends_tests.specs.Tests.{openingTest, handleTest as endsHandleTest}
+use Rattle.write_answer.specs.Write.{writeAnswer}
+use Rattle.ends_tests.proofs.Sound.{SoundEnds, sound-passed}
+use Rattle.transfer_write.proofs.Moved.{write-fits}
+use Rattle.transfer_read.proofs.Moved.{read-fits}
 use Rattle.socket.specs.declared.Pair.{Pair}
 use Rattle.socket.specs.Pair.{isOne, endsOf, own, peer}
 use Rattle.socket.specs.Tests.{Lent, handleTest}
@@ -30,8 +31,8 @@ use Rattle.socket.specs.Read.{readAnswer}
 use Rattle.socket.specs.Disposition.{disposeAnswer, shutdownAnswer}
 use Rattle.user_memory.specs.Memory.{fits, countFits}
 use Rattle.user_answers.specs.Lookup.{lookup}
-use Rattle.user_answers.specs.Write.{writeRanges, userWriteAnswer as endsUserWriteAnswer}
-use Rattle.user_answers.specs.Read.{userReadAnswer as endsUserReadAnswer}
+use Rattle.user_write_answer.specs.Write.{writeRanges, userWriteAnswer as endsUserWriteAnswer}
+use Rattle.user_read_answer.specs.Read.{userReadAnswer as endsUserReadAnswer}
 use Rattle.user_answers.specs.Control.{userDisposeAnswer as endsUserDisposeAnswer, userShutdownAnswer as endsUserShutdownAnswer}
 use Rattle.syscall.specs.Write.{userWriteAnswer, Taking}
 use Rattle.syscall.specs.Read.{userReadAnswer}

@@ -9,7 +9,7 @@ use Rattle.status.specs.Answer.{countOf, isDone}
 use Rattle.status.proofs.Chains.{counted}
 use Rattle.places.specs.Table.{sound}
 use Rattle.endpoint.specs.Queue.{firstLength}
-use Rattle.transfer.specs.Read.{readEnds}
+use Rattle.transfer_read.specs.Read.{readEnds}
 use Rattle.ends.specs.declared.Ends.{Ends}
 use Rattle.ends.specs.declared.Outcome.{Outcome}
 use Rattle.socket.specs.declared.Pair.{Pair}

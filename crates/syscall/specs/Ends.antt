@@ -8,11 +8,11 @@ use Rattle.status.specs.Answer.{isDone, countOf}
 use Rattle.ends.specs.declared.Ends.{Ends}
 use Rattle.ends.specs.declared.Outcome.{Outcome}
 use Rattle.ends.specs.Outcome.{unchangedEnds}
-use Rattle.control.specs.Disposition.{disposeEnds}
+use Rattle.control_disposition.specs.Disposition.{disposeEnds}
 use Rattle.control.specs.Shutdown.{shutEnds}
 use Rattle.endpoint.specs.Queue.{firstLength}
-use Rattle.transfer.specs.Write.{wroteEnds}
-use Rattle.transfer.specs.Read.{readEnds}
+use Rattle.transfer_write.specs.Write.{wroteEnds}
+use Rattle.transfer_read.specs.Read.{readEnds}
 use Rattle.socket.specs.declared.Pair.{Pair}
 use Rattle.socket.specs.Pair.{isOne, own, peer}
 use Rattle.socket.specs.Tests.{lentOf}

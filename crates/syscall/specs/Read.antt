@@ -16,8 +16,8 @@ use Rattle.socket.specs.Pair.{isOne, endsOf, own}
 use Rattle.socket.specs.Tests.{Lent, lentOf}
 use Rattle.socket.specs.Read.{pairRead}
 use Rattle.user_memory.specs.Memory.{countLanded}
-use Rattle.user_answers.specs.Read as A
-pub use Rattle.user_answers.specs.Read.{isPeek}
+use Rattle.user_read_answer.specs.Read as A
+pub use Rattle.user_read_answer.specs.Read.{isPeek}
 
 -- 01 "Calls over user memory", read: the answer; a read is lent the slices of its own end
 abbrev pub userReadAnswer : Pair → Lent → (h base size options address n countAt : ℕ) → Answer

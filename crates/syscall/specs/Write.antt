@@ -12,7 +12,7 @@ use Rattle.socket.specs.Pair.{isOne, endsOf, peer}
 use Rattle.socket.specs.Tests.{Lent, lentOf}
 use Rattle.socket.specs.Write.{writeAnswer, pairWritten, ringWritten, tableWritten}
 use Rattle.user_memory.specs.Memory.{countLanded}
-use Rattle.user_answers.specs.Write as A
+use Rattle.user_write_answer.specs.Write as A
 
 -- 01 "Calls over user memory", write: the answer; a write is lent the slices of the peer
 abbrev pub userWriteAnswer : Pair → Lent → (h base size options address n countAt : ℕ) → Answer

@@ -4,13 +4,13 @@ use ends::Outcome;
 use ends::unchanged;
 use status::Answer;
 use user_answers::Buffer;
-use user_answers::SOCKET_PEEK;
 use user_memory::land_count;
+use user_read_answer::SOCKET_PEEK;
 ghost use mathlib.Core.Path.{_≡_};
 ghost use Prim.Native.Nat.{_-_};
 ghost use lib.ListN.{length, drop};
 ghost use Rattle.status.specs.Answer.{countOf};
-ghost use Rattle.transfer.specs.Write.{wroteEnds};
+ghost use Rattle.transfer_write.specs.Write.{wroteEnds};
 ghost use Rattle.socket.specs.Pair.{isOne, peer};
 ghost use Rattle.socket.specs.Tests.{lentOf};
 ghost use Rattle.socket.specs.Write.{ringWritten, tableWritten};
@@ -42,7 +42,7 @@ fn write_bytes(
     }
     let from = (address - base) as usize;
     let to = from + m as usize;
-    transfer::write_ends(p, handle, ring, table, &memory[from..to])
+    transfer_write::write_ends(p, handle, ring, table, &memory[from..to])
 }
 
 // Writes the bytes of user memory to the peer's queue and lands the count of those taken, but leaves the visit of the waits for later.
@@ -67,7 +67,7 @@ pub fn write_ends(
         count,
         count_at,
     };
-    let a = user_answers::write_answer(p, handle, options, b, ring, table);
+    let a = user_write_answer::write_answer(p, handle, options, b, ring, table);
     if !status::is_done(a) {
         return unchanged(p, a);
     }
@@ -98,13 +98,13 @@ pub fn read_bytes_ends(
         count,
         count_at,
     };
-    let a = user_answers::read_answer(p, handle, options, b, ring, table);
+    let a = user_read_answer::read_answer(p, handle, options, b, ring, table);
     if status::count_of(a) == 0 {
         return unchanged(p, a);
     }
     let from = (address - base) as usize;
     let to = from + count as usize;
-    transfer::read_ends(
+    transfer_read::read_ends(
         p,
         handle,
         options == SOCKET_PEEK,
@@ -157,7 +157,7 @@ pub fn dispose_ends(e: Ends, handle: u32, disposition: u32, peer_disposition: u3
     if !status::is_done(a) {
         return unchanged(e, a);
     }
-    control::dispose_ends(
+    control_disposition::dispose_ends(
         e,
         handle,
         user_answers::disposition_of(disposition),

@@ -1,191 +1,22 @@
--- The outcome of a write and of a read, put together from its parts, and of a call that changes nothing. Assumes nothing.
-use Prim.Native.Nat.{ℕ}
-use mathlib.Core.Path.{_≡_, refl, sym, ap, _∙_}
+-- The outcome of a call that changes nothing. Assumes nothing.
+use mathlib.Core.Path.{_≡_, refl, sym, ap}
 use mathlib.Core.Bool.{Bool, true, false, not}
-use mathlib.Core.List.{List}
-use lib.ListN.{length}
 use lib.Dec.{eqb}
-use lib.Seq.{paste}
-use borrow.Author.Tests.{eq-eqb}
 use Rattle.status.specs.declared.Answer.{Answer}
-use Rattle.status.specs.Choice.{pick, _and_, _or_}
-use Rattle.status.specs.Answer.{countOf}
-use Rattle.status.proofs.Rules.{pick-on, or-on, or-off}
-use Rattle.ring.specs.Ring.{front}
-use Rattle.endpoint.specs.declared.Endpoint.{Endpoint}
-use Rattle.endpoint.specs.Queue.{firstLength}
+use Rattle.status.specs.Choice.{pick, _or_}
 use Rattle.ends.specs.declared.Ends.{Ends}
-use Rattle.ends.specs.declared.Outcome.{Outcome}
-use Rattle.ends.specs.declared.Visits.{Visits}
-use Rattle.ends.specs.declared.Moved.{Moved}
-use Rattle.ends.specs.Ends.{isOne, own, peer}
-use Rattle.ends.specs.Tests.{lentOf}
+use Rattle.ends.specs.Ends.{own, peer}
 use Rattle.ends.specs.Outcome.{noVisits, keepsWord, canFire, anyFires, outcomeOf, keptEnds, unchangedEnds}
 use Rattle.signal.specs.Signal.{changedWord}
-use Rattle.transfer_answers.specs.Write.{writeAnswer}
-use Rattle.transfer.specs.Write.{ringFed, ringWritten, tableFed, tableWritten, fedEnds, wroteEnds, EndsWrote}
-use Rattle.transfer.specs.declared.Transfer.{Transfer}
-use Rattle.transfer.specs.Transfer.{keptTransfer, fedTransfer, wroteTransfer, TransferWrote, fedVisits, fedMoved, wroteBy, drainedTransfer, readTransfer, TransferRead, drainedVisits, drainedMoved, readBy}
-use Rattle.transfer_answers.specs.Read.{readAnswer}
-use Rattle.transfer.specs.Read.{leaving, bufferRead, drainedEnds, readEnds, EndsRead}
-
-pub ends-wrote : (e : Ends) (h : ℕ) (src ring ring′ table table′ : List ℕ) (x : Answer) (m : ℕ) (o t : Endpoint) (d : Moved) (r : Outcome)
-    → x ≡ writeAnswer e (lentOf (e .datagram) (peer (isOne h) e .queue) ring table) h (length src) → m ≡ countOf x
-    → o ≡ own (isOne h) e → t ≡ peer (isOne h) e
-    → d ≡ pick (eqb m 0) (keptEnds o t) (fedEnds (e .datagram) (e .capacity) (isOne h) o t m)
-    → ring′ ≡ pick (eqb m 0) ring (ringFed (e .capacity) (t .queue) m src ring)
-    → table′ ≡ pick (eqb m 0) table (tableFed (e .datagram) (e .capacity) (t .queue) m table)
-    → r ≡ outcomeOf (e .waits) (isOne h) x d noVisits → EndsWrote e h src ring ring′ table table′ r
-unfolding outcomeOf wroteEnds ringWritten tableWritten
-ends-wrote e h src ring ring′ table table′ x m o t d r fx fm fo ft fd fr fl f =
-    let a : r .answer ≡ x = ap (λ (k : Outcome). k .answer) f in
-    record {
-      answer = a ∙ fx;
-      next = f ∙ rw (a, ← fm, ← fo, ← ft, ← fd) refl;
-      bytes = rw (a, ← fm, ← ft) fr;
-      lengths = rw (a, ← fm, ← ft) fl;
-    }
-
-pub ends-read : (e : Ends) (h : ℕ) (peek : Bool) (ring table buffer buffer′ : List ℕ) (x : Answer) (k : ℕ) (o t : Endpoint) (first : ℕ) (d : Moved) (r : Outcome)
-    → x ≡ readAnswer e (lentOf (e .datagram) (own (isOne h) e .queue) ring table) h (length buffer) → k ≡ countOf x
-    → o ≡ own (isOne h) e → t ≡ peer (isOne h) e → first ≡ firstLength (e .datagram) (o .queue) table
-    → buffer′ ≡ pick (eqb k 0) buffer (paste buffer 0 (front (e .capacity) (o .queue .bytes .start) k ring) k)
-    → d ≡ pick (peek or eqb k 0) (keptEnds o t) (drainedEnds (e .datagram) (e .capacity) (isOne h) o t (leaving (e .datagram) first k))
-    → r ≡ outcomeOf (e .waits) (isOne h) x d noVisits → EndsRead e h peek ring table buffer buffer′ r
-unfolding outcomeOf readEnds bufferRead
-ends-read e h peek ring table buffer buffer′ x k o t first d r fx fk fo ft fl fb fd f =
-    let a : r .answer ≡ x = ap (λ (z : Outcome). z .answer) f in
-    record {
-      answer = a ∙ fx;
-      next = f ∙ rw (a, ← fk, ← fo, ← ft, ← fl, ← fd) refl;
-      bytes = rw (a, ← fk, ← fo) fb;
-    }
-
--- ---- a call that changes nothing
 
 no-fire : (b : Bool) → (pick b false (pick true (not true) true) or pick b false (pick true (not true) true)) ≡ false
 unfolding pick _or_
 no-fire true = refl
 no-fire false = refl
 
-kept-unchanged : (e : Ends) (t : Bool) (a : Answer) → unchangedEnds e a ≡ outcomeOf (e .waits) t a (keptEnds (own t e) (peer t e)) noVisits
+pub kept-unchanged : (e : Ends) (t : Bool) (a : Answer) → unchangedEnds e a ≡ outcomeOf (e .waits) t a (keptEnds (own t e) (peer t e)) noVisits
 unfolding unchangedEnds outcomeOf keptEnds anyFires canFire keepsWord changedWord pick
 kept-unchanged e true a =
     ap (λ (f : Bool). record { one = e .one; two = e .two; answer = a; fires = f; visits = noVisits; more = noVisits }) (sym (no-fire (eqb (e .waits) 0)))
 kept-unchanged e false a =
     ap (λ (f : Bool). record { one = e .one; two = e .two; answer = a; fires = f; visits = noVisits; more = noVisits }) (sym (no-fire (eqb (e .waits) 0)))
-
-pub unchanged-wrote : (e : Ends) (h : ℕ) (a : Answer) → countOf a ≡ 0 → unchangedEnds e a ≡ wroteEnds e h a
-unfolding wroteEnds
-unchanged-wrote e h a z =
-    kept-unchanged e (isOne h) a ∙ ap (λ (d : Moved). outcomeOf (e .waits) (isOne h) a d noVisits) (pick-on _ _ _ _ _ (eq-eqb (countOf a) 0 z) refl)
-
-pub unchanged-read : (e : Ends) (h : ℕ) (peek : Bool) (first : ℕ) (a : Answer) → countOf a ≡ 0 → unchangedEnds e a ≡ readEnds e h peek first a
-unfolding readEnds
-unchanged-read e h peek first a z =
-    kept-unchanged e (isOne h) a
-    ∙ ap (λ (d : Moved). outcomeOf (e .waits) (isOne h) a d noVisits) (pick-on _ _ _ _ _ (either-on peek (eqb (countOf a) 0) (eq-eqb (countOf a) 0 z)) refl)
-  where
-    either-on : (b c : Bool) → c ≡ true → (b or c) ≡ true
-    either-on true c w = sym (or-on true c refl)
-    either-on false c w = sym (or-off false c true refl (sym w))
-
--- ---- a write and a read by what they change
-
-wrote-by : (e : Ends) (h : ℕ) (x : Answer) (m : ℕ) (b : Bool)
-    → wroteBy e h (pick b (keptTransfer (peer (isOne h) e .queue) x) (fedTransfer (e .datagram) (e .capacity) (own (isOne h) e) (peer (isOne h) e) x m))
-    ≡ outcomeOf (e .waits) (isOne h) x
-    (pick b (keptEnds (own (isOne h) e) (peer (isOne h) e)) (fedEnds (e .datagram) (e .capacity) (isOne h) (own (isOne h) e) (peer (isOne h) e) m))
-    noVisits
-unfolding wroteBy keptTransfer fedTransfer fedMoved fedVisits fedEnds pick
-wrote-by e h x m true = kept-unchanged e (isOne h) x
-wrote-by e h x m false = refl
-
-wrote-answer : (e : Ends) (h : ℕ) (x : Answer) → wroteTransfer e h x .answer ≡ x
-unfolding wroteTransfer keptTransfer fedTransfer pick
-wrote-answer e h x = by (eqb (countOf x) 0)
-  where
-    by : (b : Bool)
-        → pick b (keptTransfer (peer (isOne h) e .queue) x) (fedTransfer (e .datagram) (e .capacity) (own (isOne h) e) (peer (isOne h) e) x (countOf x)) .answer ≡ x
-    by true = refl
-    by false = refl
-
-wrote-changes : (e : Ends) (h : ℕ) (x : Answer) (d : Transfer) → d ≡ wroteTransfer e h x → d ≡ wroteTransfer e h (d .answer)
-wrote-changes e h x d f = f ∙ ap (wroteTransfer e h) (sym (ap (λ (t : Transfer). t .answer) f ∙ wrote-answer e h x))
-
-pub transfer-wrote : (e : Ends) (h : ℕ) (src ring ring′ table table′ : List ℕ) (x : Answer) (m : ℕ) (o t : Endpoint) (d : Transfer)
-    → x ≡ writeAnswer e (lentOf (e .datagram) (peer (isOne h) e .queue) ring table) h (length src) → m ≡ countOf x
-    → o ≡ own (isOne h) e → t ≡ peer (isOne h) e
-    → d ≡ pick (eqb m 0) (keptTransfer (t .queue) x) (fedTransfer (e .datagram) (e .capacity) o t x m)
-    → ring′ ≡ pick (eqb m 0) ring (ringFed (e .capacity) (t .queue) m src ring)
-    → table′ ≡ pick (eqb m 0) table (tableFed (e .datagram) (e .capacity) (t .queue) m table)
-    → TransferWrote e h src ring ring′ table table′ d
-unfolding wroteTransfer
-transfer-wrote e h src ring ring′ table table′ x m o t d fx fm fo ft fd fr fl =
-    record { changes = wrote-changes e h x d (rw (fm, fo, ft) at fd); outcome = outcome }
-  where
-    outcome : EndsWrote e h src ring ring′ table table′ (wroteBy e h d)
-    outcome = ends-wrote e h src ring ring′ table table′ x m (own (isOne h) e) (peer (isOne h) e) _ (wroteBy e h d) fx fm refl refl refl
-        (rw ft at fr) (rw ft at fl) (ap (wroteBy e h) (rw (fo, ft) at fd) ∙ wrote-by e h x m (eqb m 0))
-
-read-by : (e : Ends) (h : ℕ) (x : Answer) (n : ℕ) (b c : Bool) → c ≡ peer (isOne h) e .closed
-    → readBy e h (pick b (keptTransfer (own (isOne h) e .queue) x) (drainedTransfer (e .datagram) (e .capacity) (own (isOne h) e) (peer (isOne h) e) x n))
-    ≡ outcomeOf (e .waits) (isOne h) x
-    (pick b (keptEnds (own (isOne h) e) (peer (isOne h) e)) (drainedEnds (e .datagram) (e .capacity) (isOne h) (own (isOne h) e) (peer (isOne h) e) n))
-    noVisits
-unfolding readBy keptTransfer drainedTransfer drainedMoved drainedVisits drainedEnds pick
-read-by e h x n true c k = kept-unchanged e (isOne h) x
-read-by e h x n false true k = rw (← k) refl
-read-by e h x n false false k = rw (← k) refl
-
-read-answer : (e : Ends) (h : ℕ) (peek : Bool) (first : ℕ) (x : Answer) → readTransfer e h peek first x .answer ≡ x
-unfolding readTransfer keptTransfer drainedTransfer pick
-read-answer e h peek first x = by (peek or eqb (countOf x) 0)
-  where
-    by : (b : Bool)
-        → pick b (keptTransfer (own (isOne h) e .queue) x) (drainedTransfer (e .datagram) (e .capacity) (own (isOne h) e) (peer (isOne h) e) x (leaving (e .datagram) first (countOf x))) .answer
-        ≡ x
-    by true = refl
-    by false = refl
-
-read-changes : (e : Ends) (h : ℕ) (peek : Bool) (first : ℕ) (x : Answer) (d : Transfer) → d ≡ readTransfer e h peek first x
-    → d ≡ readTransfer e h peek first (d .answer)
-read-changes e h peek first x d f = f ∙ ap (readTransfer e h peek first) (sym (ap (λ (t : Transfer). t .answer) f ∙ read-answer e h peek first x))
-
-pub transfer-read : (e : Ends) (h : ℕ) (peek : Bool) (ring table buffer buffer′ : List ℕ) (x : Answer) (k : ℕ) (o t : Endpoint) (first : ℕ) (d : Transfer)
-    → x ≡ readAnswer e (lentOf (e .datagram) (own (isOne h) e .queue) ring table) h (length buffer) → k ≡ countOf x
-    → o ≡ own (isOne h) e → t ≡ peer (isOne h) e → first ≡ firstLength (e .datagram) (o .queue) table
-    → buffer′ ≡ pick (eqb k 0) buffer (paste buffer 0 (front (e .capacity) (o .queue .bytes .start) k ring) k)
-    → d ≡ pick (peek or eqb k 0) (keptTransfer (o .queue) x) (drainedTransfer (e .datagram) (e .capacity) o t x (leaving (e .datagram) first k))
-    → TransferRead e h peek ring table buffer buffer′ d
-unfolding readTransfer
-transfer-read e h peek ring table buffer buffer′ x k o t first d fx fk fo ft fl fb fd =
-    record { changes = read-changes e h peek _ x d (rw (fl, fk, fo, ft) at fd); outcome = outcome }
-  where
-    outcome : EndsRead e h peek ring table buffer buffer′ (readBy e h d)
-    outcome = ends-read e h peek ring table buffer buffer′ x k (own (isOne h) e) (peer (isOne h) e) first _ (readBy e h d) fx fk refl refl (rw fo at fl)
-        (rw fo at fb) refl
-        (ap (readBy e h) (rw (fo, ft) at fd) ∙ read-by e h x (leaving (e .datagram) first k) (peek or eqb k 0) (peer (isOne h) e .closed) refl)
-
-pub wrote-put : (e : Ends) (h : ℕ) (t : Transfer) (o p : Endpoint) (d : Moved) (v : Visits) (r : Outcome) → t .moves ≡ true → o ≡ own (isOne h) e
-    → p ≡ peer (isOne h) e → d ≡ fedMoved (isOne h) o p t → v ≡ noVisits → r ≡ outcomeOf (e .waits) (isOne h) (t .answer) d v → r ≡ wroteBy e h t
-unfolding wroteBy pick
-wrote-put e h t o p d v r on fo fp fd fv f = rw (← fo, ← fp, ← fd, ← fv, on) f
-
-pub read-put : (e : Ends) (h : ℕ) (t : Transfer) (o p : Endpoint) (d : Moved) (v : Visits) (r : Outcome) → t .moves ≡ true → o ≡ own (isOne h) e
-    → p ≡ peer (isOne h) e → d ≡ drainedMoved (isOne h) o p t → v ≡ noVisits → r ≡ outcomeOf (e .waits) (isOne h) (t .answer) d v → r ≡ readBy e h t
-unfolding readBy pick
-read-put e h t o p d v r on fo fp fd fv f = rw (← fo, ← fp, ← fd, ← fv, on) f
-
--- whether a wait can fire, by the ends and the changes that were computed
-pub wrote-no-visit : (e : Ends) (h : ℕ) (t : Transfer) (o p : Endpoint) (v : Visits) (f : Bool) → t .moves ≡ true → o ≡ own (isOne h) e → p ≡ peer (isOne h) e
-    → v ≡ fedVisits (isOne h) o p t → f ≡ canFire (e .waits) v
-    → not f ≡ (t .moves and not (canFire (e .waits) (fedVisits (isOne h) (own (isOne h) e) (peer (isOne h) e) t)))
-unfolding _and_
-wrote-no-visit e h t o p v f on fo fp fv ff = rw (← fo, ← fp, ← fv, ← ff, on) refl
-
-pub read-no-visit : (e : Ends) (h : ℕ) (t : Transfer) (o p : Endpoint) (v : Visits) (f : Bool) → t .moves ≡ true → o ≡ own (isOne h) e → p ≡ peer (isOne h) e
-    → p .closed ≡ false → v ≡ drainedVisits (isOne h) o p t → f ≡ canFire (e .waits) v
-    → not f ≡ (t .moves and not (peer (isOne h) e .closed) and not (canFire (e .waits) (drainedVisits (isOne h) (own (isOne h) e) (peer (isOne h) e) t)))
-unfolding _and_ not
-read-no-visit e h t o p v f on fo fp fc fv ff = rw (← fo, ← fp, ← fv, ← ff, fc, on) refl

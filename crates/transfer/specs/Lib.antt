@@ -1,5 +1,2 @@
--- 01 "Delivered bytes": what a write and a read do to the ends, to the rings and tables and to the buffer, but for the visit of the waits. Their answers are
--- in the crate transfer_answers.
-pub mod Write
-pub mod Read
+-- 01 "Delivered bytes": of what a write and a read change, the case that nothing changes. What else they do is in the crates transfer_write and transfer_read.
 pub mod Transfer

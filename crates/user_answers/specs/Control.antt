@@ -12,7 +12,7 @@ use Rattle.endpoint.specs.declared.Disposition.the-variants.{Unchanged, Disable
 use Rattle.endpoint.specs.Disposition.{disposeChecks}
 use Rattle.ends.specs.declared.Ends.{Ends}
 use Rattle.ends.specs.Ends.{isOne, own, peer}
-use Rattle.ends.specs.Tests.{soundTest}
+use Rattle.ends_tests.specs.Tests.{soundTest}
 use Rattle.user_answers.specs.Lookup.{RIGHT-WRITE, RIGHT-MANAGE, lookup}
 
 -- 01 "Delivered bytes", disposition: 0 leaves an end's writing unchanged, 1 disables it, 2 enables it. `userDisposeAnswer` refuses numbers above

@@ -1,8 +1,6 @@
--- 01 "Calls over user memory": what each call answers, over both ends of a pair.
+-- 01 "Calls over user memory": what disposition and shutdown answer, over both ends of a pair. Write and read are in the crates user_write_answer
+-- and user_read_answer.
 --   Lookup: the rights and the lookup of a handle with one
---   Write, Read: write and read over user memory
 --   Control: disposition and shutdown by their numbers
 pub mod Lookup
-pub mod Write
-pub mod Read
 pub mod Control

@@ -7,7 +7,7 @@ use Rattle.status.specs.declared.Answer.{Answer}
 use Rattle.status.specs.Answer.{refuseIf, _then_}
 use Rattle.ends.specs.declared.Ends.{Ends}
 use Rattle.ends.specs.Ends.{isOne, own}
-use Rattle.ends.specs.Tests.{handleTest}
+use Rattle.ends_tests.specs.Tests.{handleTest}
 
 -- 01 "Status and answer word", create: the right to read
 abbrev pub RIGHT-READ : ℕ

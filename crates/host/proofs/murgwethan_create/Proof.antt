@@ -49,7 +49,7 @@ use Rattle.socket.proofs.Pair as T
 use Rattle.status.proofs.Answer as N
 use Rattle.status.proofs.Answer.Laws as N′
 use Rattle.host.proofs.Callees.{create-contract, to-create, goes-create}
-use Rattle.answers.specs.Create.{createAnswer}
+use Rattle.create_answer.specs.Create.{createAnswer}
 use Rattle.socket.specs.Pair.{own, newPair}
 use Rattle.host.specs.Host.{Answered}
 use Rattle.socket.specs.Tests.{Steps}

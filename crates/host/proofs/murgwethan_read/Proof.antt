@@ -46,7 +46,7 @@ use denote.Triple.Clauses.{ensured, lasts}
 use Rattle.status.specs.Answer.{answerWord}
 use Rattle.ends.specs.declared.Ends.{Ends}
 use Rattle.transfer.specs.declared.Transfer.{Transfer}
-use Rattle.transfer.specs.Transfer.{readBy, TransferRead}
+use Rattle.transfer_read.specs.Transfer.{readBy, TransferRead}
 use Rattle.socket.specs.declared.Pair.{Pair}
 use Rattle.socket.specs.declared.Step.{Step}
 use Rattle.socket.proofs.Pair as T
@@ -63,10 +63,10 @@ use Rattle.socket.proofs.Visiting.{places-128}
 use Rattle.kept_pair.proofs.Stored.{settled-as, passed-on, read-answer}
 use Rattle.socket.specs.Read.{Read}
 use Rattle.socket.proofs.Settled.{read-whole}
-use Rattle.transfer.proofs.read_transfer as step
-use Rattle.transfer.proofs.read_transfer.Symbol as step-def
-use Rattle.transfer.proofs.read_transfer.Symbol.{name as #step}
-use Rattle.transfer.proofs.read_transfer.Met as step-thm
+use Rattle.transfer_read.proofs.read_transfer as step
+use Rattle.transfer_read.proofs.read_transfer.Symbol as step-def
+use Rattle.transfer_read.proofs.read_transfer.Symbol.{name as #step}
+use Rattle.transfer_read.proofs.read_transfer.Met as step-thm
 use Rattle.socket.proofs.ends_of as ends
 use Rattle.socket.proofs.ends_of.Symbol as ends-def
 use Rattle.socket.proofs.ends_of.Symbol.{name as #ends}
@@ -181,6 +181,6 @@ murgwethan-read-spec 𝓤 H 𝓜 𝓖 𝓡 =
     entered 𝓤 H (tripleOf 𝓤 H (𝓖 .A) f.signature (f.spec 𝓤 H (𝓖 .A) (𝓜 .mem) (𝓡 .run)))
     (tables 𝓤 H 𝓜 𝓡 code.env .C) (tables 𝓤 H 𝓜 𝓡 code.env .Λ) #own code.function (code.unfolded 𝓤 H 𝓜 𝓡)
     (meets 𝓤 H (𝓖 .A) (givenOf 𝓤 H 𝓜 𝓖) (𝓜 .mem) (𝓡 .run) (tablesOf 𝓤 H 𝓜 (tables 𝓤 H 𝓜 𝓡 code.env))
-    (cited 𝓤 H (Called 𝓤 H (𝓖 .A) (𝓜 .mem) (𝓡 .run)) 𝓜 𝓡 code.env #step step-def.routine code.calls-transfer·read-transfer (step-thm.met 𝓤 H 𝓜 𝓖 𝓡))
+    (cited 𝓤 H (Called 𝓤 H (𝓖 .A) (𝓜 .mem) (𝓡 .run)) 𝓜 𝓡 code.env #step step-def.routine code.calls-transfer-read·read-transfer (step-thm.met 𝓤 H 𝓜 𝓖 𝓡))
     (cited 𝓤 H (ends-contract 𝓤 H (𝓖 .A) (𝓜 .mem) (𝓡 .run)) 𝓜 𝓡 code.env #ends ends-def.routine code.calls-socket·ends-of (ends-thm.met 𝓤 H 𝓜 𝓖 𝓡))
     (cited 𝓤 H (read-contract 𝓤 H (𝓖 .A) (𝓜 .mem) (𝓡 .run)) 𝓜 𝓡 code.env #read read-def.routine code.calls-kept-pair·read (read-thm.met 𝓤 H 𝓜 𝓖 𝓡)))

@@ -51,7 +51,7 @@ use Rattle.ends.proofs.Outcome.Laws as K′
 use Rattle.ends.proofs.Ends as E
 use Rattle.ends.proofs.Ends.Laws as E′
 use Rattle.host.proofs.Callees.{ends-contract, to-ends, goes-ends, ends-told, read-threshold-ends-contract, to-read-threshold-ends, goes-read-threshold-ends, read-threshold-ends-told, outcome-contract, to-outcome, goes-outcome}
-use Rattle.control.specs.Threshold.{readThresholdEnds}
+use Rattle.control_threshold.specs.Threshold.{readThresholdEnds}
 use Rattle.socket.specs.Pair.{isOne, own, endsOf}
 use Rattle.socket.specs.Deferred.{settled}
 use Rattle.host.specs.Host.{Answered}
@@ -64,10 +64,10 @@ use Rattle.socket.proofs.ends_of as ends
 use Rattle.socket.proofs.ends_of.Symbol as ends-def
 use Rattle.socket.proofs.ends_of.Symbol.{name as #ends}
 use Rattle.socket.proofs.ends_of.Met as ends-thm
-use Rattle.control.proofs.read_threshold_ends as read-threshold-ends
-use Rattle.control.proofs.read_threshold_ends.Symbol as read-threshold-ends-def
-use Rattle.control.proofs.read_threshold_ends.Symbol.{name as #read-threshold-ends}
-use Rattle.control.proofs.read_threshold_ends.Met as read-threshold-ends-thm
+use Rattle.control_threshold.proofs.read_threshold_ends as read-threshold-ends
+use Rattle.control_threshold.proofs.read_threshold_ends.Symbol as read-threshold-ends-def
+use Rattle.control_threshold.proofs.read_threshold_ends.Symbol.{name as #read-threshold-ends}
+use Rattle.control_threshold.proofs.read_threshold_ends.Met as read-threshold-ends-thm
 use Rattle.kept_pair.proofs.outcome as outcome
 use Rattle.kept_pair.proofs.outcome.Symbol as outcome-def
 use Rattle.kept_pair.proofs.outcome.Symbol.{name as #outcome}
@@ -145,5 +145,5 @@ murgwethan-set-read-threshold-spec 𝓤 H 𝓜 𝓖 𝓡 =
     (tables 𝓤 H 𝓜 𝓡 code.env .C) (tables 𝓤 H 𝓜 𝓡 code.env .Λ) #own code.function (code.unfolded 𝓤 H 𝓜 𝓡)
     (meets 𝓤 H (𝓖 .A) (givenOf 𝓤 H 𝓜 𝓖) (𝓜 .mem) (𝓡 .run) (tablesOf 𝓤 H 𝓜 (tables 𝓤 H 𝓜 𝓡 code.env))
     (cited 𝓤 H (ends-contract 𝓤 H (𝓖 .A) (𝓜 .mem) (𝓡 .run)) 𝓜 𝓡 code.env #ends ends-def.routine code.calls-socket·ends-of (ends-thm.met 𝓤 H 𝓜 𝓖 𝓡))
-    (cited 𝓤 H (read-threshold-ends-contract 𝓤 H (𝓖 .A) (𝓜 .mem) (𝓡 .run)) 𝓜 𝓡 code.env #read-threshold-ends read-threshold-ends-def.routine code.calls-control·read-threshold-ends (read-threshold-ends-thm.met 𝓤 H 𝓜 𝓖 𝓡))
+    (cited 𝓤 H (read-threshold-ends-contract 𝓤 H (𝓖 .A) (𝓜 .mem) (𝓡 .run)) 𝓜 𝓡 code.env #read-threshold-ends read-threshold-ends-def.routine code.calls-control-threshold·read-threshold-ends (read-threshold-ends-thm.met 𝓤 H 𝓜 𝓖 𝓡))
     (cited 𝓤 H (outcome-contract 𝓤 H (𝓖 .A) (𝓜 .mem) (𝓡 .run)) 𝓜 𝓡 code.env #outcome outcome-def.routine code.calls-kept-pair·outcome (outcome-thm.met 𝓤 H 𝓜 𝓖 𝓡)))

@@ -1,5 +1,5 @@
 use borrow.Author.Needs.{needs}
-use Rattle.socket.specs.Transferred.{writeWithoutVisit}
+use Rattle.transferred.specs.Transferred.{writeWithoutVisit}
 use Rattle.kept_pair.proofs.is_write_without_visit.Statement.{statement}
 use Rattle.kept_pair.proofs.is_write_without_visit.Tie as tie
 

@@ -48,13 +48,13 @@ use Rattle.socket.proofs.Pair.Laws as T′
 use Rattle.ends.proofs.Outcome as K
 use Rattle.ends.proofs.Outcome.Laws as K′
 use Rattle.transfer.specs.declared.Transfer.{Transfer}
-use Rattle.transfer.specs.Transfer.{readBy}
+use Rattle.transfer_read.specs.Transfer.{readBy}
 use Rattle.transfer.proofs.Transfer as X
 use Rattle.transfer.proofs.Transfer.Laws as X′
 use Rattle.kept_pair.proofs.Callees.{transfer-word-contract, to-transfer-word, goes-transfer-word, transfer-word-told, is-read-without-visit-contract, to-is-read-without-visit, goes-is-read-without-visit, is-read-without-visit-told, with-read-contract, to-with-read, goes-with-read, with-read-told, read-outcome-contract, to-read-outcome, goes-read-outcome, read-outcome-told, outcome-contract, to-outcome, goes-outcome}
 use Rattle.socket.specs.Pair.{isOne, endsOf}
 use Rattle.socket.specs.Deferred.{settled}
-use Rattle.socket.specs.Transferred.{transferredPair, readWithoutVisit}
+use Rattle.transferred.specs.Transferred.{transferredPair, readWithoutVisit}
 use Rattle.kept_pair.proofs.Stored.{read-unvisited, passed-on}
 use Rattle.kept_pair.proofs.transfer_word as transfer-word
 use Rattle.kept_pair.proofs.transfer_word.Symbol as transfer-word-def
@@ -64,10 +64,10 @@ use Rattle.kept_pair.proofs.is_read_without_visit as is-read-without-vi
 use Rattle.kept_pair.proofs.is_read_without_visit.Symbol as is-read-without-visit-def
 use Rattle.kept_pair.proofs.is_read_without_visit.Symbol.{name as #is-read-without-visit}
 use Rattle.kept_pair.proofs.is_read_without_visit.Met as is-read-without-visit-thm
-use Rattle.socket.proofs.with_read as with-read
-use Rattle.socket.proofs.with_read.Symbol as with-read-def
-use Rattle.socket.proofs.with_read.Symbol.{name as #with-read}
-use Rattle.socket.proofs.with_read.Met as with-read-thm
+use Rattle.transferred.proofs.with_read as with-read
+use Rattle.transferred.proofs.with_read.Symbol as with-read-def
+use Rattle.transferred.proofs.with_read.Symbol.{name as #with-read}
+use Rattle.transferred.proofs.with_read.Met as with-read-thm
 use Rattle.kept_pair.proofs.read_outcome as read-outcome
 use Rattle.kept_pair.proofs.read_outcome.Symbol as read-outcome-def
 use Rattle.kept_pair.proofs.read_outcome.Symbol.{name as #read-outcome}
@@ -176,6 +176,6 @@ read-spec 𝓤 H 𝓜 𝓖 𝓡 =
     (meets 𝓤 H (𝓖 .A) (givenOf 𝓤 H 𝓜 𝓖) (𝓜 .mem) (𝓡 .run) (tablesOf 𝓤 H 𝓜 (tables 𝓤 H 𝓜 𝓡 code.env))
     (cited 𝓤 H (transfer-word-contract 𝓤 H (𝓖 .A) (𝓜 .mem) (𝓡 .run)) 𝓜 𝓡 code.env #transfer-word transfer-word-def.routine code.calls-kept-pair·transfer-word (transfer-word-thm.met 𝓤 H 𝓜 𝓖 𝓡))
     (cited 𝓤 H (is-read-without-visit-contract 𝓤 H (𝓖 .A) (𝓜 .mem) (𝓡 .run)) 𝓜 𝓡 code.env #is-read-without-visit is-read-without-visit-def.routine code.calls-kept-pair·is-read-without-visit (is-read-without-visit-thm.met 𝓤 H 𝓜 𝓖 𝓡))
-    (cited 𝓤 H (with-read-contract 𝓤 H (𝓖 .A) (𝓜 .mem) (𝓡 .run)) 𝓜 𝓡 code.env #with-read with-read-def.routine code.calls-socket·with-read (with-read-thm.met 𝓤 H 𝓜 𝓖 𝓡))
+    (cited 𝓤 H (with-read-contract 𝓤 H (𝓖 .A) (𝓜 .mem) (𝓡 .run)) 𝓜 𝓡 code.env #with-read with-read-def.routine code.calls-transferred·with-read (with-read-thm.met 𝓤 H 𝓜 𝓖 𝓡))
     (cited 𝓤 H (read-outcome-contract 𝓤 H (𝓖 .A) (𝓜 .mem) (𝓡 .run)) 𝓜 𝓡 code.env #read-outcome read-outcome-def.routine code.calls-kept-pair·read-outcome (read-outcome-thm.met 𝓤 H 𝓜 𝓖 𝓡))
     (cited 𝓤 H (outcome-contract 𝓤 H (𝓖 .A) (𝓜 .mem) (𝓡 .run)) 𝓜 𝓡 code.env #outcome outcome-def.routine code.calls-kept-pair·outcome (outcome-thm.met 𝓤 H 𝓜 𝓖 𝓡)))

@@ -48,13 +48,13 @@ use Rattle.socket.proofs.Pair.Laws as T′
 use Rattle.ends.proofs.Outcome as K
 use Rattle.ends.proofs.Outcome.Laws as K′
 use Rattle.transfer.specs.declared.Transfer.{Transfer}
-use Rattle.transfer.specs.Transfer.{wroteBy}
+use Rattle.transfer_write.specs.Transfer.{wroteBy}
 use Rattle.transfer.proofs.Transfer as X
 use Rattle.transfer.proofs.Transfer.Laws as X′
 use Rattle.kept_pair.proofs.Callees.{transfer-word-contract, to-transfer-word, goes-transfer-word, transfer-word-told, is-write-without-visit-contract, to-is-write-without-visit, goes-is-write-without-visit, is-write-without-visit-told, with-write-contract, to-with-write, goes-with-write, with-write-told, write-outcome-contract, to-write-outcome, goes-write-outcome, write-outcome-told, outcome-contract, to-outcome, goes-outcome}
 use Rattle.socket.specs.Pair.{isOne, endsOf}
 use Rattle.socket.specs.Deferred.{settled}
-use Rattle.socket.specs.Transferred.{wrotePair, writeWithoutVisit}
+use Rattle.transferred.specs.Transferred.{wrotePair, writeWithoutVisit}
 use Rattle.kept_pair.proofs.Stored.{wrote-unvisited, passed-on}
 use Rattle.kept_pair.proofs.transfer_word as transfer-word
 use Rattle.kept_pair.proofs.transfer_word.Symbol as transfer-word-def
@@ -64,10 +64,10 @@ use Rattle.kept_pair.proofs.is_write_without_visit as is-write-without-
 use Rattle.kept_pair.proofs.is_write_without_visit.Symbol as is-write-without-visit-def
 use Rattle.kept_pair.proofs.is_write_without_visit.Symbol.{name as #is-write-without-visit}
 use Rattle.kept_pair.proofs.is_write_without_visit.Met as is-write-without-visit-thm
-use Rattle.socket.proofs.with_write as with-write
-use Rattle.socket.proofs.with_write.Symbol as with-write-def
-use Rattle.socket.proofs.with_write.Symbol.{name as #with-write}
-use Rattle.socket.proofs.with_write.Met as with-write-thm
+use Rattle.transferred.proofs.with_write as with-write
+use Rattle.transferred.proofs.with_write.Symbol as with-write-def
+use Rattle.transferred.proofs.with_write.Symbol.{name as #with-write}
+use Rattle.transferred.proofs.with_write.Met as with-write-thm
 use Rattle.kept_pair.proofs.write_outcome as write-outcome
 use Rattle.kept_pair.proofs.write_outcome.Symbol as write-outcome-def
 use Rattle.kept_pair.proofs.write_outcome.Symbol.{name as #write-outcome}
@@ -176,6 +176,6 @@ wrote-spec 𝓤 H 𝓜 𝓖 𝓡 =
     (meets 𝓤 H (𝓖 .A) (givenOf 𝓤 H 𝓜 𝓖) (𝓜 .mem) (𝓡 .run) (tablesOf 𝓤 H 𝓜 (tables 𝓤 H 𝓜 𝓡 code.env))
     (cited 𝓤 H (transfer-word-contract 𝓤 H (𝓖 .A) (𝓜 .mem) (𝓡 .run)) 𝓜 𝓡 code.env #transfer-word transfer-word-def.routine code.calls-kept-pair·transfer-word (transfer-word-thm.met 𝓤 H 𝓜 𝓖 𝓡))
     (cited 𝓤 H (is-write-without-visit-contract 𝓤 H (𝓖 .A) (𝓜 .mem) (𝓡 .run)) 𝓜 𝓡 code.env #is-write-without-visit is-write-without-visit-def.routine code.calls-kept-pair·is-write-without-visit (is-write-without-visit-thm.met 𝓤 H 𝓜 𝓖 𝓡))
-    (cited 𝓤 H (with-write-contract 𝓤 H (𝓖 .A) (𝓜 .mem) (𝓡 .run)) 𝓜 𝓡 code.env #with-write with-write-def.routine code.calls-socket·with-write (with-write-thm.met 𝓤 H 𝓜 𝓖 𝓡))
+    (cited 𝓤 H (with-write-contract 𝓤 H (𝓖 .A) (𝓜 .mem) (𝓡 .run)) 𝓜 𝓡 code.env #with-write with-write-def.routine code.calls-transferred·with-write (with-write-thm.met 𝓤 H 𝓜 𝓖 𝓡))
     (cited 𝓤 H (write-outcome-contract 𝓤 H (𝓖 .A) (𝓜 .mem) (𝓡 .run)) 𝓜 𝓡 code.env #write-outcome write-outcome-def.routine code.calls-kept-pair·write-outcome (write-outcome-thm.met 𝓤 H 𝓜 𝓖 𝓡))
     (cited 𝓤 H (outcome-contract 𝓤 H (𝓖 .A) (𝓜 .mem) (𝓡 .run)) 𝓜 𝓡 code.env #outcome outcome-def.routine code.calls-kept-pair·outcome (outcome-thm.met 𝓤 H 𝓜 𝓖 𝓡)))

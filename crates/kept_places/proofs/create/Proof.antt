@@ -1,4 +1,4 @@
--- `kept_pair::create` meets its contract: a walk of its MIR, by hand. Where the answer is done, a new pair is stored.
+-- `kept_places::create` meets its contract: a walk of its MIR, by hand. Where the answer is done, a new pair is stored.
 -- Assumes nothing.
 use mathlib.Core.Path.{_≡_, refl, ap}
 use mathlib.Core.Bool.{Bool}

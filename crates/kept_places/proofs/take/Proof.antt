@@ -1,4 +1,4 @@
--- `kept_pair::take` meets its contract: a walk of its MIR, by hand. The pair is copied out, and the one without its oldest packet is stored.
+-- `kept_places::take` meets its contract: a walk of its MIR, by hand. The pair is copied out, and the one without its oldest packet is stored.
 -- Assumes nothing.
 use mathlib.Core.Path.{_≡_, refl, ap}
 use mathlib.Core.Bool.{Bool}

@@ -1,4 +1,4 @@
--- `kept_pair::wait` meets its contract: a walk of its MIR, by hand. The pair is copied out, and the one with the wait is stored.
+-- `kept_places::wait` meets its contract: a walk of its MIR, by hand. The pair is copied out, and the one with the wait is stored.
 -- Assumes nothing.
 use mathlib.Core.Path.{_≡_, refl, ap}
 use mathlib.Core.Bool.{Bool}

@@ -3,7 +3,7 @@ use mathlib.Core.Bool.{false}
 use mathlib.Core.Path.{ap}
 use Rattle.status.specs.Answer.{isDone, refuseIf, _then_}
 use Rattle.status.specs.Choice.{pick}
-use Rattle.answers.specs.Create.{numbersAnswer, createAnswer}
+use Rattle.create_answer.specs.Create.{numbersAnswer, createAnswer}
 use Rattle.socket.specs.declared.Pair.{Pair}
 use Rattle.feed.proofs.Turns.{mkState}
 use Rattle.feed.specs.Machine.{startState}

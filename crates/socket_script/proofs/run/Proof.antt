@@ -2,17 +2,20 @@ use Prim.Native.Nat.{ℕ, _+_, _-_, _≤_, _<_}
 use borrow.Author.Needs.{needs}
 use denote.Ref.{now}
 use lib.ListN.{length}
+use mathlib.Core.Bool.{Bool, true}
+use mathlib.Core.List.{List}
 use mathlib.Core.Logic.{⊎-elim}
 use mathlib.Core.Path.{_≡_, refl, sym, ap, _∙_}
 use native.Mathlib.Omega.{arith}
+use Rattle.status.proofs.Rules.{via-not, via-not-not}
 use Rattle.feed.specs.Machine.{startState}
 use Rattle.feed.specs.Turn.{LIMIT}
 use Rattle.buffer.specs.declared.Progress.{Progress}
 use Rattle.plain_call.specs.Rings.{rings}
-use Rattle.socket_script.specs.Drain.{held}
-use Rattle.socket_script.specs.Run.{RunMay, Blocks, none, more}
+use Rattle.socket_script.specs.Drain.{isOpen, ReadIn, held, Drained}
+use Rattle.socket_script.specs.Run.{RunMay, Blocks, none, more, readMore}
 use Rattle.socket_script.proofs.Drains.{open-below}
-use Rattle.socket_script.proofs.Blocks.{begun, stops-shut, stops-ended}
+use Rattle.socket_script.proofs.Blocks.{begun, open-first, stops-shut, stops-ended}
 use Rattle.socket_script.proofs.run.Statement.{statement}
 use Rattle.socket_script.proofs.run.Tie as tie
 
@@ -20,8 +23,11 @@ no-record : startState .number ≡ 0
 unfolding startState
 no-record = refl
 
-abbrev Inv-loop : tie.InvT-loop
-Inv-loop memory₀ ring-one₀ table-one₀ ring-two₀ table-two₀ buffer₀ out₀ p₀ memory ring-one table-one ring-two table-two buffer out p =
+-- from p₀ on, where the slices were the first seven, blocks were read and fed up to p, and o says whether the script may go on
+abbrev Standing :
+    (memory₀ ring-one₀ table-one₀ ring-two₀ table-two₀ buffer₀ out₀ : List ℕ) → Progress → (memory ring-one table-one ring-two table-two buffer out : List ℕ)
+    → Progress → Bool → Type 0
+Standing memory₀ ring-one₀ table-one₀ ring-two₀ table-two₀ buffer₀ out₀ p₀ memory ring-one table-one ring-two table-two buffer out p o =
     (p .used ≤ length buffer₀)
     × RunMay memory₀ buffer₀ out₀
     × (length memory ≡ length memory₀)
@@ -34,9 +40,50 @@ Inv-loop memory₀ ring-one₀ table-one₀ ring-two₀ table-two₀ buffer₀ o
     × (p .offset + p .used ≤ LIMIT)
     × (p .state .number ≤ p .offset)
     × Blocks (held p₀ buffer₀ memory₀ (rings ring-one₀ table-one₀ ring-two₀ table-two₀) out₀) (held p buffer memory (rings ring-one table-one ring-two table-two) out)
+    × (o ≡ isOpen (p .state .ended) (p .offset))
+
+abbrev Inv-loop : tie.InvT-loop
+Inv-loop memory₀ ring-one₀ table-one₀ ring-two₀ table-two₀ buffer₀ out₀ p₀ o₀ memory ring-one table-one ring-two table-two buffer out p o = Standing memory₀ ring-one₀ table-one₀ ring-two₀ table-two₀ buffer₀ out₀ p₀ memory ring-one table-one ring-two table-two buffer out p o
 
 abbrev μ-loop : tie.MeasureT-loop
-μ-loop memory₀ ring-one₀ table-one₀ ring-two₀ table-two₀ buffer₀ out₀ p₀ memory ring-one table-one ring-two table-two buffer out p = LIMIT - (p .offset + p .used)
+μ-loop memory₀ ring-one₀ table-one₀ ring-two₀ table-two₀ buffer₀ out₀ p₀ o₀ memory ring-one table-one ring-two table-two buffer out p o = LIMIT - (p .offset + p .used)
+
+-- a block more was read and fed
+module _ {memory₀ ring-one₀ table-one₀ ring-two₀ table-two₀ buffer₀ out₀ : List ℕ} {p₀ : Progress}
+    {memory ring-one table-one ring-two table-two buffer out : List ℕ} {p : Progress} {o : Bool}
+    {memory′ ring-one′ table-one′ ring-two′ table-two′ buffer₁ buffer′ out′ : List ℕ} {p′ : Progress} {got : ℕ}
+    (i : Standing memory₀ ring-one₀ table-one₀ ring-two₀ table-two₀ buffer₀ out₀ p₀ memory ring-one table-one ring-two table-two buffer out p o)
+    (go : o ≡ true) (r : ReadIn (p .used) got buffer buffer₁) (n : got ≡ 0 → ⊥)
+    (d : Drained (readMore got buffer₁ (held p buffer memory (rings ring-one table-one ring-two table-two) out)) (held p′ buffer′ memory′ (rings ring-one′ table-one′ ring-two′ table-two′) out′)) where
+  below : p .offset < 4611686018427256832
+  below = open-below _ _ (sym (i .12) ∙ go)
+
+  count : p′ .offset + p′ .used ≡ p .offset + (p .used + got)
+  count = d .used
+
+  less : LIMIT - (p′ .offset + p′ .used) < LIMIT - (p .offset + p .used)
+  less = omega (arith, below, count, n, r .within, i .0, i .1 .most, i .7, i .9)
+
+  again : length buffer′ ≡ length buffer₁ → length memory′ ≡ length memory → length ring-one′ ≡ length ring-one → length table-one′ ≡ length table-one
+      → length ring-two′ ≡ length ring-two → length table-two′ ≡ length table-two → length out′ ≡ length out
+      → (o′ : Bool) → o′ ≡ isOpen (p′ .state .ended) (p′ .offset)
+      → Standing memory₀ ring-one₀ table-one₀ ring-two₀ table-two₀ buffer₀ out₀ p₀ memory′ ring-one′ table-one′ ring-two′ table-two′ buffer′ out′ p′ o′
+  again lb lm l1 t1 l2 t2 lo o′ e =
+      let u : p′ .used ≤ p .used + got = d .within in (
+        omega (arith, u, r .within, i .7),
+        i .1,
+        lm ∙ i .2,
+        l1 ∙ i .3,
+        t1 ∙ i .4,
+        l2 ∙ i .5,
+        t2 ∙ i .6,
+        lb ∙ r .size ∙ i .7,
+        lo ∙ i .8,
+        omega (arith, below, count, r .within, i .1 .most, i .7),
+        d .count,
+        more (i .11) (sym (i .12) ∙ go) r n d,
+        e,
+      )
 
 first-requires : tie.Need-first-requires Inv-loop μ-loop
 first-requires c κs = search needs
@@ -52,112 +99,93 @@ loop-holds c =
     let u : f .result .used ≡ 0 = ap (λ (q : Progress). q .used) (f .ensures) in
     let o : f .result .offset ≡ 0 = ap (λ (q : Progress). q .offset) (f .ensures) in
     let n : f .result .state .number ≡ 0 = ap (λ (q : Progress). q .state .number) (f .ensures) ∙ no-record in
-    (omega (arith, u), record { size = q .size; least = q .least; most = q .most; room = omega (arith, q .room, g .kept .0) }, refl, refl, refl, refl, refl, refl, refl, omega (arith, u, o), omega (arith, n), none)
-
-is-open-requires : tie.Need-is-open-requires Inv-loop μ-loop
-is-open-requires c κs = search needs
+    (omega (arith, u), record { size = q .size; least = q .least; most = q .most; room = omega (arith, q .room, g .kept .0) }, refl, refl, refl, refl, refl, refl, refl, omega (arith, u, o), omega (arith, n), none, open-first (f .ensures))
 
 read-in-requires : tie.Need-read-in-requires Inv-loop μ-loop
 read-in-requires c κs =
-    let l = c .before .before .before .loop in
+    let l = c .before .before .loop in
     let h : l .p .used ≤ length (l .buffer) = omega (arith, l .inv .0, l .inv .7) in
     h
 
 add-p : tie.Need-add-p Inv-loop μ-loop
 add-p c =
-    let l = c .before .before .before .before .before .before .before .loop in
+    let l = c .before .before .before .before .before .before .loop in
     omega (arith, c .before .before .before .read-in .ensures .within, l .inv .1 .most, l .inv .7)
 
 drain-requires : tie.Need-drain-requires Inv-loop μ-loop
 drain-requires c κs =
-    let l = c .before .before .before .before .before .before .before .before .before .before .before .before .before .before .loop in
+    let l = c .before .before .before .before .before .before .before .before .before .before .before .before .before .loop in
     let r = c .before .before .before .before .before .before .before .before .before .before .read-in in
     record {
       used = omega (arith, r .ensures .within, r .ensures .size);
       count = l .inv .10;
-      total = omega (arith, r .ensures .within, l .inv .1 .most, l .inv .7, open-below _ _ (sym (c .before .before .before .before .before .before .before .before .before .before .before .before .before .is-open .ensures) ∙ c .before .before .before .before .before .before .before .before .before .before .before .before .if1 .taken));
+      total = omega (arith, r .ensures .within, l .inv .1 .most, l .inv .7, open-below _ _ (sym (l .inv .12) ∙ c .before .before .before .before .before .before .before .before .before .before .before .before .loop-test .taken));
       size = omega (arith, l .inv .1 .size, l .inv .2);
       room = omega (arith, l .inv .1 .room, l .inv .8);
     }
 
+is-open-requires : tie.Need-is-open-requires Inv-loop μ-loop
+is-open-requires c κs = search needs
+
 loop-less : tie.Need-loop-less Inv-loop μ-loop
-loop-less c =
-    let l = c .before .before .before .before .before .before .before .before .before .before .before .before .before .before .before .before .before .before .before .before .before .before .before .before .before .before .before .before .before .loop in
-    let r = c .before .before .before .before .before .before .before .before .before .before .before .before .before .before .before .before .before .before .before .before .before .before .before .before .before .read-in in
-    let d = c .before .before .before .before .before .before .before .before .before .before .before .before .before .before .drain in
-    let e : d .result .offset + d .result .used ≡ l .p .offset + (l .p .used + r .result) = d .ensures .used in
-    let t : l .p .offset < 4611686018427256832 = open-below _ _ (sym (c .before .before .before .before .before .before .before .before .before .before .before .before .before .before .before .before .before .before .before .before .before .before .before .before .before .before .before .before .is-open .ensures) ∙ c .before .before .before .before .before .before .before .before .before .before .before .before .before .before .before .before .before .before .before .before .before .before .before .before .before .before .before .if1 .taken) in
-    let n : r .result ≡ 0 → ⊥ = c .before .before .before .before .before .before .before .before .before .before .before .before .before .before .before .before .before .before .before .before .before .before .if2 .left in
-    let h : LIMIT - (d .result .offset + d .result .used) < LIMIT - (l .p .offset + l .p .used) =
-    omega (arith, r .ensures .within, l .inv .0, l .inv .1 .most, l .inv .7, l .inv .9) in
-    h
+loop-less c = less (c .before .before .before .before .before .before .before .before .before .before .before .before .before .before .before .before .before .before .before .before .before .before .before .before .before .before .before .before .before .before .loop .inv) (c .before .before .before .before .before .before .before .before .before .before .before .before .before .before .before .before .before .before .before .before .before .before .before .before .before .before .before .before .before .loop-test .taken) (c .before .before .before .before .before .before .before .before .before .before .before .before .before .before .before .before .before .before .before .before .before .before .before .before .before .before .before .read-in .ensures) (c .before .before .before .before .before .before .before .before .before .before .before .before .before .before .before .before .before .before .before .before .before .before .before .before .if1 .left) (c .before .before .before .before .before .before .before .before .before .before .before .before .before .before .before .before .drain .ensures)
 
 loop-again : tie.Need-loop-again Inv-loop μ-loop
 loop-again c =
-    let l = c .before .before .before .before .before .before .before .before .before .before .before .before .before .before .before .before .before .before .before .before .before .before .before .before .before .before .before .before .before .loop in
-    let r = c .before .before .before .before .before .before .before .before .before .before .before .before .before .before .before .before .before .before .before .before .before .before .before .before .before .read-in in
-    let d = c .before .before .before .before .before .before .before .before .before .before .before .before .before .before .drain in
-    let e : d .result .offset + d .result .used ≡ l .p .offset + (l .p .used + r .result) = d .ensures .used in
-    let t : l .p .offset < 4611686018427256832 = open-below _ _ (sym (c .before .before .before .before .before .before .before .before .before .before .before .before .before .before .before .before .before .before .before .before .before .before .before .before .before .before .before .before .is-open .ensures) ∙ c .before .before .before .before .before .before .before .before .before .before .before .before .before .before .before .before .before .before .before .before .before .before .before .before .before .before .before .if1 .taken) in
-    let n : r .result ≡ 0 → ⊥ = c .before .before .before .before .before .before .before .before .before .before .before .before .before .before .before .before .before .before .before .before .before .before .if2 .left in
-    let u : d .result .used ≤ l .p .used + r .result = d .ensures .within in
-    let z = d .kept .1 in
-    let h : d .result .used ≤ length (l .buffer) = omega (arith, r .ensures .within) in
-    let g : d .result .offset + d .result .used ≤ LIMIT = omega (arith, r .ensures .within, l .inv .1 .most, l .inv .7) in (
-      omega (arith, h, l .inv .7),
-      l .inv .1,
-      z .1 .0 ∙ l .inv .2,
-      z .1 .1 .0 ∙ l .inv .3,
-      z .1 .1 .1 .0 ∙ l .inv .4,
-      z .1 .1 .1 .1 .0 ∙ l .inv .5,
-      z .1 .1 .1 .1 .1 .0 ∙ l .inv .6,
-      z .0 ∙ r .ensures .size ∙ l .inv .7,
-      z .1 .1 .1 .1 .1 .1 .0 ∙ l .inv .8,
-      g,
-      d .ensures .count,
-      more (l .inv .11) (sym (c .before .before .before .before .before .before .before .before .before .before .before .before .before .before .before .before .before .before .before .before .before .before .before .before .before .before .before .before .is-open .ensures) ∙ c .before .before .before .before .before .before .before .before .before .before .before .before .before .before .before .before .before .before .before .before .before .before .before .before .before .before .before .if1 .taken) (r .ensures) n (d .ensures),
-    )
+    let z = c .before .before .before .before .before .before .before .before .before .before .before .before .before .before .before .before .drain .kept .1 in
+    again (c .before .before .before .before .before .before .before .before .before .before .before .before .before .before .before .before .before .before .before .before .before .before .before .before .before .before .before .before .before .before .loop .inv) (c .before .before .before .before .before .before .before .before .before .before .before .before .before .before .before .before .before .before .before .before .before .before .before .before .before .before .before .before .before .loop-test .taken) (c .before .before .before .before .before .before .before .before .before .before .before .before .before .before .before .before .before .before .before .before .before .before .before .before .before .before .before .read-in .ensures) (c .before .before .before .before .before .before .before .before .before .before .before .before .before .before .before .before .before .before .before .before .before .before .before .before .if1 .left) (c .before .before .before .before .before .before .before .before .before .before .before .before .before .before .before .before .drain .ensures)
+    (z .0) (z .1 .0) (z .1 .1 .0) (z .1 .1 .1 .0) (z .1 .1 .1 .1 .0) (z .1 .1 .1 .1 .1 .0) (z .1 .1 .1 .1 .1 .1 .0)
+    _ (sym (via-not (c .before .is-open .ensures) (c .if2 .taken)))
+
+loop-less-2 : tie.Need-loop-less-2 Inv-loop μ-loop
+loop-less-2 c = less (c .before .before .before .before .before .before .before .before .before .before .before .before .before .before .before .before .before .before .before .before .before .before .before .before .before .before .before .before .before .before .loop .inv) (c .before .before .before .before .before .before .before .before .before .before .before .before .before .before .before .before .before .before .before .before .before .before .before .before .before .before .before .before .before .loop-test .taken) (c .before .before .before .before .before .before .before .before .before .before .before .before .before .before .before .before .before .before .before .before .before .before .before .before .before .before .before .read-in .ensures) (c .before .before .before .before .before .before .before .before .before .before .before .before .before .before .before .before .before .before .before .before .before .before .before .before .if1 .left) (c .before .before .before .before .before .before .before .before .before .before .before .before .before .before .before .before .drain .ensures)
+
+loop-again-2 : tie.Need-loop-again-2 Inv-loop μ-loop
+loop-again-2 c =
+    let z = c .before .before .before .before .before .before .before .before .before .before .before .before .before .before .before .before .drain .kept .1 in
+    again (c .before .before .before .before .before .before .before .before .before .before .before .before .before .before .before .before .before .before .before .before .before .before .before .before .before .before .before .before .before .before .loop .inv) (c .before .before .before .before .before .before .before .before .before .before .before .before .before .before .before .before .before .before .before .before .before .before .before .before .before .before .before .before .before .loop-test .taken) (c .before .before .before .before .before .before .before .before .before .before .before .before .before .before .before .before .before .before .before .before .before .before .before .before .before .before .before .read-in .ensures) (c .before .before .before .before .before .before .before .before .before .before .before .before .before .before .before .before .before .before .before .before .before .before .before .before .if1 .left) (c .before .before .before .before .before .before .before .before .before .before .before .before .before .before .before .before .drain .ensures)
+    (z .0) (z .1 .0) (z .1 .1 .0) (z .1 .1 .1 .0) (z .1 .1 .1 .1 .0) (z .1 .1 .1 .1 .1 .0) (z .1 .1 .1 .1 .1 .1 .0)
+    _ (c .before .before .before .before .before .before .before .before .before .before .before .before .before .before .before .before .before .before .before .before .before .before .before .before .before .before .before .before .before .loop-test .taken ∙ sym (via-not-not (c .before .is-open .ensures) (c .if2 .left)))
 
 close-requires : tie.Need-close-requires Inv-loop μ-loop
 close-requires c κs =
-    let i = c .before .before .before .before .loop .inv in
+    let i = c .before .before .before .loop .inv in
     ⊎-elim (λ w. (omega (arith, ap length (w .1), i .0, i .7), omega (arith, i .1 .room, i .8))) (λ w. (omega (arith, ap length (w .6), w .2 .ensures .size, i .0, i .7), omega (arith, i .1 .room, i .8)))
-    (c .before .before .if1 .came)
+    (c .before .before .loop-test .came)
 
 same-length : tie.Need-same-length Inv-loop μ-loop
-same-length c = c .before .before .before .before .before .before .before .loop .inv .2
+same-length c = c .before .before .before .before .before .before .loop .inv .2
 
 same-length-2 : tie.Need-same-length-2 Inv-loop μ-loop
-same-length-2 c = c .before .before .before .before .before .before .before .loop .inv .3
+same-length-2 c = c .before .before .before .before .before .before .loop .inv .3
 
 same-length-3 : tie.Need-same-length-3 Inv-loop μ-loop
-same-length-3 c = c .before .before .before .before .before .before .before .loop .inv .4
+same-length-3 c = c .before .before .before .before .before .before .loop .inv .4
 
 same-length-4 : tie.Need-same-length-4 Inv-loop μ-loop
-same-length-4 c = c .before .before .before .before .before .before .before .loop .inv .5
+same-length-4 c = c .before .before .before .before .before .before .loop .inv .5
 
 same-length-5 : tie.Need-same-length-5 Inv-loop μ-loop
-same-length-5 c = c .before .before .before .before .before .before .before .loop .inv .6
+same-length-5 c = c .before .before .before .before .before .before .loop .inv .6
 
 same-length-6 : tie.Need-same-length-6 Inv-loop μ-loop
 same-length-6 c =
-    let i = c .before .before .before .before .before .before .before .loop .inv in
-    ⊎-elim (λ w. ap length (w .1) ∙ i .7) (λ w. ap length (w .6) ∙ w .2 .ensures .size ∙ i .7) (c .before .before .before .before .before .if1 .came)
+    let i = c .before .before .before .before .before .before .loop .inv in
+    ⊎-elim (λ w. ap length (w .1) ∙ i .7) (λ w. ap length (w .6) ∙ w .2 .ensures .size ∙ i .7) (c .before .before .before .before .before .loop-test .came)
 
 same-length-7 : tie.Need-same-length-7 Inv-loop μ-loop
-same-length-7 c = c .before .before .close .kept .1 .1 .0 ∙ c .before .before .before .before .before .before .before .loop .inv .8 ∙ c .before .before .before .before .before .before .before .before .before .before .begin .kept .0
+same-length-7 c = c .before .before .close .kept .1 .1 .0 ∙ c .before .before .before .before .before .before .loop .inv .8 ∙ c .before .before .before .before .before .before .before .before .before .begin .kept .0
 
 returns : tie.Need-returns Inv-loop μ-loop
 returns c =
-    let l = c .before .before .before .before .before .before .before .loop in
-    let o = c .before .before .before .before .before .before .is-open in
+    let l = c .before .before .before .before .before .before .loop in
     record {
       last = held (l .p) (l .buffer) (l .memory) (rings (l .ring-one) (l .table-one) (l .ring-two) (l .table-two)) (l .out);
-      blocks = begun (now (c .before .before .before .before .before .before .before .before .before .before .before .before .before .before .before .before .before .before .before .before .args .out)) (c .before .before .before .before .before .before .before .before .before .before .before .before .first .ensures) (c .before .before .before .before .before .before .before .before .before .before .begin .ensures) (l .inv .11);
+      blocks = begun (now (c .before .before .before .before .before .before .before .before .before .before .before .before .before .before .before .before .before .before .before .args .out)) (c .before .before .before .before .before .before .before .before .before .before .before .first .ensures) (c .before .before .before .before .before .before .before .before .before .begin .ensures) (l .inv .11);
       stops =
-          ⊎-elim (λ w. stops-shut (sym (o .ensures) ∙ w .0 .left) (w .1))
-          (λ w. stops-ended (sym (o .ensures) ∙ w .0 .taken) (w .2 .ensures) (w .5 .taken) (w .6))
-          (c .before .before .before .before .before .if1 .came);
+          ⊎-elim (λ w. stops-shut (sym (l .inv .12) ∙ w .0 .left) (w .1))
+          (λ w. stops-ended (sym (l .inv .12) ∙ w .0 .taken) (w .2 .ensures) (w .5 .taken) (w .6))
+          (c .before .before .before .before .before .loop-test .came);
       user = refl;
       lent = refl;
       text = c .before .before .close .ensures;
@@ -172,12 +200,14 @@ run-spec =
     first-requires
     begin-requires
     loop-holds
-    is-open-requires
     read-in-requires
     add-p
     drain-requires
+    is-open-requires
     loop-less
     loop-again
+    loop-less-2
+    loop-again-2
     close-requires
     same-length
     same-length-2

@@ -1,6 +1,6 @@
 use Rattle.status.proofs.Rules.{via-not, via-not-not, then-stop, then-go}
 use Rattle.answers.specs.Info.{infoAnswer}
-use Rattle.ends.specs.Tests.{lentOf}
+use Rattle.ends_tests.specs.Tests.{lentOf}
 use mathlib.Core.Path.{ap}
 use Rattle.status.specs.declared.SocketInfo.{SocketInfo}
 use Rattle.status.specs.declared.Record.the-variants.{Info}

@@ -1,7 +1,7 @@
 use Prim.Native.Nat.{_+_}
 use native.Mathlib.Omega.{arith}
 use borrow.Author.Tests.{leb-true}
-use Rattle.ends.proofs.Sound.{opening-sound}
+use Rattle.ends_tests.proofs.Sound.{opening-sound}
 use Rattle.status.proofs.Rules.{chain, via-not, via-not-not, then-stop, then-go}
 use Rattle.answers.specs.Wait.{waitAnswer}
 use borrow.Author.Needs.{needs}

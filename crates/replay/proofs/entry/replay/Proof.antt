@@ -1,13 +1,15 @@
 -- `replay` meets its contract. The invariant: if as many entries agree as were run, all entries before `at` agree, else the tally holds the first
--- that does not. An entry takes twelve bytes at least, so that there are no more entries than bytes.
+-- that does not. An entry takes twelve bytes at least, so that there are no more entries than bytes, and the tally
+-- is never full.
 use Prim.Native.Nat.{ℕ, _+_, _-_, _≤_, _<_}
 use mathlib.Core.List.{List}
 use mathlib.Core.Path.{_≡_, refl, ap, _∙_}
 use native.Mathlib.Omega.{arith}
 use borrow.Author.Needs.{needs}
 use lib.ListN.{length}
-use Rattle.replay.specs.declared.entry.Outcome.the-variants.{Agrees}
-use Rattle.replay.specs.declared.entry.Tally.{Tally}
+use Rattle.tally.specs.declared.Outcome.the-variants.{Agrees}
+use Rattle.tally.specs.declared.Tally.{Tally}
+use Rattle.tally.proofs.Counts.{counted-small}
 use Rattle.replay.specs.Entry.{AllAgree, none, more, FirstMissed, noTally, Tallied, begun, next}
 use Rattle.replay.proofs.Entries.{counted-total, counted-most, counted-all, first-counted}
 use Rattle.replay.proofs.entry.replay.Statement.{statement}
@@ -73,7 +75,8 @@ loop-again c =
     let h = c .before .before .before .before .before .before .before .before .before .before .loop .inv in
     let t = c .before .before .before .before .before .before .before .before .before .before .loop .t in
     let k = c .before .before .before .replay-entry in
-    let e = c .counted .ensures in
+    let small : t .total < 9223372036854775808 = search needs in
+    let e = counted-small t _ _ (k .result) small (omega (arith, small, h .2)) (c .counted .ensures) in
     let total : c .counted .result .total ≡ t .total + 1 = ap (λ (x : Tally). x .total) e ∙ counted-total t _ _ (k .result) in (
       entry .behind .within,
       omega (arith, entry .name, entry .behind .script, entry .behind .stored, total),

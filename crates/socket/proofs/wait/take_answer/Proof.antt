@@ -1,7 +1,7 @@
 use mathlib.Core.Path.{sym, ap, _∙_}
 use Rattle.status.specs.Answer.{isDone}
 use Rattle.status.proofs.Rules.{via-not, via-not-not, then-stop, then-go}
-use Rattle.ends.proofs.Sound.{sound-passed}
+use Rattle.ends_tests.proofs.Sound.{sound-passed}
 use Rattle.socket.specs.Pair.{endsOf}
 use Rattle.socket.specs.Wait.{takeAnswer}
 use Rattle.socket.proofs.Waits.{oldest-answer}

@@ -1,0 +1,34 @@
+-- The thresholds. 01 "Delivered bytes", thresholds.
+use Prim.Native.Nat.{ℕ, _-_}
+use mathlib.Core.Bool.{Bool}
+use Rattle.signal.specs.Signal.{«READ_THRESHOLD», «WRITE_THRESHOLD»}
+use Rattle.endpoint.specs.declared.Endpoint.{Endpoint}
+use Rattle.endpoint.specs.Endpoint.{withThresholds}
+use Rattle.bits.specs.Bits.{reached}
+use Rattle.ends.specs.declared.Ends.{Ends}
+use Rattle.ends.specs.declared.Moved.{Moved}
+use Rattle.ends.specs.declared.Outcome.{Outcome}
+use Rattle.ends.specs.Ends.{isOne, own, peer}
+use Rattle.threshold_answers.specs.Threshold.{readThresholdAnswer, writeThresholdAnswer}
+use Rattle.control.specs.Signal.{bitVisit, changedEnd, firstOnly, movedIf}
+
+-- the bit is set if the threshold is above 0 and the queued bytes reach it, else cleared
+unfoldable pub readThresholdMoved : Bool → (own peer : Endpoint) → (n : ℕ) → Moved
+readThresholdMoved t a b n =
+    let first = bitVisit t (a .signals) (reached n (a .queue .bytes .count)) «READ_THRESHOLD» in
+    firstOnly (changedEnd first (withThresholds (record { read = n; write = a .thresholds .write }) a)) b first
+
+-- the bit is set if the threshold is above 0 and fits the space of the peer's queue, else cleared
+unfoldable pub writeThresholdMoved : (C : ℕ) → Bool → (own peer : Endpoint) → (n : ℕ) → Moved
+writeThresholdMoved C t a b n =
+    let first = bitVisit t (a .signals) (reached n (C - b .queue .bytes .count)) «WRITE_THRESHOLD» in
+    firstOnly (changedEnd first (withThresholds (record { read = a .thresholds .read; write = n }) a)) b first
+
+-- the outcome of setting the read threshold, by the answer
+unfoldable pub readThresholdEnds : Ends → (h n : ℕ) → Outcome
+readThresholdEnds e h n = movedIf e h (readThresholdAnswer e h n) (readThresholdMoved (isOne h) (own (isOne h) e) (peer (isOne h) e) n)
+
+-- the outcome of setting the write threshold, by the answer
+unfoldable pub writeThresholdEnds : Ends → (h n : ℕ) → Outcome
+writeThresholdEnds e h n =
+    movedIf e h (writeThresholdAnswer e h n) (writeThresholdMoved (e .capacity) (isOne h) (own (isOne h) e) (peer (isOne h) e) n)

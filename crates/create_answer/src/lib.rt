@@ -1,0 +1,55 @@
+// The answer of create: its numbers, then the lengths of the rings and tables. After `Socket` of ipc/socket.rs.
+use endpoint::short_slices;
+use status::Answer;
+use status::Record;
+use status::Status;
+ghost use mathlib.Core.Path.{_≡_};
+ghost use Rattle.create_answer.specs.Create.{numbersAnswer, createAnswer};
+
+// The numbers of create: kind, capacity, rights.
+fn numbers_answer(kind: u32, capacity: u32, rights_one: u32, rights_two: u32) -> Answer
+    ensures { λ r. ⌜ r ≡ numbersAnswer kind capacity «rights_one» «rights_two» ⌝ }
+{
+    if 1 < kind {
+        return Answer::Refused(Status::InvalidArgs);
+    }
+    if capacity == 0 {
+        return Answer::Refused(Status::InvalidArgs);
+    }
+    if 262144 < capacity {
+        return Answer::Refused(Status::InvalidArgs);
+    }
+    if 7 < rights_one {
+        return Answer::Refused(Status::InvalidArgs);
+    }
+    if 7 < rights_two {
+        return Answer::Refused(Status::InvalidArgs);
+    }
+    Answer::Done(Record::Empty)
+}
+
+// The numbers, then the lengths of the rings and tables.
+pub fn create_answer(
+    kind: u32,
+    capacity: u32,
+    rights_one: u32,
+    rights_two: u32,
+    ring_one: usize,
+    table_one: usize,
+    ring_two: usize,
+    table_two: usize,
+) -> Answer
+    ensures { λ r. ⌜ r ≡ createAnswer kind capacity «rights_one» «rights_two» «ring_one» «table_one» «ring_two» «table_two» ⌝ }
+{
+    let a = numbers_answer(kind, capacity, rights_one, rights_two);
+    if !status::is_done(a) {
+        return a;
+    }
+    if short_slices(kind == 1, capacity, ring_one, table_one) {
+        return Answer::Refused(Status::InvalidArgs);
+    }
+    if short_slices(kind == 1, capacity, ring_two, table_two) {
+        return Answer::Refused(Status::InvalidArgs);
+    }
+    Answer::Done(Record::Empty)
+}

@@ -1,0 +1,2 @@
+-- Counts: when a tally is full, and what is counted
+pub mod Counts

@@ -1,0 +1,2 @@
+-- Count: how one entry more is counted
+pub mod Count

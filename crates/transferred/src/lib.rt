@@ -1,0 +1,67 @@
+// A write and a read that can fire no wait: what they change, put into the pair.
+use endpoint::Endpoint;
+use endpoint::Queue;
+use ends::queue_if;
+use places::word_if;
+use signal::changed;
+use socket::Pair;
+use transfer::Transfer;
+ghost use mathlib.Core.Path.{_≡_};
+ghost use Rattle.status.specs.Choice.{pick};
+ghost use Rattle.signal.specs.Signal.{changedWord};
+ghost use Rattle.endpoint.specs.Endpoint.{withQueue, withSignals};
+ghost use Rattle.socket.specs.Pair.{isOne};
+ghost use Rattle.transferred.specs.Transferred.{transferredPair, wrotePair};
+
+// The end with its word changed, and with this queue if it takes it.
+fn end_with(e: Endpoint, takes: bool, queue: Queue, lost: u32, gained: u32) -> Endpoint
+    ensures { λ r. ⌜ r ≡ withSignals (changedWord lost gained (e .signals)) (withQueue (pick takes queue (e .queue)) e) ⌝ }
+{
+    let next = e.with_queue(queue_if(takes, queue, e.queue));
+    next.with_signals(changed(e.signals, lost, gained))
+}
+
+// The pair after a call by end 1, or else by end 2: the caller's word loses bits, its peer's gains some, and the queue is that of end 1 if `takes`, else
+// that of end 2. It does not look at `moves`.
+fn with_transfer(p: Pair, one: bool, takes: bool, t: Transfer) -> Pair
+    ensures { λ r. ⌜ r ≡ transferredPair one takes t p ⌝ }
+{
+    let places = p.places;
+    let first = end_with(
+        p.one,
+        takes,
+        t.queue,
+        word_if(one, t.lost, 0),
+        word_if(one, 0, t.gained),
+    );
+    let second = end_with(
+        p.two,
+        !takes,
+        t.queue,
+        word_if(one, 0, t.lost),
+        word_if(one, t.gained, 0),
+    );
+    Pair {
+        datagram: p.datagram,
+        capacity: p.capacity,
+        one: first,
+        two: second,
+        places,
+    }
+}
+
+// The pair after a write by the end of a handle that changes this.
+pub fn with_write(p: Pair, handle: u32, t: Transfer) -> Pair
+    ensures { λ r. ⌜ r ≡ wrotePair (isOne handle) t p ⌝ }
+{
+    let one = handle == 1;
+    with_transfer(p, one, !one, t)
+}
+
+// The pair after a read by the end of a handle that changes this; it is that of a read where the peer is open.
+pub fn with_read(p: Pair, handle: u32, t: Transfer) -> Pair
+    ensures { λ r. ⌜ r ≡ transferredPair (isOne handle) (isOne handle) t p ⌝ }
+{
+    let one = handle == 1;
+    with_transfer(p, one, one, t)
+}

@@ -1,0 +1,3 @@
+-- 01 "Delivered bytes", write.
+--   Write: the size of a write
+pub mod Write
