@@ -6,8 +6,8 @@ ghost use lib.ListN.{length, take};
 ghost use Rattle.text.specs.Put.{place};
 ghost use Rattle.plain_call.specs.Rings.{rings};
 ghost use Rattle.script.specs.Listing.{header, closing};
-ghost use Rattle.socket_script.specs.Drain.{isOpen, ReadIn, DrainMay, held, Drained};
-ghost use Rattle.socket_script.specs.Run.{RunMay, RunDone};
+ghost use Rattle.blocks.specs.Drain.{isOpen, ReadIn, DrainMay, held, Drained};
+ghost use Rattle.blocks.specs.Run.{RunMay, RunDone};
 
 const STDIN: i32 = 0;
 

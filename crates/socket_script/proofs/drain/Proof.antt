@@ -5,8 +5,8 @@ use mathlib.Core.Path.{_≡_, refl, _∙_}
 use native.Mathlib.Omega.{arith}
 use Rattle.plain_call.specs.Rings.{rings}
 use Rattle.feed.specs.Machine.{machine}
-use Rattle.socket_script.specs.Drain.{DrainMay, held, Steps, none, more}
-use Rattle.socket_script.proofs.Drains.{Stands, stands, onwards, ends, drained}
+use Rattle.blocks.specs.Drain.{DrainMay, held, Steps, none, more}
+use Rattle.blocks.proofs.Drains.{Stands, stands, onwards, ends, drained}
 use Rattle.socket_script.proofs.drain.Statement.{statement}
 use Rattle.socket_script.proofs.drain.Tie as tie
 

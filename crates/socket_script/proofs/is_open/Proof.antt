@@ -1,5 +1,5 @@
 use Rattle.status.specs.Choice.{pick}
-use Rattle.socket_script.specs.Drain.{isOpen}
+use Rattle.blocks.specs.Drain.{isOpen}
 use Rattle.socket_script.proofs.is_open.Statement.{statement}
 use Rattle.socket_script.proofs.is_open.Tie as tie
 

@@ -12,10 +12,10 @@ use Rattle.feed.specs.Machine.{startState}
 use Rattle.feed.specs.Turn.{LIMIT}
 use Rattle.buffer.specs.declared.Progress.{Progress}
 use Rattle.plain_call.specs.Rings.{rings}
-use Rattle.socket_script.specs.Drain.{isOpen, ReadIn, held, Drained}
-use Rattle.socket_script.specs.Run.{RunMay, Blocks, none, more, readMore}
-use Rattle.socket_script.proofs.Drains.{open-below}
-use Rattle.socket_script.proofs.Blocks.{begun, open-first, stops-shut, stops-ended}
+use Rattle.blocks.specs.Drain.{isOpen, ReadIn, held, Drained}
+use Rattle.blocks.specs.Run.{RunMay, Blocks, none, more, readMore}
+use Rattle.blocks.proofs.Drains.{open-below}
+use Rattle.blocks.proofs.Blocks.{begun, open-first, stops-shut, stops-ended}
 use Rattle.socket_script.proofs.run.Statement.{statement}
 use Rattle.socket_script.proofs.run.Tie as tie
 

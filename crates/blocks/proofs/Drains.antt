@@ -20,7 +20,7 @@ use Rattle.script.proofs.Tells.{tells}
 use Rattle.script.proofs.Alls.{all-stay, splits, fed-idle}
 use Rattle.script.proofs.Complete.{is-ready}
 use Rattle.buffer.proofs.Fronts.{front-fed, front-left}
-use Rattle.socket_script.specs.Drain.{isOpen, Held, movesOf, Step, Steps, Drained}
+use Rattle.blocks.specs.Drain.{isOpen, Held, movesOf, Step, Steps, Drained}
 
 -- where the program reads on, a whole buffer more stays within LIMIT
 pub open-below : (ended : Bool) (offset : ℕ) → isOpen ended offset ≡ true → offset < 4611686018427256832

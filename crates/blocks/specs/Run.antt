@@ -10,7 +10,7 @@ use Rattle.plain_call.specs.Rings.{Rings}
 use Rattle.buffer.specs.declared.Progress.{Progress}
 use Rattle.feed.specs.Machine.{startState}
 use Rattle.script.specs.Listing.{header, closing}
-use Rattle.socket_script.specs.Drain.{isOpen, ReadIn, Held, held, Drained}
+use Rattle.blocks.specs.Drain.{isOpen, ReadIn, Held, held, Drained}
 
 -- what it asks for: memory is such that no line is longer than LINE; a record, of at most 4107 bytes, has room in the buffer, which has at most what is
 -- read at once; and a line has room

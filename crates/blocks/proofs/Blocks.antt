@@ -9,8 +9,8 @@ use Rattle.buffer.specs.declared.Progress.{Progress}
 use Rattle.script.specs.Listing.{header}
 use Rattle.status.specs.Choice.{pick}
 use Rattle.feed.specs.Machine.{startState}
-use Rattle.socket_script.specs.Drain.{isOpen, ReadIn, Held, held}
-use Rattle.socket_script.specs.Run.{firstProgress, goesOn, Blocks, Stops, shut, ended}
+use Rattle.blocks.specs.Drain.{isOpen, ReadIn, Held, held}
+use Rattle.blocks.specs.Run.{firstProgress, goesOn, Blocks, Stops, shut, ended}
 
 -- the header is put out before the first
 pub begun : {p : Progress} {buffer memory out₁ : List ℕ} {z : Rings} {y : Held} (out : List ℕ) → p ≡ firstProgress → out₁ ≡ place 0 header out
