@@ -3,14 +3,14 @@
 use Prim.Native.Nat.{ℕ, _+_, _-_, _≤_}
 use mathlib.Core.Path.{_≡_}
 use mathlib.Core.Bool.{Bool, false}
-use mathlib.Core.List.{List}
+use mathlib.Core.List.{List, [], _++_}
 use lib.ListN.{length, take, drop}
 use lib.Dec.{ltb}
 use Rattle.status.specs.Choice.{pick}
 use Rattle.line.specs.Line.{LINE}
 use Rattle.plain_call.specs.Rings.{Rings}
 use Rattle.buffer.specs.declared.Progress.{Progress}
-use Rattle.feed.specs.Machine.{machine}
+use Rattle.feed.specs.Machine.{Machine, machine}
 use Rattle.feed.specs.Turn.{LIMIT}
 use Rattle.feed.specs.Feed.{Block, allOf}
 use Rattle.buffer.specs.Buffer.{frontOf, Advanced}
@@ -50,6 +50,14 @@ pub record DrainMay (p : Progress) (buffer memory out : List ℕ) : Type 0 where
   pub size : length memory ≤ 4096
   pub room : LINE ≤ length out
 
+-- the machine that the script drives
+abbrev pub machineOf : Held → Machine
+machineOf x = machine (x .at .state) (x .memory) (x .lent)
+
+-- the bytes in use: they came, and are not done with
+abbrev pub inUse : Held → List ℕ
+inUse x = take (x .at .used) (x .buffer)
+
 -- all moves that the bytes in use make
 abbrev pub movesOf : Held → Block
 movesOf x = allOf (x .at .offset) (machine (x .at .state) (x .memory) (x .lent)) (take (x .at .used) (x .buffer))
@@ -76,3 +84,18 @@ pub record Drained (x y : Held) : Type 0 where
   pub used : y .at .offset + y .at .used ≡ x .at .offset + x .at .used
   pub within : y .at .used ≤ x .at .used
   pub count : y .at .state .number ≤ y .at .offset
+
+-- ---- the text put out
+
+-- of the last call of `advance`: what it wrote to the front of the output
+abbrev pub callText : Held → List ℕ
+callText y = take (y .at .written) (y .out)
+
+-- of calls of `advance`, one behind the other
+unfoldable pub stepsText : {x y : Held} → Steps x y → List ℕ
+stepsText none = []
+stepsText (more {y} {z} f d n) = stepsText f ++ callText z
+
+-- of a drain: that of the calls that take bytes, and that of the last one
+unfoldable pub drainText : {x y : Held} → Drained x y → List ℕ
+drainText {x} {y} d = stepsText (d .calls .1) ++ callText y

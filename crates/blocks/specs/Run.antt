@@ -2,15 +2,15 @@
 use Prim.Native.Nat.{ℕ, _+_, _≤_}
 use mathlib.Core.Path.{_≡_}
 use mathlib.Core.Bool.{Bool, true, false}
-use mathlib.Core.List.{List}
-use lib.ListN.{length, take}
+use mathlib.Core.List.{List, [], _++_}
+use lib.ListN.{length, take, drop}
 use Rattle.text.specs.Put.{place}
 use Rattle.line.specs.Line.{LINE}
 use Rattle.plain_call.specs.Rings.{Rings}
 use Rattle.buffer.specs.declared.Progress.{Progress}
-use Rattle.feed.specs.Machine.{startState}
-use Rattle.script.specs.Listing.{header, closing}
-use Rattle.blocks.specs.Drain.{isOpen, ReadIn, Held, held, Drained}
+use Rattle.feed.specs.Machine.{machine, start, startState}
+use Rattle.script.specs.Listing.{header, closing, listing}
+use Rattle.blocks.specs.Drain.{isOpen, ReadIn, Held, held, Drained, drainText}
 
 -- what it asks for: memory is such that no line is longer than LINE; a record, of at most 4107 bytes, has room in the buffer, which has at most what is
 -- read at once; and a line has room
@@ -46,12 +46,29 @@ pub data Stops (x : Held) : (buffer : List ℕ) → Type 0 where
   shut : goesOn x ≡ false → Stops x (x .buffer)
   ended : {buffer : List ℕ} → goesOn x ≡ true → ReadIn (x .at .used) 0 (x .buffer) buffer → Stops x buffer
 
+-- the bytes that came: of each block those behind the bytes in use, as the read left them
+unfoldable pub came : {x y : Held} → Blocks x y → List ℕ
+came none = []
+came (more {y} {z} {buffer} {got} f g r n d) = came f ++ take got (drop (y .at .used) buffer)
+
+-- the text that feeding the blocks puts out
+unfoldable pub blocksText : {x y : Held} → Blocks x y → List ℕ
+blocksText none = []
+blocksText (more {y} {z} {buffer} {got} f g r n d) = blocksText f ++ drainText d
+
+-- what is put out at the end of the input, where the buffer is this
+abbrev pub endText : Held → (buffer : List ℕ) → List ℕ
+endText x buffer = closing (x .at .offset) (x .at .state .ended) (take (x .at .used) buffer)
+
 -- the header is put out, then blocks come and are fed, then the end of the input is put out. This settles every lent slice by the bytes that came. Which
--- these are cannot be said, nor that a read was made, or how many: the contract of the operating system's `read` says nothing of it
+-- these are cannot be said, nor that a read or a write was made, or how many: the contracts of the operating system's `read` and `write` say nothing of
+-- it. `listed` says of the text: were each to be written, and all its bytes to be taken, standard output has the listing of the bytes that came, where
+-- memory, rings and tables were all 0, as 01 "Script program" has them
 pub record RunDone (memory : List ℕ) (z : Rings) (buffer out memory′ : List ℕ) (z′ : Rings) (buffer′ out′ : List ℕ) : Type 0 where
   pub last : Held
   pub blocks : Blocks (held firstProgress buffer memory z (place 0 header out)) last
   pub stops : Stops last buffer′
   pub user : memory′ ≡ last .memory
   pub lent : z′ ≡ last .lent
-  pub text : out′ ≡ place 0 (closing (last .at .offset) (last .at .state .ended) (take (last .at .used) buffer′)) (last .out)
+  pub text : out′ ≡ place 0 (endText last buffer′) (last .out)
+  pub listed : machine startState memory z ≡ start → header ++ (blocksText blocks ++ endText last buffer′) ≡ listing (came blocks)

@@ -16,6 +16,7 @@ use Rattle.blocks.specs.Drain.{isOpen, ReadIn, held, Drained}
 use Rattle.blocks.specs.Run.{RunMay, Blocks, none, more, readMore}
 use Rattle.blocks.proofs.Drains.{open-below}
 use Rattle.blocks.proofs.Blocks.{begun, open-first, stops-shut, stops-ended}
+use Rattle.blocks.proofs.Listed.{listed}
 use Rattle.socket_script.proofs.run.Statement.{statement}
 use Rattle.socket_script.proofs.run.Tie as tie
 
@@ -179,16 +180,20 @@ same-length-7 c = c .before .before .close .kept .1 .1 .0 ∙ c .before .before 
 returns : tie.Need-returns Inv-loop μ-loop
 returns c =
     let l = c .before .before .before .before .before .before .loop in
+    let b = begun (now (c .before .before .before .before .before .before .before .before .before .before .before .before .before .before .before .before .before .before .before .args .out)) (c .before .before .before .before .before .before .before .before .before .before .before .first .ensures) (c .before .before .before .before .before .before .before .before .before .begin .ensures) (l .inv .11) in
+    let s =
+    ⊎-elim (λ w. stops-shut (sym (l .inv .12) ∙ w .0 .left) (w .1))
+    (λ w. stops-ended (sym (l .inv .12) ∙ w .0 .taken) (w .2 .ensures) (w .5 .taken) (w .6))
+    (c .before .before .before .before .before .loop-test .came)
+    in
     record {
       last = held (l .p) (l .buffer) (l .memory) (rings (l .ring-one) (l .table-one) (l .ring-two) (l .table-two)) (l .out);
-      blocks = begun (now (c .before .before .before .before .before .before .before .before .before .before .before .before .before .before .before .before .before .before .before .args .out)) (c .before .before .before .before .before .before .before .before .before .before .before .first .ensures) (c .before .before .before .before .before .before .before .before .before .begin .ensures) (l .inv .11);
-      stops =
-          ⊎-elim (λ w. stops-shut (sym (l .inv .12) ∙ w .0 .left) (w .1))
-          (λ w. stops-ended (sym (l .inv .12) ∙ w .0 .taken) (w .2 .ensures) (w .5 .taken) (w .6))
-          (c .before .before .before .before .before .loop-test .came);
+      blocks = b;
+      stops = s;
       user = refl;
       lent = refl;
       text = c .before .before .close .ensures;
+      listed = listed b s;
     }
 
 pub run-spec : {M : Type 1} → statement M
