@@ -20,7 +20,7 @@ use Rattle.script.proofs.Tells.{tells}
 use Rattle.script.proofs.Alls.{all-stay, splits, fed-idle}
 use Rattle.script.proofs.Complete.{is-ready}
 use Rattle.buffer.proofs.Fronts.{front-fed, front-left}
-use Rattle.blocks.specs.Drain.{isOpen, Held, movesOf, Step, Steps, Drained}
+use Rattle.blocks.specs.Drain.{isOpen, Held, machineOf, inUse, movesOf, Step, Steps, Drained}
 
 -- where the program reads on, a whole buffer more stays within LIMIT
 pub open-below : (ended : Bool) (offset : ℕ) → isOpen ended offset ≡ true → offset < 4611686018427256832
@@ -131,11 +131,10 @@ module _ (p₀ : Progress) (m₀ : Machine) (s₀ : List ℕ) (p : Progress) (bu
 
 -- all moves were made
 pub drained : (x y : Held) → ((w : Held) × Steps x w × Step w y × (y .at .used ≡ w .at .used))
-    → Stands (x .at) (machine (x .at .state) (x .memory) (x .lent)) (take (x .at .used) (x .buffer)) (y .at) (machine (y .at .state) (y .memory) (y .lent)) (take (y .at .used) (y .buffer))
-    → moveOf (machine (y .at .state) (y .memory) (y .lent)) (take (y .at .used) (y .buffer)) ≡ stay → Drained x y
+    → Stands (x .at) (machineOf x) (inUse x) (y .at) (machineOf y) (inUse y) → moveOf (machineOf y) (inUse y) ≡ stay → Drained x y
 drained x y l f e =
-    let m : Machine = machine (y .at .state) (y .memory) (y .lent) in
-    let s : List ℕ = take (y .at .used) (y .buffer) in
+    let m : Machine = machineOf y in
+    let s : List ℕ = inUse y in
     let a : Block = movesOf x in
     let n = all-stay (y .at .offset) m s e in
     let k : allOf (y .at .offset) m s .taken ≡ 0 = ap (λ (x : Block). x .taken) n in
@@ -145,7 +144,7 @@ drained x y l f e =
       calls = l;
       after = sym (f .after ∙ ap (λ (x : Block). x .after) n);
       offset = o;
-      left = f .left ∙ ap (λ (j : ℕ). drop j (take (x .at .used) (x .buffer))) i;
+      left = f .left ∙ ap (λ (j : ℕ). drop j (inUse x)) i;
       used = f .sum;
       within = f .within;
       count = f .count;

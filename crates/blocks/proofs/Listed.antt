@@ -1,5 +1,5 @@
 -- What the script program puts out is the listing of the bytes that came. Assumes nothing.
-use Prim.Native.Nat.{ℕ, _+_, _-_, _≤_, _<_}
+use Prim.Native.Nat.{ℕ, _+_, _-_}
 use native.Mathlib.Omega.{arith}
 use mathlib.Core.Path.{_≡_, refl, sym, ap, _∙_}
 use mathlib.Core.Bool.{false}
@@ -7,7 +7,7 @@ use mathlib.Core.List.{List, [], _++_, append-assoc, append-nil}
 use lib.Dec.{leb}
 use lib.ListN.{length, take, drop, length-take}
 use lib.Seq.{take-add}
-use borrow.Author.Tests.{leb-true, leb-false, le-leb, lt-leb}
+use borrow.Author.Tests.{leb-true, le-leb}
 use Rattle.status.specs.Choice.{pick, _and_}
 use Rattle.record.specs.Record.{recordOf}
 use Rattle.record.proofs.Records.{cases}
@@ -48,8 +48,11 @@ short x e t =
     let u : ℕ = x .at .used in
     let n : x .at .offset ≡ x .at .offset + 0 = omega arith in
     let k : u ≡ u - 0 = omega arith in
-    rw (e, le-leb 0 u (omega arith)) (ap (λ (j : ℕ). run j (machineOf x) (inUse x ++ t)) n ∙ ap (λ (j : ℕ). run (x .at .offset + 0) (machineOf x) (take j (x .buffer) ++ t)) k)
+    rw (e, le-leb 0 u (omega arith))
+    (ap (λ (j : ℕ). run j (machineOf x) (inUse x ++ t)) n
+    ∙ ap (λ (j : ℕ). run (x .at .offset + 0) (machineOf x) (take j (x .buffer) ++ t)) k)
 
+-- the block that `advance` is given
 front : (x : Held) → PutsBlock x (frontOf (x .at) (length (x .out)) (x .buffer) (x .memory) (x .lent))
 unfolding frontOf
 front x =
@@ -87,12 +90,15 @@ drain-puts {x} {y} d =
 
 -- ---- blocks
 
+-- the bytes that came, and any t behind them, give the text of the blocks, and then what t gives from y on
 blocks-put : {x y : Held} (f : Blocks x y) (t : List ℕ) → from x (came f ++ t) ≡ blocksText f ++ from y t
 unfolding came blocksText
 blocks-put none t = refl
 blocks-put {x} (more {y} {z} {buffer} {got} f g r n d) t =
     let k : List ℕ = take got (drop (y .at .used) buffer) in
-    let e : inUse y ++ k ≡ take (y .at .used + got) buffer = ap (λ (l : List ℕ). l ++ k) (sym (r .front)) ∙ sym (take-add (y .at .used) got buffer) in
+    let e : inUse y ++ k ≡ take (y .at .used + got) buffer =
+    ap (λ (l : List ℕ). l ++ k) (sym (r .front)) ∙ sym (take-add (y .at .used) got buffer)
+    in
     ap (λ (l : List ℕ). from x l) (append-assoc (came f) k t)
     ∙ blocks-put f (k ++ t)
     ∙ ap (λ (l : List ℕ). blocksText f ++ run (y .at .offset) (machineOf y) l) (sym (append-assoc (inUse y) k t))
@@ -121,6 +127,7 @@ stops-in-use : {x : Held} {buffer : List ℕ} → Stops x buffer → take (x .at
 stops-in-use (shut e) = refl
 stops-in-use (ended e r) = r .front
 
+-- the header, the text of the blocks and the end are the listing of the bytes that came
 pub listed : {memory buffer out buffer′ : List ℕ} {z : Rings} {y : Held} (f : Blocks (held firstProgress buffer memory z out) y) → Stops y buffer′
     → machine startState memory z ≡ start → header ++ (blocksText f ++ endText y buffer′) ≡ listing (came f)
 unfolding listing

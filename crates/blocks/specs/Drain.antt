@@ -60,7 +60,7 @@ inUse x = take (x .at .used) (x .buffer)
 
 -- all moves that the bytes in use make
 abbrev pub movesOf : Held → Block
-movesOf x = allOf (x .at .offset) (machine (x .at .state) (x .memory) (x .lent)) (take (x .at .used) (x .buffer))
+movesOf x = allOf (x .at .offset) (machineOf x) (inUse x)
 
 -- one call of `advance`
 abbrev pub Step : (x y : Held) → Type 0
@@ -74,28 +74,28 @@ pub data Steps (x : Held) : Held → Type 0 where
   more : {y z : Held} → Steps x y → Step y z → (z .at .used ≡ y .at .used → ⊥) → Steps x z
 
 -- y is what calls of `advance` leave, up to the first that takes nothing: this settles the state and every lent slice, byte for byte. So all moves were
--- made that the bytes in use make; the bytes that they left stand at the front, and those that they took are counted. That the text of each call was
--- written to standard output cannot be said
+-- made that the bytes in use make; the bytes that they left stand at the front, and those that they took are counted. That a text was written to
+-- standard output cannot be said: the contract of the operating system's `write` says nothing of it
 pub record Drained (x y : Held) : Type 0 where
   pub calls : (w : Held) × Steps x w × Step w y × (y .at .used ≡ w .at .used)
-  pub after : machine (y .at .state) (y .memory) (y .lent) ≡ movesOf x .after
+  pub after : machineOf y ≡ movesOf x .after
   pub offset : y .at .offset ≡ x .at .offset + movesOf x .taken
-  pub left : take (y .at .used) (y .buffer) ≡ drop (movesOf x .taken) (take (x .at .used) (x .buffer))
+  pub left : inUse y ≡ drop (movesOf x .taken) (inUse x)
   pub used : y .at .offset + y .at .used ≡ x .at .offset + x .at .used
   pub within : y .at .used ≤ x .at .used
   pub count : y .at .state .number ≤ y .at .offset
 
--- ---- the text put out
+-- ---- the text that the program puts out
 
--- of the last call of `advance`: what it wrote to the front of the output
+-- 01 "Script program", line: the text of the call of `advance` that left y, at the front of the output
 abbrev pub callText : Held → List ℕ
 callText y = take (y .at .written) (y .out)
 
--- of calls of `advance`, one behind the other
+-- the text of calls of `advance`, one behind the other
 unfoldable pub stepsText : {x y : Held} → Steps x y → List ℕ
 stepsText none = []
 stepsText (more {y} {z} f d n) = stepsText f ++ callText z
 
--- of a drain: that of the calls that take bytes, and that of the last one
+-- the text of a drain: that of the calls that take bytes, then that of the last one
 unfoldable pub drainText : {x y : Held} → Drained x y → List ℕ
 drainText {x} {y} d = stepsText (d .calls .1) ++ callText y

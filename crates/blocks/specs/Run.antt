@@ -46,24 +46,24 @@ pub data Stops (x : Held) : (buffer : List ℕ) → Type 0 where
   shut : goesOn x ≡ false → Stops x (x .buffer)
   ended : {buffer : List ℕ} → goesOn x ≡ true → ReadIn (x .at .used) 0 (x .buffer) buffer → Stops x buffer
 
--- the bytes that came: of each block those behind the bytes in use, as the read left them
+-- 01 "Script program", standard input: the bytes that came, of each block those behind the bytes in use, as the read left them
 unfoldable pub came : {x y : Held} → Blocks x y → List ℕ
 came none = []
 came (more {y} {z} {buffer} {got} f g r n d) = came f ++ take got (drop (y .at .used) buffer)
 
--- the text that feeding the blocks puts out
+-- the text that draining the blocks puts out
 unfoldable pub blocksText : {x y : Held} → Blocks x y → List ℕ
 blocksText none = []
 blocksText (more {y} {z} {buffer} {got} f g r n d) = blocksText f ++ drainText d
 
--- what is put out at the end of the input, where the buffer is this
+-- 01 "Script program", `stop N`: the text put out at the end of the input, where the buffer is this
 abbrev pub endText : Held → (buffer : List ℕ) → List ℕ
 endText x buffer = closing (x .at .offset) (x .at .state .ended) (take (x .at .used) buffer)
 
--- the header is put out, then blocks come and are fed, then the end of the input is put out. This settles every lent slice by the bytes that came. Which
--- these are cannot be said, nor that a read or a write was made, or how many: the contracts of the operating system's `read` and `write` say nothing of
--- it. `listed` says of the text: were each to be written, and all its bytes to be taken, standard output has the listing of the bytes that came, where
--- memory, rings and tables were all 0, as 01 "Script program" has them
+-- the header is put out, then blocks come and are fed, then the end of the input is put out. This settles every lent slice, and the text, by the bytes
+-- that came. listed: were all writes to take all their bytes, standard output has the listing of the bytes that came, where memory, rings and tables are
+-- all 0 at the start, as 01 "Script program" has them. Which bytes came cannot be said, nor that a read or a write was made, or how many: the contracts
+-- of the operating system's `read` and `write` say nothing of it
 pub record RunDone (memory : List ℕ) (z : Rings) (buffer out memory′ : List ℕ) (z′ : Rings) (buffer′ out′ : List ℕ) : Type 0 where
   pub last : Held
   pub blocks : Blocks (held firstProgress buffer memory z (place 0 header out)) last
