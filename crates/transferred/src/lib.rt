@@ -1,4 +1,4 @@
-// A write and a read that can fire no wait: what they change, put into the pair.
+// A write and a read that can fire no wait: what they change, put into the pair. Whether they can fire none, and their outcome where they can.
 use endpoint::Endpoint;
 use endpoint::Queue;
 use ends::Outcome;
