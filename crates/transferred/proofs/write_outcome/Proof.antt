@@ -1,6 +1,6 @@
 use borrow.Author.Needs.{needs}
-use Rattle.kept_pair.proofs.write_outcome.Statement.{statement}
-use Rattle.kept_pair.proofs.write_outcome.Tie as tie
+use Rattle.transferred.proofs.write_outcome.Statement.{statement}
+use Rattle.transferred.proofs.write_outcome.Tie as tie
 
 ends-of-requires : tie.Need-ends-of-requires
 ends-of-requires c κs = search needs

@@ -1,7 +1,7 @@
 use borrow.Author.Needs.{needs}
 use Rattle.transferred.specs.Transferred.{readWithoutVisit}
-use Rattle.kept_pair.proofs.is_read_without_visit.Statement.{statement}
-use Rattle.kept_pair.proofs.is_read_without_visit.Tie as tie
+use Rattle.transferred.proofs.is_read_without_visit.Statement.{statement}
+use Rattle.transferred.proofs.is_read_without_visit.Tie as tie
 
 ends-of-requires : tie.Need-ends-of-requires
 ends-of-requires c κs = search needs
