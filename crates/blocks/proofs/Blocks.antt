@@ -1,16 +1,26 @@
 -- Blocks read and fed, from the first, and why no other follows. Assumes nothing.
-use Prim.Native.Nat.{ℕ}
-use mathlib.Core.Path.{_≡_, refl, sym, subst}
+use Prim.Native.Nat.{ℕ, _≤_}
+use mathlib.Core.Path.{_≡_, refl, sym, ap, _∙_, subst}
 use mathlib.Core.Bool.{true, false}
 use mathlib.Core.List.{List}
+use native.Mathlib.Omega.{arith}
+use lib.ListN.{length, length-replicate}
 use Rattle.text.specs.Put.{place}
 use Rattle.plain_call.specs.Rings.{Rings}
 use Rattle.buffer.specs.declared.Progress.{Progress}
 use Rattle.script.specs.Listing.{header}
 use Rattle.status.specs.Choice.{pick}
-use Rattle.feed.specs.Machine.{startState}
+use Rattle.feed.specs.Machine.{Machine, machine, startState, start}
 use Rattle.blocks.specs.Drain.{isOpen, ReadIn, Held, held}
-use Rattle.blocks.specs.Run.{firstProgress, goesOn, Blocks, Stops, shut, ended}
+use Rattle.blocks.specs.Run.{firstProgress, readsOn, Blocks, Stops, shut, ended}
+
+-- the memory that a script starts with is such that no line is longer than LINE
+pub first-memory : {memory : List ℕ} {z : Rings} → machine startState memory z ≡ start → length memory ≤ 4096
+unfolding start
+first-memory {memory} e =
+    let z : ℕ = 0 in
+    let l : length memory ≡ 4096 = ap (λ (m : Machine). length (m .memory)) e ∙ length-replicate {A = ℕ} 4096 z in
+    omega (arith, l)
 
 -- the header is put out before the first
 pub begun : {p : Progress} {buffer memory out₁ : List ℕ} {z : Rings} {y : Held} (out : List ℕ) → p ≡ firstProgress → out₁ ≡ place 0 header out
@@ -24,10 +34,10 @@ pub open-first : {p : Progress} → p ≡ firstProgress → true ≡ isOpen (p .
 unfolding isOpen pick startState
 open-first e = subst (λ (q : Progress). true ≡ isOpen (q .state .ended) (q .offset)) (sym e) refl
 
-pub stops-shut : {x : Held} {buffer : List ℕ} → goesOn x ≡ false → buffer ≡ x .buffer → Stops x buffer
+pub stops-shut : {x : Held} {buffer : List ℕ} → readsOn x ≡ false → buffer ≡ x .buffer → Stops x buffer
 stops-shut {x} {buffer} e f = subst (λ (l : List ℕ). Stops x l) (sym f) (shut e)
 
-pub stops-ended : {x : Held} {buffer buffer′ : List ℕ} {got : ℕ} → goesOn x ≡ true → ReadIn (x .at .used) got (x .buffer) buffer′ → got ≡ 0
+pub stops-ended : {x : Held} {buffer buffer′ : List ℕ} {got : ℕ} → readsOn x ≡ true → ReadIn (x .at .used) got (x .buffer) buffer′ → got ≡ 0
     → buffer ≡ buffer′ → Stops x buffer
 stops-ended {x} {buffer} {buffer′} {got} e r z f =
     subst (λ (l : List ℕ). Stops x l) (sym f) (ended e (subst (λ (n : ℕ). ReadIn (x .at .used) n (x .buffer) buffer′) z r))

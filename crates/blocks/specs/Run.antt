@@ -12,10 +12,10 @@ use Rattle.feed.specs.Machine.{machine, start, startState}
 use Rattle.script.specs.Listing.{header, closing, listing}
 use Rattle.blocks.specs.Drain.{isOpen, ReadIn, Held, held, Drained, drainText}
 
--- what it asks for: memory is such that no line is longer than LINE; a record, of at most 4107 bytes, has room in the buffer, which has at most what is
--- read at once; and a line has room
-pub record RunMay (memory buffer out : List ℕ) : Type 0 where
-  pub size : length memory ≤ 4096
+-- what it asks for: memory, rings and tables are as a script finds them before its first record; a record, of at most 4107 bytes, has room in the buffer,
+-- which has at most what is read at once; and a line has room
+pub record RunMay (memory : List ℕ) (z : Rings) (buffer out : List ℕ) : Type 0 where
+  pub lent : machine startState memory z ≡ start
   pub least : 4107 ≤ length buffer
   pub most : length buffer ≤ 131072
   pub room : LINE ≤ length out
@@ -29,22 +29,22 @@ abbrev pub readMore : (got : ℕ) → (buffer : List ℕ) → Held → Held
 readMore got buffer x =
     held (record { state = x .at .state; offset = x .at .offset; used = x .at .used + got; written = x .at .written }) buffer (x .memory) (x .lent) (x .out)
 
--- whether the script at hand may go on
-abbrev pub goesOn : Held → Bool
-goesOn x = isOpen (x .at .state .ended) (x .at .offset)
+-- whether the program reads on
+abbrev pub readsOn : Held → Bool
+readsOn x = isOpen (x .at .state .ended) (x .at .offset)
 
 -- blocks, one after the other, each while the script may go on: a byte or more come behind those in use, as a read may leave them, and then all moves are
 -- made that the bytes in use make
 pub data Blocks (x : Held) : Held → Type 0 where
   none : Blocks x x
   more :
-      {y z : Held} {buffer : List ℕ} {got : ℕ} → Blocks x y → goesOn y ≡ true → ReadIn (y .at .used) got (y .buffer) buffer → (got ≡ 0 → ⊥)
+      {y z : Held} {buffer : List ℕ} {got : ℕ} → Blocks x y → readsOn y ≡ true → ReadIn (y .at .used) got (y .buffer) buffer → (got ≡ 0 → ⊥)
       → Drained (readMore got buffer y) z → Blocks x z
 
 -- why no block follows, and what the buffer is then: the script may not go on, or no byte came, as a read may leave the buffer
 pub data Stops (x : Held) : (buffer : List ℕ) → Type 0 where
-  shut : goesOn x ≡ false → Stops x (x .buffer)
-  ended : {buffer : List ℕ} → goesOn x ≡ true → ReadIn (x .at .used) 0 (x .buffer) buffer → Stops x buffer
+  shut : readsOn x ≡ false → Stops x (x .buffer)
+  ended : {buffer : List ℕ} → readsOn x ≡ true → ReadIn (x .at .used) 0 (x .buffer) buffer → Stops x buffer
 
 -- 01 "Script program", standard input: the bytes that came, of each block those behind the bytes in use, as the read left them
 unfoldable pub came : {x y : Held} → Blocks x y → List ℕ
@@ -61,9 +61,8 @@ abbrev pub endText : Held → (buffer : List ℕ) → List ℕ
 endText x buffer = closing (x .at .offset) (x .at .state .ended) (take (x .at .used) buffer)
 
 -- the header is put out, then blocks come and are fed, then the end of the input is put out. This settles every lent slice, and the text, by the bytes
--- that came. listed: were all writes to take all their bytes, standard output has the listing of the bytes that came, where memory, rings and tables are
--- all 0 at the start, as 01 "Script program" has them. Which bytes came cannot be said, nor that a read or a write was made, or how many: the contracts
--- of the operating system's `read` and `write` say nothing of it
+-- that came. listed: were all writes to take all their bytes, standard output has the listing of the bytes that came. Which bytes came cannot be said, nor
+-- that a read or a write was made, or how many: the contracts of the operating system's `read` and `write` say nothing of it
 pub record RunDone (memory : List ℕ) (z : Rings) (buffer out memory′ : List ℕ) (z′ : Rings) (buffer′ out′ : List ℕ) : Type 0 where
   pub last : Held
   pub blocks : Blocks (held firstProgress buffer memory z (place 0 header out)) last
@@ -71,4 +70,4 @@ pub record RunDone (memory : List ℕ) (z : Rings) (buffer out memory′ : List 
   pub user : memory′ ≡ last .memory
   pub lent : z′ ≡ last .lent
   pub text : out′ ≡ place 0 (endText last buffer′) (last .out)
-  pub listed : machine startState memory z ≡ start → header ++ (blocksText blocks ++ endText last buffer′) ≡ listing (came blocks)
+  pub listed : header ++ (blocksText blocks ++ endText last buffer′) ≡ listing (came blocks)

@@ -126,7 +126,7 @@ fn run(
     buffer: &mut [u8],
     out: &mut [u8],
 )
-    requires { ⌜ RunMay (now memory) (now buffer) (now out) ⌝ }
+    requires { ⌜ RunMay (now memory) (rings (now «ring_one») (now «table_one») (now «ring_two») (now «table_two»)) (now buffer) (now out) ⌝ }
     ensures { λ _. ⌜ RunDone (now (memory .entry)) (rings (now («ring_one» .entry)) (now («table_one» .entry)) (now («ring_two» .entry)) (now («table_two» .entry))) (now (buffer .entry)) (now (out .entry)) (now (memory .exit)) (rings (now («ring_one» .exit)) (now («table_one» .exit)) (now («ring_two» .exit)) (now («table_two» .exit))) (now (buffer .exit)) (now (out .exit)) ⌝ }
 {
     let mut p = buffer::first();

@@ -15,7 +15,7 @@ use Rattle.plain_call.specs.Rings.{rings}
 use Rattle.blocks.specs.Drain.{isOpen, ReadIn, held, Drained}
 use Rattle.blocks.specs.Run.{RunMay, Blocks, none, more, readMore}
 use Rattle.blocks.proofs.Drains.{open-below}
-use Rattle.blocks.proofs.Blocks.{begun, open-first, stops-shut, stops-ended}
+use Rattle.blocks.proofs.Blocks.{first-memory, begun, open-first, stops-shut, stops-ended}
 use Rattle.blocks.proofs.Listed.{listed}
 use Rattle.socket_script.proofs.run.Statement.{statement}
 use Rattle.socket_script.proofs.run.Tie as tie
@@ -30,7 +30,7 @@ abbrev Standing :
     → Progress → Bool → Type 0
 Standing memory₀ ring-one₀ table-one₀ ring-two₀ table-two₀ buffer₀ out₀ p₀ memory ring-one table-one ring-two table-two buffer out p o =
     (p .used ≤ length buffer₀)
-    × RunMay memory₀ buffer₀ out₀
+    × RunMay memory₀ (rings ring-one₀ table-one₀ ring-two₀ table-two₀) buffer₀ out₀
     × (length memory ≡ length memory₀)
     × (length ring-one ≡ length ring-one₀)
     × (length table-one ≡ length table-one₀)
@@ -100,7 +100,7 @@ loop-holds c =
     let u : f .result .used ≡ 0 = ap (λ (q : Progress). q .used) (f .ensures) in
     let o : f .result .offset ≡ 0 = ap (λ (q : Progress). q .offset) (f .ensures) in
     let n : f .result .state .number ≡ 0 = ap (λ (q : Progress). q .state .number) (f .ensures) ∙ no-record in
-    (omega (arith, u), record { size = q .size; least = q .least; most = q .most; room = omega (arith, q .room, g .kept .0) }, refl, refl, refl, refl, refl, refl, refl, omega (arith, u, o), omega (arith, n), none, open-first (f .ensures))
+    (omega (arith, u), record { lent = q .lent; least = q .least; most = q .most; room = omega (arith, q .room, g .kept .0) }, refl, refl, refl, refl, refl, refl, refl, omega (arith, u, o), omega (arith, n), none, open-first (f .ensures))
 
 read-in-requires : tie.Need-read-in-requires Inv-loop μ-loop
 read-in-requires c κs =
@@ -121,7 +121,7 @@ drain-requires c κs =
       used = omega (arith, r .ensures .within, r .ensures .size);
       count = l .inv .10;
       total = omega (arith, r .ensures .within, l .inv .1 .most, l .inv .7, open-below _ _ (sym (l .inv .12) ∙ c .before .before .before .before .before .before .before .before .before .before .before .before .loop-test .taken));
-      size = omega (arith, l .inv .1 .size, l .inv .2);
+      size = omega (arith, first-memory (l .inv .1 .lent), l .inv .2);
       room = omega (arith, l .inv .1 .room, l .inv .8);
     }
 
@@ -193,7 +193,7 @@ returns c =
       user = refl;
       lent = refl;
       text = c .before .before .close .ensures;
-      listed = listed b s;
+      listed = listed b s (l .inv .1 .lent);
     }
 
 pub run-spec : {M : Type 1} → statement M
