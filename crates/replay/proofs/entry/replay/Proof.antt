@@ -10,7 +10,7 @@ use lib.ListN.{length}
 use Rattle.tally.specs.declared.Outcome.the-variants.{Agrees}
 use Rattle.tally.specs.declared.Tally.{Tally}
 use Rattle.tally.proofs.Counts.{counted-small}
-use Rattle.replay.specs.Entry.{AllAgree, none, more, FirstMissed, noTally, Tallied, begun, next}
+use Rattle.replay.specs.Replay.{AllAgree, none, more, FirstMissed, noTally, Tallied, begun, next}
 use Rattle.replay.proofs.Entries.{counted-total, counted-most, counted-all, first-counted}
 use Rattle.replay.proofs.entry.replay.Statement.{statement}
 use Rattle.replay.proofs.entry.replay.Tie as tie
