@@ -6,7 +6,7 @@ ghost use lib.ListN.{length, take};
 ghost use Rattle.text.specs.Put.{place};
 ghost use Rattle.plain_call.specs.Rings.{rings};
 ghost use Rattle.script.specs.Listing.{header, closing};
-ghost use Rattle.blocks.specs.Drain.{isOpen, ReadIn, DrainMay, held, Drained};
+ghost use Rattle.blocks.specs.Drain.{ReadIn, DrainMay, held, Drained};
 ghost use Rattle.blocks.specs.Run.{RunMay, RunDone};
 
 const STDIN: i32 = 0;
@@ -105,17 +105,6 @@ fn close(p: Progress, buffer: &[u8], out: &mut [u8])
     put(out, n);
 }
 
-// Whether more is to be read. 01 "Script program": a script that printed `stop N` or the line of a refused create has ended, and the program ends with it,
-// whether or not the input has ended. It ends too once the bytes might be more than 2 ^ 62, since `feed` takes none then.
-fn is_open(ended: bool, offset: u64) -> bool
-    ensures { λ r. ⌜ r ≡ isOpen ended offset ⌝ }
-{
-    if ended {
-        return false;
-    }
-    offset < 4611686018427256832
-}
-
 // The whole script, from the header to the end of the input.
 fn run(
     memory: &mut [u8],
@@ -149,7 +138,7 @@ fn run(
             table_two,
             out,
         );
-        if !is_open(p.state.ended, p.offset) {
+        if !blocks::is_open(p.state.ended, p.offset) {
             open = false;
         }
     }

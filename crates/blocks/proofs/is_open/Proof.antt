@@ -1,7 +1,7 @@
 use Rattle.status.specs.Choice.{pick}
 use Rattle.blocks.specs.Drain.{isOpen}
-use Rattle.socket_script.proofs.is_open.Statement.{statement}
-use Rattle.socket_script.proofs.is_open.Tie as tie
+use Rattle.blocks.proofs.is_open.Statement.{statement}
+use Rattle.blocks.proofs.is_open.Tie as tie
 
 returns : tie.Need-returns
 unfolding isOpen pick
