@@ -20,7 +20,7 @@ use Rattle.script.proofs.Tells.{tells}
 use Rattle.script.proofs.Alls.{all-stay, splits, fed-idle}
 use Rattle.script.proofs.Complete.{is-ready}
 use Rattle.buffer.proofs.Fronts.{front-fed, front-left}
-use Rattle.blocks.specs.Drain.{isOpen, Held, machineOf, inUse, movesOf, Step, Steps, Drained}
+use Rattle.blocks.specs.Drain.{isOpen, Held, machineOf, inUse, movesOf, Advance, Advances, Drained}
 
 -- where the program reads on, a whole buffer more stays within LIMIT
 pub open-below : (ended : Bool) (offset : ℕ) → isOpen ended offset ≡ true → offset < 4611686018427256832
@@ -130,7 +130,7 @@ module _ (p₀ : Progress) (m₀ : Machine) (s₀ : List ℕ) (p : Progress) (bu
         ∙ fed-idle (p .offset) (length out) m s room k
 
 -- all moves were made
-pub drained : (x y : Held) → ((w : Held) × Steps x w × Step w y × (y .at .used ≡ w .at .used))
+pub drained : (x y : Held) → ((w : Held) × Advances x w × Advance w y × (y .at .used ≡ w .at .used))
     → Stands (x .at) (machineOf x) (inUse x) (y .at) (machineOf y) (inUse y) → moveOf (machineOf y) (inUse y) ≡ stay → Drained x y
 drained x y l f e =
     let m : Machine = machineOf y in

@@ -1,4 +1,4 @@
--- What the script program puts out is the listing of the bytes that came. Assumes nothing.
+-- What the script program puts out is the listing of the bytes read. Assumes nothing.
 use Prim.Native.Nat.{ℕ, _+_, _-_}
 use native.Mathlib.Omega.{arith}
 use mathlib.Core.Path.{_≡_, refl, sym, ap, _∙_}
@@ -20,9 +20,9 @@ use Rattle.script.proofs.Runs.{run-stay}
 use Rattle.script.proofs.Tells.{tells, passes, shown}
 use Rattle.buffer.specs.Buffer.{shifted, frontOf}
 use Rattle.buffer.proofs.Fronts.{front-left}
-use Rattle.blocks.specs.Drain.{Held, held, machineOf, inUse, Step, Steps, Drained, callText, stepsText, drainText}
-use Rattle.blocks.specs.Drain.{none as no-step, more as step}
-use Rattle.blocks.specs.Run.{firstProgress, readMore, Blocks, none, more, Stops, shut, ended, came, blocksText, endText}
+use Rattle.blocks.specs.Drain.{Held, held, machineOf, inUse, Advance, Advances, Drained, callText, advancesText, drainText}
+use Rattle.blocks.specs.Drain.{none as no-advance, more as advance}
+use Rattle.blocks.specs.Run.{firstProgress, readMore, Blocks, none, more, Stops, shut, ended, bytesRead, blocksText, endText}
 
 -- ---- calls of `advance`
 
@@ -66,8 +66,8 @@ front x =
     (sym (front-left (b .taken) (x .at .used) (x .buffer) (omega (arith, p .within, length-take (x .at .used) (x .buffer))) (leb-true _ _ e))))
     (short x)
 
-step-puts : (x y : Held) → Step x y → Puts x y (callText y)
-step-puts x y d t =
+advance-puts : (x y : Held) → Advance x y → Puts x y (callText y)
+advance-puts x y d t =
     let b : Block = frontOf (x .at) (length (x .out)) (x .buffer) (x .memory) (x .lent) in
     let r : Fed = record { state = y .at .state; taken = b .taken; written = y .at .written } in
     let e : callText y ≡ b .text = shown {r = r} (record { after = d .after; taken = refl; written = d .written; text = d .text }) in
@@ -77,29 +77,29 @@ step-puts x y d t =
 both : (x y z : Held) (k l : List ℕ) → Puts x y k → Puts y z l → Puts x z (k ++ l)
 both x y z k l f g t = f t ∙ ap (λ (o : List ℕ). k ++ o) (g t) ∙ sym (append-assoc k l (from z t))
 
-steps-put : {x y : Held} (f : Steps x y) → Puts x y (stepsText f)
-unfolding stepsText
-steps-put no-step t = refl
-steps-put {x} (step {y} {z} f d n) t = both x y z (stepsText f) (callText z) (steps-put f) (step-puts y z d) t
+advances-put : {x y : Held} (f : Advances x y) → Puts x y (advancesText f)
+unfolding advancesText
+advances-put no-advance t = refl
+advances-put {x} (advance {y} {z} f d n) t = both x y z (advancesText f) (callText z) (advances-put f) (advance-puts y z d) t
 
 drain-puts : {x y : Held} (d : Drained x y) → Puts x y (drainText d)
 unfolding drainText
 drain-puts {x} {y} d =
     let c = d .calls in
-    both x (c .0) y (stepsText (c .1)) (callText y) (steps-put (c .1)) (step-puts (c .0) y (c .2))
+    both x (c .0) y (advancesText (c .1)) (callText y) (advances-put (c .1)) (advance-puts (c .0) y (c .2))
 
 -- ---- blocks
 
--- the bytes that came, and any t behind them, give the text of the blocks, and then what t gives from y on
-blocks-put : {x y : Held} (f : Blocks x y) (t : List ℕ) → from x (came f ++ t) ≡ blocksText f ++ from y t
-unfolding came blocksText
+-- the bytes read, and any t behind them, give the text of the blocks, and then what t gives from y on
+blocks-put : {x y : Held} (f : Blocks x y) (t : List ℕ) → from x (bytesRead f ++ t) ≡ blocksText f ++ from y t
+unfolding bytesRead blocksText
 blocks-put none t = refl
 blocks-put {x} (more {y} {z} {buffer} {got} f g r n d) t =
     let k : List ℕ = take got (drop (y .at .used) buffer) in
     let e : inUse y ++ k ≡ take (y .at .used + got) buffer =
     ap (λ (l : List ℕ). l ++ k) (sym (r .front)) ∙ sym (take-add (y .at .used) got buffer)
     in
-    ap (λ (l : List ℕ). from x l) (append-assoc (came f) k t)
+    ap (λ (l : List ℕ). from x l) (append-assoc (bytesRead f) k t)
     ∙ blocks-put f (k ++ t)
     ∙ ap (λ (l : List ℕ). blocksText f ++ run (y .at .offset) (machineOf y) l) (sym (append-assoc (inUse y) k t))
     ∙ ap (λ (l : List ℕ). blocksText f ++ run (y .at .offset) (machineOf y) (l ++ t)) e
@@ -111,25 +111,25 @@ drained-stays : (x y : Held) → Drained x y → moveOf (machineOf y) (inUse y) 
 unfolding allOf
 drained-stays x y d = rw (d .after, d .left) (tells 0 (x .at .offset) 0 (machineOf x) (inUse x) .stuck (omega arith))
 
-blocks-stay : {x y : Held} → Blocks x y → moveOf (machineOf x) (inUse x) ≡ stay → moveOf (machineOf y) (inUse y) ≡ stay
+pub blocks-stay : {x y : Held} → Blocks x y → moveOf (machineOf x) (inUse x) ≡ stay → moveOf (machineOf y) (inUse y) ≡ stay
 blocks-stay none h = h
 blocks-stay (more {y} {z} {buffer} {got} f g r n d) h = drained-stays (readMore got buffer y) z d
 
 -- ---- the whole script
 
 -- before the first block no byte is in use
-first-stays : (memory : List ℕ) (z : Rings) → moveOf (machine startState memory z) [] ≡ stay
+pub first-stays : (memory : List ℕ) (z : Rings) → moveOf (machine startState memory z) [] ≡ stay
 unfolding moveOf pick moveBy recordOf startState
 first-stays memory z = refl
 
 -- a read that gives nothing leaves the bytes in use as they were
 stops-in-use : {x : Held} {buffer : List ℕ} → Stops x buffer → take (x .at .used) buffer ≡ inUse x
 stops-in-use (shut e) = refl
-stops-in-use (ended e r) = r .front
+stops-in-use (ended e k r) = r .front
 
--- the header, the text of the blocks and the end are the listing of the bytes that came
+-- the header, the text of the blocks and the end are the listing of the bytes read
 pub listed : {memory buffer out buffer′ : List ℕ} {z : Rings} {y : Held} (f : Blocks (held firstProgress buffer memory z out) y) → Stops y buffer′
-    → machine startState memory z ≡ start → header ++ (blocksText f ++ endText y buffer′) ≡ listing (came f)
+    → machine startState memory z ≡ start → header ++ (blocksText f ++ endText y buffer′) ≡ listing (bytesRead f)
 unfolding listing
 listed {memory} {buffer} {out} {buffer′} {z} {y} f s e =
     let c : run (y .at .offset) (machineOf y) (inUse y) ≡ endText y buffer′ =
@@ -139,5 +139,5 @@ listed {memory} {buffer} {out} {buffer′} {z} {y} f s e =
     ap (λ (l : List ℕ). header ++ l)
     (ap (λ (l : List ℕ). blocksText f ++ l) (sym c ∙ ap (λ (l : List ℕ). run (y .at .offset) (machineOf y) l) (sym (append-nil (inUse y))))
     ∙ sym (blocks-put f [])
-    ∙ ap (λ (l : List ℕ). run 0 (machine startState memory z) l) (append-nil (came f))
-    ∙ ap (λ (m : Machine). run 0 m (came f)) e)
+    ∙ ap (λ (l : List ℕ). run 0 (machine startState memory z) l) (append-nil (bytesRead f))
+    ∙ ap (λ (m : Machine). run 0 m (bytesRead f)) e)

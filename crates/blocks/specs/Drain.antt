@@ -63,21 +63,21 @@ abbrev pub movesOf : Held → Block
 movesOf x = allOf (x .at .offset) (machineOf x) (inUse x)
 
 -- one call of `advance`
-abbrev pub Step : (x y : Held) → Type 0
-Step x y =
+abbrev pub Advance : (x y : Held) → Type 0
+Advance x y =
     Advanced (frontOf (x .at) (length (x .out)) (x .buffer) (x .memory) (x .lent)) (x .at) (x .buffer) (y .buffer) (y .memory) (y .lent) (x .out) (y .out)
     (y .at)
 
 -- calls of `advance`, one after the other, each of which takes bytes
-pub data Steps (x : Held) : Held → Type 0 where
-  none : Steps x x
-  more : {y z : Held} → Steps x y → Step y z → (z .at .used ≡ y .at .used → ⊥) → Steps x z
+pub data Advances (x : Held) : Held → Type 0 where
+  none : Advances x x
+  more : {y z : Held} → Advances x y → Advance y z → (z .at .used ≡ y .at .used → ⊥) → Advances x z
 
 -- y is what calls of `advance` leave, up to the first that takes nothing: this settles the state and every lent slice, byte for byte. So all moves were
 -- made that the bytes in use make; the bytes that they left stand at the front, and those that they took are counted. That a text was written to
 -- standard output cannot be said: the contract of the operating system's `write` says nothing of it
 pub record Drained (x y : Held) : Type 0 where
-  pub calls : (w : Held) × Steps x w × Step w y × (y .at .used ≡ w .at .used)
+  pub calls : (w : Held) × Advances x w × Advance w y × (y .at .used ≡ w .at .used)
   pub after : machineOf y ≡ movesOf x .after
   pub offset : y .at .offset ≡ x .at .offset + movesOf x .taken
   pub left : inUse y ≡ drop (movesOf x .taken) (inUse x)
@@ -87,15 +87,15 @@ pub record Drained (x y : Held) : Type 0 where
 
 -- ---- the text that the program puts out
 
--- 01 "Script program", line: the text of the call of `advance` that left y, at the front of the output
+-- 01 "Script program", line and `stop N`: the text of the call of `advance` that left y, at the front of the output
 abbrev pub callText : Held → List ℕ
 callText y = take (y .at .written) (y .out)
 
 -- the text of calls of `advance`, one behind the other
-unfoldable pub stepsText : {x y : Held} → Steps x y → List ℕ
-stepsText none = []
-stepsText (more {y} {z} f d n) = stepsText f ++ callText z
+unfoldable pub advancesText : {x y : Held} → Advances x y → List ℕ
+advancesText none = []
+advancesText (more {y} {z} f d n) = advancesText f ++ callText z
 
 -- the text of a drain: that of the calls that take bytes, then that of the last one
 unfoldable pub drainText : {x y : Held} → Drained x y → List ℕ
-drainText {x} {y} d = stepsText (d .calls .1) ++ callText y
+drainText {x} {y} d = advancesText (d .calls .1) ++ callText y

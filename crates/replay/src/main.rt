@@ -17,7 +17,7 @@ const STDOUT: i32 = 1;
 const STDERR: i32 = 2;
 
 // Tells on standard error that a write failed.
-fn report_write(done: bool) {
+fn tell_failed_write(done: bool) {
     if !done {
         io::write_all(STDERR, b"replay: standard output cannot be written\n");
     }
@@ -27,7 +27,7 @@ fn report_write(done: bool) {
 fn put(out: &[u8], n: usize)
     requires { ⌜ n ≤ length (now out) ⌝ }
 {
-    report_write(io::write_all(STDOUT, &out[0..n]));
+    tell_failed_write(io::write_all(STDOUT, &out[0..n]));
 }
 
 // The name of the first entry that does not agree; empty where all agree.

@@ -16,14 +16,14 @@ const STDOUT: i32 = 1;
 const STDERR: i32 = 2;
 
 // Tells on standard error that a read failed.
-fn report_read(got: isize) {
+fn tell_failed_read(got: isize) {
     if got < 0 {
         io::write_all(STDERR, b"socket_script: standard input cannot be read\n");
     }
 }
 
 // Tells on standard error that a write failed.
-fn report_write(done: bool) {
+fn tell_failed_write(done: bool) {
     if !done {
         io::write_all(
             STDERR,
@@ -38,7 +38,7 @@ fn read_in(buffer: &mut [u8], used: usize) -> usize
     ensures { λ r. ⌜ ReadIn used r (now (buffer .entry)) (now (buffer .exit)) ⌝ }
 {
     let got = libc::read(STDIN, &mut buffer[used..]);
-    report_read(got);
+    tell_failed_read(got);
     io::count(got, &buffer[used..])
 }
 
@@ -46,7 +46,7 @@ fn read_in(buffer: &mut [u8], used: usize) -> usize
 fn put(out: &[u8], n: usize)
     requires { ⌜ n ≤ length (now out) ⌝ }
 {
-    report_write(io::write_all(STDOUT, &out[0..n]));
+    tell_failed_write(io::write_all(STDOUT, &out[0..n]));
 }
 
 // Feeds the bytes in use until no move is left, and writes what comes out.

@@ -36,7 +36,7 @@ run-requires : tie.Need-run-requires
 unfolding start
 run-requires c κs =
     record {
-      lent = refl;
+      starts = refl;
       least = omega arith;
       most = omega arith;
       room = omega arith;

@@ -100,7 +100,7 @@ loop-holds c =
     let u : f .result .used ≡ 0 = ap (λ (q : Progress). q .used) (f .ensures) in
     let o : f .result .offset ≡ 0 = ap (λ (q : Progress). q .offset) (f .ensures) in
     let n : f .result .state .number ≡ 0 = ap (λ (q : Progress). q .state .number) (f .ensures) ∙ no-record in
-    (omega (arith, u), record { lent = q .lent; least = q .least; most = q .most; room = omega (arith, q .room, g .kept .0) }, refl, refl, refl, refl, refl, refl, refl, omega (arith, u, o), omega (arith, n), none, open-first (f .ensures))
+    (omega (arith, u), record { starts = q .starts; least = q .least; most = q .most; room = omega (arith, q .room, g .kept .0) }, refl, refl, refl, refl, refl, refl, refl, omega (arith, u, o), omega (arith, n), none, open-first (f .ensures))
 
 read-in-requires : tie.Need-read-in-requires Inv-loop μ-loop
 read-in-requires c κs =
@@ -121,7 +121,7 @@ drain-requires c κs =
       used = omega (arith, r .ensures .within, r .ensures .size);
       count = l .inv .10;
       total = omega (arith, r .ensures .within, l .inv .1 .most, l .inv .7, open-below _ _ (sym (l .inv .12) ∙ c .before .before .before .before .before .before .before .before .before .before .before .before .loop-test .taken));
-      size = omega (arith, first-memory (l .inv .1 .lent), l .inv .2);
+      size = omega (arith, first-memory (l .inv .1 .starts), l .inv .2);
       room = omega (arith, l .inv .1 .room, l .inv .8);
     }
 
@@ -183,7 +183,7 @@ returns c =
     let b = begun (now (c .before .before .before .before .before .before .before .before .before .before .before .before .before .before .before .before .before .before .before .args .out)) (c .before .before .before .before .before .before .before .before .before .before .before .first .ensures) (c .before .before .before .before .before .before .before .before .before .begin .ensures) (l .inv .11) in
     let s =
     ⊎-elim (λ w. stops-shut (sym (l .inv .12) ∙ w .0 .left) (w .1))
-    (λ w. stops-ended (sym (l .inv .12) ∙ w .0 .taken) (w .2 .ensures) (w .5 .taken) (w .6))
+    (λ w. stops-ended b (omega (arith, l .inv .0, l .inv .7)) (omega (arith, l .inv .1 .least, l .inv .7)) (sym (l .inv .12) ∙ w .0 .taken) (w .2 .ensures) (w .5 .taken) (w .6))
     (c .before .before .before .before .before .loop-test .came)
     in
     record {
@@ -193,7 +193,7 @@ returns c =
       user = refl;
       lent = refl;
       text = c .before .before .close .ensures;
-      listed = listed b s (l .inv .1 .lent);
+      listed = listed b s (l .inv .1 .starts);
     }
 
 pub run-spec : {M : Type 1} → statement M
