@@ -1,4 +1,4 @@
--- What the program's two loops keep. Assumes nothing.
+-- What the loop keeps that feeds the bytes in use. Assumes nothing.
 use Prim.Native.Nat.{ℕ, _+_, _-_, _≤_, _<_}
 use native.Mathlib.Omega.{arith}
 use mathlib.Core.Path.{_≡_, refl, sym, ap, _∙_}

@@ -1,4 +1,5 @@
--- When the program reads on, what the function says that reads, and the one that feeds the bytes in the buffer until no move is left.
+-- When the program reads on, what the function says that reads, and the one that feeds the bytes in the buffer until no move is left; the text that this
+-- puts out.
 -- 01 "Script program": standard input is read to its end, or until the script ends with `stop N` or a refused create.
 use Prim.Native.Nat.{ℕ, _+_, _-_, _≤_}
 use mathlib.Core.Path.{_≡_}

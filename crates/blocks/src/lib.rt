@@ -1,5 +1,5 @@
 // What the script program's two loops do: blocks of the input come, each is fed until no move is left, and what is put out is the listing of the bytes
-// that came. The definitions are in specs/, the proofs in proofs/; the crate socket_script cites both. Of the code it has the test that ends the reading.
+// read. The definitions are in specs/, the proofs in proofs/; the crate socket_script cites both. Of the code it has the test that ends the reading.
 ghost use mathlib.Core.Path.{_≡_};
 ghost use Rattle.blocks.specs.Drain.{isOpen};
 

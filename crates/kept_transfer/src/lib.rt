@@ -1,4 +1,4 @@
-// A pair that is kept behind a reference: the next pair of a write and of a read, stored there, and its waits visited.
+// A pair that is kept behind a reference: the next pair of a plain write and of a plain read, stored there, and its waits visited.
 use socket::Pair;
 use transfer::Transfer;
 ghost use mathlib.Core.Path.{_≡_};

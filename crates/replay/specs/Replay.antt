@@ -47,20 +47,22 @@ pub record FirstMissed (room : ℕ) (s : List ℕ) (t : Tally) : Type 0 where
   pub outcome : Agreement room s (t .to) scriptEnd end (t .first)
   pub misses : t .first ≡ Agrees → ⊥
 
--- the entries that were run end at a place, and are counted; if as many agree as were run, all agree, else the tally holds the first that does
--- not. Behind the place the input ends, or an entry is cut
+-- the entries that were run end at a place, and are counted; no more agree than were run. If as many do, all agree and the tally holds none, else it
+-- holds the first that does not. Behind the place the input ends, or an entry is cut
 pub record AgreeTo (s out out′ : List ℕ) (r : Replayed) : Type 0 where
   pub within : r .at ≤ length s
   pub tally : Tallied s out (r .at) (r .tally) out′
+  pub most : r .tally .agree ≤ r .tally .total
   pub all : r .tally .agree ≡ r .tally .total → AllAgree s (r .tally .total) (r .at)
+  pub none : r .tally .agree ≡ r .tally .total → r .tally .first ≡ Agrees
   pub first : r .tally .agree < r .tally .total → FirstMissed (length out) s (r .tally)
   pub cut : r .at < length s → length s < entryEnd s (r .at)
 
 -- what the function asks for that runs the entries and puts the report: the bytes in use lie in the input, and the buffer has room for a report with
--- any name from the input
+-- any name from them
 pub record ReplayMay (input : List ℕ) (used : ℕ) (out : List ℕ) : Type 0 where
   pub within : used ≤ length input
-  pub room : length input + REPORT ≤ length out
+  pub room : used + REPORT ≤ length out
 
 -- the entries in the bytes in use are run and counted, and the report of their tally is put over what the runs left in the buffer. An entry is cut where
 -- bytes in use lie behind those that were run

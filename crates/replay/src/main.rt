@@ -1,5 +1,6 @@
 // Runs stored scripts and compares each listing with the stored one, which the original Rust gave. Of the first that differs it prints the number
-// from 0, the name and the byte. The stored scripts are this program's standard input. They were made in rust/differential, from the original, by
+// from 0, the name and the byte, or that the listing had no room; then an entry that is cut, an input that fills the buffer, and how many agree. The
+// stored scripts are this program's standard input. They were made in rust/differential, from the original, by
 //     cargo build --release --offline && target/release/sample FILE
 // For each script the input has its name, the script and the listing, each after a four-byte little-endian length.
 mod entry;

@@ -1,4 +1,5 @@
-// A write and a read that can fire no wait: what they change, put into the pair. Whether they can fire none, and their outcome where they can.
+// A write and a read that can fire no wait: what they change, put into the pair. Whether a write or a read is such; the outcome of any write and any
+// read.
 use endpoint::Endpoint;
 use endpoint::Queue;
 use ends::Outcome;

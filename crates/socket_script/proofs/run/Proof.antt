@@ -24,7 +24,7 @@ no-record : startState .number ≡ 0
 unfolding startState
 no-record = refl
 
--- from p₀ on, where the slices were the first seven, blocks were read and fed up to p, and o says whether the script may go on
+-- from p₀ on, where the slices were the first seven, blocks were read and fed up to p, and o says whether the program reads on
 abbrev Standing :
     (memory₀ ring-one₀ table-one₀ ring-two₀ table-two₀ buffer₀ out₀ : List ℕ) → Progress → (memory ring-one table-one ring-two table-two buffer out : List ℕ)
     → Progress → Bool → Type 0
