@@ -1,5 +1,5 @@
 -- The functions that the walks call, each with its contract, what it ensures, and how it is called: by values alone, or with the pair's reference.
--- Assumes nothing.
+-- That of `kept_pair::outcome` stands in the file of this name in kept_transfer. Assumes nothing.
 use mathlib.Core.Path.{_≡_, refl}
 use mathlib.Core.Bool.{Bool}
 use Prim.Native.Nat.{ℕ}
@@ -57,10 +57,9 @@ use Rattle.control.proofs.close_ends as close-ends
 use Rattle.host_values.proofs.dispose_ends as dispose-ends
 use Rattle.syscall.proofs.dispose_ends as user-dispose-ends
 use Rattle.syscall.proofs.shutdown_ends as user-shutdown-ends
-use Rattle.kept_pair.proofs.outcome as outcome
 use Rattle.kept_pair.proofs.close as close
-use Rattle.kept_pair.proofs.wrote as wrote
-use Rattle.kept_pair.proofs.read as read
+use Rattle.kept_transfer.proofs.wrote as wrote
+use Rattle.kept_transfer.proofs.read as read
 use Rattle.kept_places.proofs.create as create
 use Rattle.kept_places.proofs.wait as wait
 use Rattle.kept_places.proofs.take as take
@@ -147,12 +146,6 @@ module _ {M : Type 1} (𝓤 : URA M) (H : Heap 𝓤) (A : Atoms 𝓤) (at-mem : 
   abbrev pub to-user-shutdown-ends : Ends → ℕ → ℕ → user-shutdown-ends-contract .Ghost
   to-user-shutdown-ends a₁ a₂ a₃ = ((tt, tt, tt, (a₁, (a₂, (a₃, tt))), ((LL.vals E.the-type E′.the-laws) a₁, (vint w32 a₂ ∷ [], (vint w32 a₃ ∷ [], tt)))), tt)
 
-  abbrev pub outcome-contract : Contract 𝓤
-  outcome-contract = tripleOf 𝓤 H A outcome.signature (outcome.spec 𝓤 H A at-mem run)
-
-  abbrev pub to-outcome : Lft → Share → ℕ → ℕ → GName → Pair → Outcome → outcome-contract .Ghost
-  to-outcome κ q b o γ h a₁ = (((κ, tt), (q, tt), tt, (record { ptr = (b, o); name = γ; now = h }, (a₁, tt)), (vptr b o ∷ [], ((LL.vals K.the-type K′.the-laws) a₁, tt))), tt)
-
   abbrev pub close-contract : Contract 𝓤
   close-contract = tripleOf 𝓤 H A close.signature (close.spec 𝓤 H A at-mem run)
 
@@ -216,9 +209,6 @@ module _ {M : Type 1} (𝓤 : URA M) (H : Heap 𝓤) (A : Atoms 𝓤) (at-mem : 
 
     pub goes-user-shutdown-ends : (a₁ : Ends) (a₂ : ℕ) (a₃ : ℕ) → Is E.the-row a₁ ((LL.vals E.the-type E′.the-laws) a₁) → Is u32 a₂ (vint w32 a₂ ∷ []) → Is u32 a₃ (vint w32 a₃ ∷ []) → ent 𝓤 (sem 𝓤 H A ftrue) (user-shutdown-ends-contract .pre (to-user-shutdown-ends a₁ a₂ a₃))
     goes-user-shutdown-ends a₁ a₂ a₃ i₁ i₂ i₃ = qed W (‵ ftrue ∷ []) ∵ owned ! u32 (Is u32) (uint-makes 𝓤 H A W w32) a₃ _ i₃ $ join ! $ owned ! u32 (Is u32) (uint-makes 𝓤 H A W w32) a₂ _ i₂ $ join ! $ owned ! E.the-row (Is E.the-row) ((LL.makes E.the-type E′.the-plain) 𝓤 H A) a₁ _ i₁ $ join ! $ nothing ! $ join ! $ frame ! $ done !
-
-    pub goes-outcome : (κ : Lft) (q : Share) (b o : ℕ) (γ : GName) (h : Pair) (a₁ : Outcome) → Is K.the-row a₁ ((LL.vals K.the-type K′.the-laws) a₁) → ent 𝓤 (⋆ 𝓤 H A ((‵ (MutRef (named 0) κ T.the-row .own (record { ptr = (b, o); name = γ; now = h }) (vptr b o ∷ [])) ⊛ (‵ (flft κ q) ⊛ ‵ ftrue)) ∷ [])) (outcome-contract .pre (to-outcome κ q b o γ h a₁))
-    goes-outcome κ q b o γ h a₁ i₁ = qed W ((‵ (MutRef (named 0) κ T.the-row .own (record { ptr = (b, o); name = γ; now = h }) (vptr b o ∷ [])) ⊛ (‵ (flft κ q) ⊛ ‵ ftrue)) ∷ []) ∵ split ! $ nothing ! $ owned ! K.the-row (Is K.the-row) ((LL.makes K.the-type K′.the-plain) 𝓤 H A) a₁ _ i₁ $ join ! $ move ! (1 ∷ 0 ∷ []) $ join ! $ move ! (1 ∷ 0 ∷ []) $ join ! $ frame ! $ done !
 
     pub goes-close : (κ : Lft) (q : Share) (b o : ℕ) (γ : GName) (h : Pair) (a₁ : ℕ) (a₂ : Outcome) → Is u32 a₁ (vint w32 a₁ ∷ []) → Is K.the-row a₂ ((LL.vals K.the-type K′.the-laws) a₂) → ent 𝓤 (⋆ 𝓤 H A ((‵ (MutRef (named 0) κ T.the-row .own (record { ptr = (b, o); name = γ; now = h }) (vptr b o ∷ [])) ⊛ (‵ (flft κ q) ⊛ ‵ ftrue)) ∷ [])) (close-contract .pre (to-close κ q b o γ h a₁ a₂))
     goes-close κ q b o γ h a₁ a₂ i₁ i₂ = qed W ((‵ (MutRef (named 0) κ T.the-row .own (record { ptr = (b, o); name = γ; now = h }) (vptr b o ∷ [])) ⊛ (‵ (flft κ q) ⊛ ‵ ftrue)) ∷ []) ∵ split ! $ nothing ! $ owned ! K.the-row (Is K.the-row) ((LL.makes K.the-type K′.the-plain) 𝓤 H A) a₂ _ i₂ $ join ! $ owned ! u32 (Is u32) (uint-makes 𝓤 H A W w32) a₁ _ i₁ $ join ! $ move ! (1 ∷ 0 ∷ []) $ join ! $ move ! (1 ∷ 0 ∷ []) $ join ! $ frame ! $ done !

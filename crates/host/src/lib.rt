@@ -59,7 +59,7 @@ pub extern "C" fn murgwethan_write(
     ensures { λ w. ⌜ Answered (Wrote (now (p .entry)) handle (now (bytes .entry)) (now (ring .entry)) (now (ring .exit)) (now (table .entry)) (now (table .exit))) (now (p .exit)) w ⌝ }
 {
     let t = transfer_write::write_transfer(socket::ends_of(*p), handle, ring, table, bytes);
-    kept_pair::wrote(p, handle, t)
+    kept_transfer::wrote(p, handle, t)
 }
 
 // Reads the front of the own queue into the buffer. The ring and the table are the reader's. A peek leaves the bytes in the queue.
@@ -75,7 +75,7 @@ pub extern "C" fn murgwethan_read(
     ensures { λ w. ⌜ Answered (Read (now (p .entry)) handle peek (now (ring .entry)) (now (table .entry)) (now (buffer .entry)) (now (buffer .exit))) (now (p .exit)) w ⌝ }
 {
     let t = transfer_read::read_transfer(socket::ends_of(*p), handle, peek, ring, table, buffer);
-    kept_pair::read(p, handle, t)
+    kept_transfer::read(p, handle, t)
 }
 
 // Disables or enables the writing of an end and of its peer: 1 disables, 2 enables, any other number changes nothing. No right is asked.

@@ -3,15 +3,11 @@
 // stands alone is visited where it stands.
 use ends::Outcome;
 use socket::Pair;
-use transfer::Transfer;
 ghost use mathlib.Core.Path.{_≡_};
 ghost use lib.Dec.{eqb};
 ghost use Rattle.status.specs.Choice.{pick};
 ghost use Rattle.status.specs.Answer.{answerWord};
-ghost use Rattle.transfer_write.specs.Transfer.{wroteBy};
-ghost use Rattle.transfer_read.specs.Transfer.{readBy};
-ghost use Rattle.socket.specs.Pair.{isOne, endsOf};
-ghost use Rattle.transferred.specs.Transferred.{writeWithoutVisit, readWithoutVisit};
+ghost use Rattle.socket.specs.Pair.{isOne};
 ghost use Rattle.socket.specs.Deferred.{visitedAll, settled, closedWaits, settledClose};
 
 // The word of an outcome's answer.
@@ -50,70 +46,6 @@ pub fn outcome(p: &mut Pair, r: Outcome) -> i64
 {
     *p = socket::with_outcome(*p, r);
     visit(p, r)
-}
-
-// The word of the answer.
-fn transfer_word(t: Transfer) -> i64
-    ensures { λ w. ⌜ w ≡ answerWord (t .answer) ⌝ }
-{
-    let a = t.answer;
-    status::word(a)
-}
-
-// Whether bytes went in by a write, and no wait can fire.
-fn is_write_without_visit(p: Pair, handle: u32, t: Transfer) -> bool
-    ensures { λ r. ⌜ r ≡ writeWithoutVisit handle t p ⌝ }
-{
-    transfer_write::is_write_without_visit(socket::ends_of(p), handle, t)
-}
-
-// Whether bytes left by a read whose peer is open, and no wait can fire.
-fn is_read_without_visit(p: Pair, handle: u32, t: Transfer) -> bool
-    ensures { λ r. ⌜ r ≡ readWithoutVisit handle t p ⌝ }
-{
-    transfer_read::is_read_without_visit(socket::ends_of(p), handle, t)
-}
-
-// The outcome of a write.
-fn write_outcome(p: Pair, handle: u32, t: Transfer) -> Outcome
-    ensures { λ r. ⌜ r ≡ wroteBy (endsOf p) handle t ⌝ }
-{
-    transfer_write::write_outcome(socket::ends_of(p), handle, t)
-}
-
-// The outcome of a read.
-fn read_outcome(p: Pair, handle: u32, t: Transfer) -> Outcome
-    ensures { λ r. ⌜ r ≡ readBy (endsOf p) handle t ⌝ }
-{
-    transfer_read::read_outcome(socket::ends_of(p), handle, t)
-}
-
-// Both ends after a write; then the waits are visited. Where bytes went in and no wait can fire, what changes is put into the pair without an outcome.
-pub fn wrote(p: &mut Pair, handle: u32, t: Transfer) -> i64
-    ensures { λ w. ⌜ (w ≡ answerWord (t .answer)) × (now (p .exit) ≡ settled (wroteBy (endsOf (now (p .entry))) handle t) (now (p .entry)) .pair) ⌝ }
-{
-    let w = transfer_word(t);
-    if is_write_without_visit(*p, handle, t) {
-        *p = transferred::with_write(*p, handle, t);
-    } else {
-        let r = write_outcome(*p, handle, t);
-        outcome(p, r);
-    }
-    w
-}
-
-// The same for a read, where its peer is open too.
-pub fn read(p: &mut Pair, handle: u32, t: Transfer) -> i64
-    ensures { λ w. ⌜ (w ≡ answerWord (t .answer)) × (now (p .exit) ≡ settled (readBy (endsOf (now (p .entry))) handle t) (now (p .entry)) .pair) ⌝ }
-{
-    let w = transfer_word(t);
-    if is_read_without_visit(*p, handle, t) {
-        *p = transferred::with_read(*p, handle, t);
-    } else {
-        let r = read_outcome(*p, handle, t);
-        outcome(p, r);
-    }
-    w
 }
 
 // Drops the waits of the end of a handle, where there are any, then visits the others.

@@ -1,13 +1,14 @@
--- Laws of the stored entries. Assumes nothing.
+-- Laws of the stored entries, of their tally and of its report. Assumes nothing.
 use Prim.Native.Nat.{ℕ, _+_, _≤_, _<_}
 use mathlib.Core.Bool.{Bool, true, false}
 use native.Mathlib.Omega.{arith}
 use mathlib.Core.Path.{_≡_, refl, sym, subst, _∙_}
 use borrow.Author.Tests.{ltb-true, ltb-false}
-use lib.Dec.{ltb}
+use lib.Dec.{ltb, eqb}
 use Rattle.status.specs.Choice.{pick}
 use mathlib.Core.List.{List, _++_}
-use lib.ListN.{length}
+use lib.ListN.{length, take, length-take, length-drop}
+use Rattle.text.specs.Put.{Put, Written}
 use Rattle.feed.specs.Machine.{start}
 use Rattle.script.specs.Listing.{header, run, listing}
 use Rattle.tally.specs.declared.Outcome.{Outcome}
@@ -15,8 +16,10 @@ use Rattle.tally.specs.declared.Outcome.the-variants.{Agrees, DiffersAt, NoRoom
 use Rattle.tally.specs.declared.Tally.{Tally}
 use Rattle.tally.specs.Count.{missed, countedOf}
 use Rattle.tally.proofs.Counts.{counted-again, counted-first}
+use Rattle.report.specs.Report.{REPORT, reportText}
 use Rattle.replay.specs.declared.entry.Replayed.{Replayed}
-use Rattle.replay.specs.Entry.{fieldEnd, entryEnd, bytesOf, FirstDifference, Compares, EntryIn, Agreement, firstName, noTally, Tallied, begun, next, AllAgree, FirstMissed, Replays, AgreeTo}
+use Rattle.replay.specs.Entry.{fieldEnd, entryEnd, bytesOf, FirstDifference, Compares, EntryIn, Agreement}
+use Rattle.replay.specs.Replay.{firstName, noTally, Tallied, begun, next, AllAgree, FirstMissed, AgreeTo, ReplayMay, Replays}
 
 -- what is cut in the second field, or in the third, is a cut entry
 pub cut-second : (s : List ℕ) (at nameEnd : ℕ) → nameEnd ≡ fieldEnd s at → length s < fieldEnd s nameEnd → length s < entryEnd s at
@@ -84,6 +87,24 @@ name-within {s} begun = none-within s
 name-within {s} (next {at} {nameEnd} t o k e r) =
     counted-within t (at + 4) nameEnd (length s) o (name-within k) (omega (arith, e .name), omega (arith, e .behind .script, e .behind .stored, e .behind .within))
 
+-- where as many agree as were run, the tally holds none
+none-counted : (t : Tally) (from to : ℕ) (o : Outcome) → t .agree ≤ t .total → (t .agree ≡ t .total → t .first ≡ Agrees)
+    → countedOf t from to o .agree ≡ countedOf t from to o .total → countedOf t from to o .first ≡ Agrees
+unfolding countedOf missed
+none-counted t from to Agrees h k e = k (omega (arith, e))
+none-counted t from to (DiffersAt i) h k e = absurd (let z : ⊥ = omega (arith, e, h) in z)
+none-counted t from to NoRoom h k e = absurd (let z : ⊥ = omega (arith, e, h) in z)
+
+none-tallied : (noTally .agree ≤ noTally .total) × (noTally .agree ≡ noTally .total → noTally .first ≡ Agrees)
+unfolding noTally
+none-tallied = (omega arith, λ e. refl)
+
+pub none-missed : {s out₀ out : List ℕ} {at : ℕ} {t : Tally} → Tallied s out₀ at t out → (t .agree ≤ t .total) × (t .agree ≡ t .total → t .first ≡ Agrees)
+none-missed begun = none-tallied
+none-missed (next {at} {nameEnd} t o k e r) =
+    let h = none-missed k in
+    (counted-most t (at + 4) nameEnd o (h .0), none-counted t (at + 4) nameEnd o (h .0) (h .1))
+
 -- a tally that holds the same entry
 kept : {room : ℕ} {s : List ℕ} (t : Tally) (total agree : ℕ) → FirstMissed room s t
     → FirstMissed room s (record { total = total; agree = agree; number = t .number; from = t .from; to = t .to; first = t .first })
@@ -123,6 +144,18 @@ module _ {room at nameEnd scriptEnd end : ℕ} {s : List ℕ} (t : Tally) (most 
   first-counted (DiffersAt i) a h = first-missed (DiffersAt i) a (λ e. let z : _≡_ {A = ℕ} 0 1 = cc in omega arith) (ltb (t .agree) (t .total)) refl
   first-counted NoRoom a h = first-missed NoRoom a (λ e. let z : _≡_ {A = ℕ} 0 1 = cc in omega arith) (ltb (t .agree) (t .total)) refl
 
--- the bytes in use are all that was run
-pub replays : {s s′ out out′ : List ℕ} {r : Replayed} → s ≡ s′ → AgreeTo s out out′ r → Replays s′ out out′
-replays {s} {s′} {out} {out′} {r} e a = (r, subst (λ (x : List ℕ). AgreeTo x out out′ r) e a)
+-- ---- the report
+
+module _ {input s out left out′ name : List ℕ} {used n : ℕ} {r : Replayed} (may : ReplayMay input used out) (in-use : s ≡ take used input)
+    (ran : AgreeTo s out left r) (named : name ≡ firstName s (r .tally)) (same : length left ≡ length out)
+    (written : Written (length name + REPORT) 0 (reportText (r .tally) name (ltb (r .at) used) (eqb used (length input))) n left out′) where
+  -- a name in the bytes in use is no longer than they are, so that the report has room
+  pub report-put : Put (length name + REPORT) 0 (reportText (r .tally) name (ltb (r .at) used) (eqb used (length input))) n left out′
+  unfolding firstName
+  report-put =
+      let m : length name ≤ used = rw (named, in-use) (simp (length-take, length-drop) (omega arith)) in
+      written .fit .put (omega (arith, may .room))
+
+  -- what the runs left, and the report over it
+  pub replays : Replays input used out out′
+  replays = record { ran = r; left = left; counted = rw in-use at ran; report = rw (named, in-use) at (report-put .out) }

@@ -1,2 +1,2 @@
--- Entries: the stored entries
+-- Entries: the stored entries, their tally and its report
 pub mod Entries

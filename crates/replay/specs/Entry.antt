@@ -1,4 +1,4 @@
--- The stored entries: where they lie in the input, and whether the stored listings agree with those of the scripts. Of 01 it uses
+-- The stored entries: where they lie in the input, and whether a stored listing agrees with that of its script. Of 01 it uses
 -- the listing of "Script program" alone.
 use Prim.Native.Nat.{ℕ, _+_, _-_, _≤_, _<_}
 use mathlib.Core.Path.{_≡_}
@@ -12,13 +12,10 @@ use Rattle.script.specs.Listing.{listing}
 use Rattle.listing.specs.Ran.{ranText}
 use Rattle.tally.specs.declared.Outcome.{Outcome}
 use Rattle.tally.specs.declared.Outcome.the-variants.{Agrees, DiffersAt, NoRoom}
-use Rattle.tally.specs.declared.Tally.{Tally}
-use Rattle.tally.specs.Count.{countedOf}
 use Rattle.replay.specs.declared.entry.Field.{Field}
 use Rattle.replay.specs.declared.entry.Field.the-variants as Field
 use Rattle.replay.specs.declared.entry.Found.{Found}
 use Rattle.replay.specs.declared.entry.Found.the-variants as Found
-use Rattle.replay.specs.declared.entry.Replayed.{Replayed}
 
 -- where a field ends that begins at a place: four bytes with its length, and so many bytes
 abbrev pub fieldEnd : List ℕ → ℕ → ℕ
@@ -81,50 +78,3 @@ Agreement room s at scriptEnd end NoRoom = room < length (ranText room start (by
 pub record EntryRun (s : List ℕ) (at scriptEnd end : ℕ) (out out′ : List ℕ) (r : Outcome) : Type 0 where
   pub outcome : Agreement (length out) s at scriptEnd end r
   pub text : out′ ≡ place 0 (ranText (length out) start (bytesOf s at scriptEnd)) out
-
--- the bytes between the two places of a tally: the name of the first entry that does not agree
-unfoldable pub firstName : List ℕ → Tally → List ℕ
-firstName s t = take (t .to - t .from) (drop (t .from) s)
-
--- the tally before any entry
-unfoldable pub noTally : Tally
-noTally = record { total = 0; agree = 0; number = 0; from = 0; to = 0; first = Agrees }
-
--- the tally of the entries before a place, and the buffer after them: each, from the first on, is run and counted. Its name lies behind its length
-pub data Tallied (s out₀ : List ℕ) : ℕ → Tally → List ℕ → Type 0 where
-  begun : Tallied s out₀ 0 noTally out₀
-  next :
-      {at nameEnd scriptEnd end : ℕ} {out out′ : List ℕ} (t : Tally) (o : Outcome) → Tallied s out₀ at t out → EntryIn s at nameEnd scriptEnd end
-      → EntryRun s nameEnd scriptEnd end out out′ o → Tallied s out₀ end (countedOf t (at + 4) nameEnd o) out′
-
--- so many entries lie before a place, and every one of them agrees
-pub data AllAgree (s : List ℕ) : (number at : ℕ) → Type 0 where
-  none : AllAgree s 0 0
-  more :
-      {number at nameEnd scriptEnd end : ℕ} → AllAgree s number at → EntryIn s at nameEnd scriptEnd end → Agreed s nameEnd scriptEnd end
-      → AllAgree s (number + 1) end
-
--- the tally holds an entry that does not agree: as many as its number says lie before it, and agree, its name lies between the two places of the
--- tally, and its outcome says how it does not agree
-pub record FirstMissed (room : ℕ) (s : List ℕ) (t : Tally) : Type 0 where
-  pub at : ℕ
-  pub scriptEnd : ℕ
-  pub end : ℕ
-  pub before : AllAgree s (t .number) at
-  pub entry : EntryIn s at (t .to) scriptEnd end
-  pub name : firstName s t ≡ bytesOf s at (t .to)
-  pub outcome : Agreement room s (t .to) scriptEnd end (t .first)
-  pub misses : t .first ≡ Agrees → ⊥
-
--- the entries that were run end at a place, and are counted; if as many agree as were run, all agree, else the tally holds the first that does
--- not. Behind the place the input ends, or an entry is cut
-pub record AgreeTo (s out out′ : List ℕ) (r : Replayed) : Type 0 where
-  pub within : r .at ≤ length s
-  pub tally : Tallied s out (r .at) (r .tally) out′
-  pub all : r .tally .agree ≡ r .tally .total → AllAgree s (r .tally .total) (r .at)
-  pub first : r .tally .agree < r .tally .total → FirstMissed (length out) s (r .tally)
-  pub cut : r .at < length s → length s < entryEnd s (r .at)
-
--- the buffer is as the entries that were run and counted left it
-abbrev pub Replays : (s out out′ : List ℕ) → Type 0
-Replays s out out′ = (r : Replayed) × AgreeTo s out out′ r

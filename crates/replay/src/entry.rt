@@ -6,7 +6,8 @@ ghost use Prim.Native.Nat.{_+_, _≤_, _<_};
 ghost use mathlib.Core.Path.{_≡_};
 ghost use lib.ListN.{length};
 ghost use Rattle.record.specs.Fields.{four};
-ghost use Rattle.replay.specs.Entry.{FieldAt, EntryAt, ScriptIn, Compares, EntryRun, AgreeTo};
+ghost use Rattle.replay.specs.Entry.{FieldAt, EntryAt, ScriptIn, Compares, EntryRun};
+ghost use Rattle.replay.specs.Replay.{AgreeTo};
 
 // Where a field ends: its length and its bytes.
 enum Field {

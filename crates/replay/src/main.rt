@@ -1,17 +1,35 @@
 // Runs stored scripts and compares each listing with the stored one, which the original Rust gave. Of the first that differs it prints the number
-// from 0, the name and the byte. The stored scripts are this program's standard input. They were made in rust/differential, from the original, by
+// from 0, the name and the byte, or that the listing had no room; then an entry that is cut, an input that fills the buffer, and how many agree. The
+// stored scripts are this program's standard input. They were made in rust/differential, from the original, by
 //     cargo build --release --offline && target/release/sample FILE
 // For each script the input has its name, the script and the listing, each after a four-byte little-endian length.
 mod entry;
-mod report;
 
 use tally::Tally;
 ghost use Prim.Native.Nat.{_≤_};
 ghost use mathlib.Core.Path.{_≡_};
-ghost use lib.ListN.{length, take};
-ghost use Rattle.replay.specs.Entry.{firstName, Replays};
+ghost use lib.ListN.{length};
+ghost use Rattle.replay.specs.Replay.{firstName, ReplayMay, Replays};
 
 const STDIN: i32 = 0;
+
+const STDOUT: i32 = 1;
+
+const STDERR: i32 = 2;
+
+// Tells on standard error that a write failed.
+fn tell_failed_write(done: bool) {
+    if !done {
+        io::write_all(STDERR, b"replay: standard output cannot be written\n");
+    }
+}
+
+// Writes the first bytes of the output.
+fn put(out: &[u8], n: usize)
+    requires { ⌜ n ≤ length (now out) ⌝ }
+{
+    tell_failed_write(io::write_all(STDOUT, &out[0..n]));
+}
 
 // The name of the first entry that does not agree; empty where all agree.
 fn first_name(s: &[u8], t: Tally) -> &[u8]
@@ -23,34 +41,35 @@ fn first_name(s: &[u8], t: Tally) -> &[u8]
     &s[from..to]
 }
 
-// Runs the entries in the bytes in use, and writes what was found.
+// Runs the entries in the bytes in use, and writes the report of what was found, which is put into the same buffer after the runs.
 fn replay(input: &[u8], used: usize, out: &mut [u8])
-    requires { ⌜ used ≤ length (now input) ⌝ }
-    ensures { λ _. ⌜ Replays (take used (now (input .entry))) (now (out .entry)) (now (out .exit)) ⌝ }
+    requires { ⌜ ReplayMay (now input) used (now out) ⌝ }
+    ensures { λ _. ⌜ Replays (now (input .entry)) used (now (out .entry)) (now (out .exit)) ⌝ }
 {
     let s = &input[0..used];
     let r = entry::replay(s, out);
     let t = r.tally;
-    report::difference(t, first_name(s, t));
-    if r.at < used {
-        report::cut(t.total);
-    }
-    if used == input.len() {
-        report::full();
-    }
-    report::counts(t.agree, t.total);
+    let n = report::report(out, t, first_name(s, t), r.at < used, used == input.len());
+    put(out, n);
 }
 
-// The contract gives only the length, which lending the array needs.
+// The contracts of the two give only the length, which lending the array needs. The output has 190 bytes more than the input, so that a report has room
+// whatever name from the input is in it.
 fn input_buffer() -> [u8; 1048576]
     ensures { λ r. ⌜ 1048576 ≡ length r ⌝ }
 {
     [0; 1048576]
 }
 
+fn output_buffer() -> [u8; 1048766]
+    ensures { λ r. ⌜ 1048766 ≡ length r ⌝ }
+{
+    [0; 1048766]
+}
+
 fn main() {
     let mut input_array = input_buffer();
-    let mut out_array = io::large_buffer();
+    let mut out_array = output_buffer();
     let input: &mut [u8] = &mut input_array;
     let out: &mut [u8] = &mut out_array;
     let used = io::read_full(STDIN, input);

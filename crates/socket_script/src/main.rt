@@ -6,8 +6,8 @@ ghost use lib.ListN.{length, take};
 ghost use Rattle.text.specs.Put.{place};
 ghost use Rattle.plain_call.specs.Rings.{rings};
 ghost use Rattle.script.specs.Listing.{header, closing};
-ghost use Rattle.socket_script.specs.Drain.{isOpen, ReadIn, DrainMay, held, Drained};
-ghost use Rattle.socket_script.specs.Run.{RunMay, RunDone};
+ghost use Rattle.blocks.specs.Drain.{ReadIn, DrainMay, held, Drained};
+ghost use Rattle.blocks.specs.Run.{RunMay, RunDone};
 
 const STDIN: i32 = 0;
 
@@ -16,14 +16,14 @@ const STDOUT: i32 = 1;
 const STDERR: i32 = 2;
 
 // Tells on standard error that a read failed.
-fn report_read(got: isize) {
+fn tell_failed_read(got: isize) {
     if got < 0 {
         io::write_all(STDERR, b"socket_script: standard input cannot be read\n");
     }
 }
 
 // Tells on standard error that a write failed.
-fn report_write(done: bool) {
+fn tell_failed_write(done: bool) {
     if !done {
         io::write_all(
             STDERR,
@@ -38,7 +38,7 @@ fn read_in(buffer: &mut [u8], used: usize) -> usize
     ensures { λ r. ⌜ ReadIn used r (now (buffer .entry)) (now (buffer .exit)) ⌝ }
 {
     let got = libc::read(STDIN, &mut buffer[used..]);
-    report_read(got);
+    tell_failed_read(got);
     io::count(got, &buffer[used..])
 }
 
@@ -46,7 +46,7 @@ fn read_in(buffer: &mut [u8], used: usize) -> usize
 fn put(out: &[u8], n: usize)
     requires { ⌜ n ≤ length (now out) ⌝ }
 {
-    report_write(io::write_all(STDOUT, &out[0..n]));
+    tell_failed_write(io::write_all(STDOUT, &out[0..n]));
 }
 
 // Feeds the bytes in use until no move is left, and writes what comes out.
@@ -105,17 +105,6 @@ fn close(p: Progress, buffer: &[u8], out: &mut [u8])
     put(out, n);
 }
 
-// Whether more is to be read. 01 "Script program": a script that printed `stop N` or the line of a refused create has ended, and the program ends with it,
-// whether or not the input has ended. It ends too once the bytes might be more than 2 ^ 62, since `feed` takes none then.
-fn is_open(ended: bool, offset: u64) -> bool
-    ensures { λ r. ⌜ r ≡ isOpen ended offset ⌝ }
-{
-    if ended {
-        return false;
-    }
-    offset < 4611686018427256832
-}
-
 // The whole script, from the header to the end of the input.
 fn run(
     memory: &mut [u8],
@@ -126,7 +115,7 @@ fn run(
     buffer: &mut [u8],
     out: &mut [u8],
 )
-    requires { ⌜ RunMay (now memory) (now buffer) (now out) ⌝ }
+    requires { ⌜ RunMay (now memory) (rings (now «ring_one») (now «table_one») (now «ring_two») (now «table_two»)) (now buffer) (now out) ⌝ }
     ensures { λ _. ⌜ RunDone (now (memory .entry)) (rings (now («ring_one» .entry)) (now («table_one» .entry)) (now («ring_two» .entry)) (now («table_two» .entry))) (now (buffer .entry)) (now (out .entry)) (now (memory .exit)) (rings (now («ring_one» .exit)) (now («table_one» .exit)) (now («ring_two» .exit)) (now («table_two» .exit))) (now (buffer .exit)) (now (out .exit)) ⌝ }
 {
     let mut p = buffer::first();
@@ -149,7 +138,7 @@ fn run(
             table_two,
             out,
         );
-        if !is_open(p.state.ended, p.offset) {
+        if !blocks::is_open(p.state.ended, p.offset) {
             open = false;
         }
     }

@@ -1,6 +1,8 @@
-// A write and a read that can fire no wait: what they change, put into the pair.
+// A write and a read that can fire no wait: what they change, put into the pair. Whether a write or a read is such; the outcome of any write and any
+// read.
 use endpoint::Endpoint;
 use endpoint::Queue;
+use ends::Outcome;
 use ends::queue_if;
 use places::word_if;
 use signal::changed;
@@ -10,8 +12,10 @@ ghost use mathlib.Core.Path.{_≡_};
 ghost use Rattle.status.specs.Choice.{pick};
 ghost use Rattle.signal.specs.Signal.{changedWord};
 ghost use Rattle.endpoint.specs.Endpoint.{withQueue, withSignals};
-ghost use Rattle.socket.specs.Pair.{isOne};
-ghost use Rattle.transferred.specs.Transferred.{transferredPair, wrotePair};
+ghost use Rattle.transfer_write.specs.Transfer.{wroteBy};
+ghost use Rattle.transfer_read.specs.Transfer.{readBy};
+ghost use Rattle.socket.specs.Pair.{isOne, endsOf};
+ghost use Rattle.transferred.specs.Transferred.{transferredPair, wrotePair, writeWithoutVisit, readWithoutVisit};
 
 // The end with its word changed, and with this queue if it takes it.
 fn end_with(e: Endpoint, takes: bool, queue: Queue, lost: u32, gained: u32) -> Endpoint
@@ -64,4 +68,32 @@ pub fn with_read(p: Pair, handle: u32, t: Transfer) -> Pair
 {
     let one = handle == 1;
     with_transfer(p, one, one, t)
+}
+
+// Whether bytes went in by a write, and no wait can fire.
+pub fn is_write_without_visit(p: Pair, handle: u32, t: Transfer) -> bool
+    ensures { λ r. ⌜ r ≡ writeWithoutVisit handle t p ⌝ }
+{
+    transfer_write::is_write_without_visit(socket::ends_of(p), handle, t)
+}
+
+// Whether bytes left by a read whose peer is open, and no wait can fire.
+pub fn is_read_without_visit(p: Pair, handle: u32, t: Transfer) -> bool
+    ensures { λ r. ⌜ r ≡ readWithoutVisit handle t p ⌝ }
+{
+    transfer_read::is_read_without_visit(socket::ends_of(p), handle, t)
+}
+
+// The outcome of a write.
+pub fn write_outcome(p: Pair, handle: u32, t: Transfer) -> Outcome
+    ensures { λ r. ⌜ r ≡ wroteBy (endsOf p) handle t ⌝ }
+{
+    transfer_write::write_outcome(socket::ends_of(p), handle, t)
+}
+
+// The outcome of a read.
+pub fn read_outcome(p: Pair, handle: u32, t: Transfer) -> Outcome
+    ensures { λ r. ⌜ r ≡ readBy (endsOf p) handle t ⌝ }
+{
+    transfer_read::read_outcome(socket::ends_of(p), handle, t)
 }

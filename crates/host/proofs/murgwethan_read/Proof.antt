@@ -60,7 +60,8 @@ use Rattle.socket.specs.Pair.{own, endsOf}
 use Rattle.socket.specs.Deferred.{settled}
 use Rattle.host.specs.Host.{Answered}
 use Rattle.socket.proofs.Visiting.{places-128}
-use Rattle.kept_pair.proofs.Stored.{settled-as, passed-on, read-answer}
+use Rattle.kept_pair.proofs.Stored.{settled-as}
+use Rattle.kept_transfer.proofs.Stored.{passed-on, read-answer}
 use Rattle.socket.specs.Read.{Read}
 use Rattle.socket.proofs.Settled.{read-whole}
 use Rattle.transfer_read.proofs.read_transfer as step
@@ -71,10 +72,10 @@ use Rattle.socket.proofs.ends_of as ends
 use Rattle.socket.proofs.ends_of.Symbol as ends-def
 use Rattle.socket.proofs.ends_of.Symbol.{name as #ends}
 use Rattle.socket.proofs.ends_of.Met as ends-thm
-use Rattle.kept_pair.proofs.read as read
-use Rattle.kept_pair.proofs.read.Symbol as read-def
-use Rattle.kept_pair.proofs.read.Symbol.{name as #read}
-use Rattle.kept_pair.proofs.read.Met as read-thm
+use Rattle.kept_transfer.proofs.read as read
+use Rattle.kept_transfer.proofs.read.Symbol as read-def
+use Rattle.kept_transfer.proofs.read.Symbol.{name as #read}
+use Rattle.kept_transfer.proofs.read.Met as read-thm
 use Rattle.host.proofs.murgwethan_read.Key.{name as #own}
 use Rattle.host.proofs.murgwethan_read as f
 use Rattle.host.proofs.murgwethan_read.Statement as stated
@@ -183,4 +184,4 @@ murgwethan-read-spec 𝓤 H 𝓜 𝓖 𝓡 =
     (meets 𝓤 H (𝓖 .A) (givenOf 𝓤 H 𝓜 𝓖) (𝓜 .mem) (𝓡 .run) (tablesOf 𝓤 H 𝓜 (tables 𝓤 H 𝓜 𝓡 code.env))
     (cited 𝓤 H (Called 𝓤 H (𝓖 .A) (𝓜 .mem) (𝓡 .run)) 𝓜 𝓡 code.env #step step-def.routine code.calls-transfer-read·read-transfer (step-thm.met 𝓤 H 𝓜 𝓖 𝓡))
     (cited 𝓤 H (ends-contract 𝓤 H (𝓖 .A) (𝓜 .mem) (𝓡 .run)) 𝓜 𝓡 code.env #ends ends-def.routine code.calls-socket·ends-of (ends-thm.met 𝓤 H 𝓜 𝓖 𝓡))
-    (cited 𝓤 H (read-contract 𝓤 H (𝓖 .A) (𝓜 .mem) (𝓡 .run)) 𝓜 𝓡 code.env #read read-def.routine code.calls-kept-pair·read (read-thm.met 𝓤 H 𝓜 𝓖 𝓡)))
+    (cited 𝓤 H (read-contract 𝓤 H (𝓖 .A) (𝓜 .mem) (𝓡 .run)) 𝓜 𝓡 code.env #read read-def.routine code.calls-kept-transfer·read (read-thm.met 𝓤 H 𝓜 𝓖 𝓡)))

@@ -50,7 +50,8 @@ use Rattle.ends.proofs.Outcome as K
 use Rattle.ends.proofs.Outcome.Laws as K′
 use Rattle.ends.proofs.Ends as E
 use Rattle.ends.proofs.Ends.Laws as E′
-use Rattle.host.proofs.Callees.{ends-contract, to-ends, goes-ends, ends-told, read-threshold-ends-contract, to-read-threshold-ends, goes-read-threshold-ends, read-threshold-ends-told, outcome-contract, to-outcome, goes-outcome}
+use Rattle.host.proofs.Callees.{ends-contract, to-ends, goes-ends, ends-told, read-threshold-ends-contract, to-read-threshold-ends, goes-read-threshold-ends, read-threshold-ends-told}
+use Rattle.kept_transfer.proofs.Callees.{outcome-contract, to-outcome, goes-outcome}
 use Rattle.control_threshold.specs.Threshold.{readThresholdEnds}
 use Rattle.socket.specs.Pair.{isOne, own, endsOf}
 use Rattle.socket.specs.Deferred.{settled}

@@ -50,7 +50,8 @@ use Rattle.ends.proofs.Outcome as K
 use Rattle.ends.proofs.Outcome.Laws as K′
 use Rattle.ends.proofs.Ends as E
 use Rattle.ends.proofs.Ends.Laws as E′
-use Rattle.host.proofs.Callees.{ends-contract, to-ends, goes-ends, ends-told, write-threshold-ends-contract, to-write-threshold-ends, goes-write-threshold-ends, write-threshold-ends-told, outcome-contract, to-outcome, goes-outcome}
+use Rattle.host.proofs.Callees.{ends-contract, to-ends, goes-ends, ends-told, write-threshold-ends-contract, to-write-threshold-ends, goes-write-threshold-ends, write-threshold-ends-told}
+use Rattle.kept_transfer.proofs.Callees.{outcome-contract, to-outcome, goes-outcome}
 use Rattle.control_threshold.specs.Threshold.{writeThresholdEnds}
 use Rattle.socket.specs.Pair.{isOne, own, endsOf}
 use Rattle.socket.specs.Deferred.{settled}

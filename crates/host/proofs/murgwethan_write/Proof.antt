@@ -59,7 +59,8 @@ use Rattle.socket.specs.Pair.{own, endsOf}
 use Rattle.socket.specs.Deferred.{settled}
 use Rattle.host.specs.Host.{Answered}
 use Rattle.socket.proofs.Visiting.{places-128}
-use Rattle.kept_pair.proofs.Stored.{settled-as, passed-on, wrote-answer}
+use Rattle.kept_pair.proofs.Stored.{settled-as}
+use Rattle.kept_transfer.proofs.Stored.{passed-on, wrote-answer}
 use Rattle.socket.specs.Write.{Wrote}
 use Rattle.socket.proofs.Settled.{wrote-whole}
 use Rattle.transfer_write.proofs.write_transfer as step
@@ -70,10 +71,10 @@ use Rattle.socket.proofs.ends_of as ends
 use Rattle.socket.proofs.ends_of.Symbol as ends-def
 use Rattle.socket.proofs.ends_of.Symbol.{name as #ends}
 use Rattle.socket.proofs.ends_of.Met as ends-thm
-use Rattle.kept_pair.proofs.wrote as wrote
-use Rattle.kept_pair.proofs.wrote.Symbol as wrote-def
-use Rattle.kept_pair.proofs.wrote.Symbol.{name as #wrote}
-use Rattle.kept_pair.proofs.wrote.Met as wrote-thm
+use Rattle.kept_transfer.proofs.wrote as wrote
+use Rattle.kept_transfer.proofs.wrote.Symbol as wrote-def
+use Rattle.kept_transfer.proofs.wrote.Symbol.{name as #wrote}
+use Rattle.kept_transfer.proofs.wrote.Met as wrote-thm
 use Rattle.host.proofs.murgwethan_write.Key.{name as #own}
 use Rattle.host.proofs.murgwethan_write as f
 use Rattle.host.proofs.murgwethan_write.Statement as stated
@@ -186,4 +187,4 @@ murgwethan-write-spec 𝓤 H 𝓜 𝓖 𝓡 =
     (meets 𝓤 H (𝓖 .A) (givenOf 𝓤 H 𝓜 𝓖) (𝓜 .mem) (𝓡 .run) (tablesOf 𝓤 H 𝓜 (tables 𝓤 H 𝓜 𝓡 code.env))
     (cited 𝓤 H (Called 𝓤 H (𝓖 .A) (𝓜 .mem) (𝓡 .run)) 𝓜 𝓡 code.env #step step-def.routine code.calls-transfer-write·write-transfer (step-thm.met 𝓤 H 𝓜 𝓖 𝓡))
     (cited 𝓤 H (ends-contract 𝓤 H (𝓖 .A) (𝓜 .mem) (𝓡 .run)) 𝓜 𝓡 code.env #ends ends-def.routine code.calls-socket·ends-of (ends-thm.met 𝓤 H 𝓜 𝓖 𝓡))
-    (cited 𝓤 H (wrote-contract 𝓤 H (𝓖 .A) (𝓜 .mem) (𝓡 .run)) 𝓜 𝓡 code.env #wrote wrote-def.routine code.calls-kept-pair·wrote (wrote-thm.met 𝓤 H 𝓜 𝓖 𝓡)))
+    (cited 𝓤 H (wrote-contract 𝓤 H (𝓖 .A) (𝓜 .mem) (𝓡 .run)) 𝓜 𝓡 code.env #wrote wrote-def.routine code.calls-kept-transfer·wrote (wrote-thm.met 𝓤 H 𝓜 𝓖 𝓡)))

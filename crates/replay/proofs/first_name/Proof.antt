@@ -1,7 +1,7 @@
 -- `first_name` meets its contract.
 use mathlib.Core.Path.{refl}
 use borrow.Author.Needs.{needs}
-use Rattle.replay.specs.Entry.{firstName}
+use Rattle.replay.specs.Replay.{firstName}
 use Rattle.replay.proofs.first_name.Statement.{statement}
 use Rattle.replay.proofs.first_name.Tie as tie
 

@@ -1,10 +1,11 @@
--- `replay` meets its contract: the name lies within the entries.
+-- `replay` meets its contract: the name lies within the entries, and the report has room.
 use Prim.Native.Nat.{ℕ}
 use denote.Ref.{now}
 use lib.ListN.{take}
 use mathlib.Core.Path.{ap}
 use native.Mathlib.Nat.{sub-zero}
-use Rattle.replay.proofs.Entries.{name-within, replays}
+use native.Mathlib.Omega.{arith}
+use Rattle.replay.proofs.Entries.{name-within, report-put, replays}
 use borrow.Author.Needs.{needs}
 use Rattle.replay.proofs.replay.Statement.{statement}
 use Rattle.replay.proofs.replay.Tie as tie
@@ -22,28 +23,29 @@ replay-requires : tie.Need-replay-requires
 replay-requires c κs = search needs
 
 first-name-requires : tie.Need-first-name-requires
-first-name-requires c κs = name-within (c .before .before .before .replay .ensures .tally)
+first-name-requires c κs = name-within (c .before .before .before .before .replay .ensures .tally)
 
-difference-requires : tie.Need-difference-requires
-difference-requires c κs = search needs
+report-requires : tie.Need-report-requires
+report-requires c κs = search needs
 
-cut-requires : tie.Need-cut-requires
-cut-requires c κs = search needs
-
-full-requires : tie.Need-full-requires
-full-requires c κs = search needs
-
-counts-requires : tie.Need-counts-requires
-counts-requires c κs = search needs
+put-requires : tie.Need-put-requires
+put-requires c κs =
+    let a = c .before .before .before .before .before .before .before .before .before .before .before .before .before .before .before .args in
+    let k = c .before .before .before .before .before .before .before .before .before .before .replay in
+    let w = c .before .before .before .report in
+    let s = ap (λ (m : ℕ). take m (now (a .input))) (sub-zero (a .used)) in
+    omega (arith, report-put (c .before .before .before .before .before .before .before .before .before .before .before .before .before .before .before .pre) s (k .ensures) (c .before .before .before .before .before .first-name .ensures) (k .kept .1 .0) (w .ensures) .fits, w .kept .0)
 
 same-length : tie.Need-same-length
 same-length c = search needs
 
 returns : tie.Need-returns
 returns c =
-    let k = c .before .before .before .before .before .before .before .before .before .replay in
-    let a = c .before .before .before .before .before .before .before .before .before .before .before .before .before .before .args in
-    replays (ap (λ (n : ℕ). take n (now (a .input))) (sub-zero (a .used))) (k .ensures)
+    let a = c .before .before .before .before .before .before .before .before .before .before .before .before .before .before .before .before .args in
+    let k = c .before .before .before .before .before .before .before .before .before .before .before .replay in
+    let w = c .before .before .before .before .report in
+    let s = ap (λ (m : ℕ). take m (now (a .input))) (sub-zero (a .used)) in
+    replays (c .before .before .before .before .before .before .before .before .before .before .before .before .before .before .before .before .pre) s (k .ensures) (c .before .before .before .before .before .before .first-name .ensures) (k .kept .1 .0) (w .ensures)
 
 pub replay-spec : {M : Type 1} → statement M
 replay-spec =
@@ -54,9 +56,7 @@ replay-spec =
     part-s-end
     replay-requires
     first-name-requires
-    difference-requires
-    cut-requires
-    full-requires
-    counts-requires
+    report-requires
+    put-requires
     same-length
     returns)

@@ -5,8 +5,8 @@ use mathlib.Core.Path.{_≡_, refl, _∙_}
 use native.Mathlib.Omega.{arith}
 use Rattle.plain_call.specs.Rings.{rings}
 use Rattle.feed.specs.Machine.{machine}
-use Rattle.socket_script.specs.Drain.{DrainMay, held, Steps, none, more}
-use Rattle.socket_script.proofs.Drains.{Stands, stands, onwards, ends, drained}
+use Rattle.blocks.specs.Drain.{DrainMay, held, Advances, none, more}
+use Rattle.blocks.proofs.Drains.{Stands, stands, onwards, ends, drained}
 use Rattle.socket_script.proofs.drain.Statement.{statement}
 use Rattle.socket_script.proofs.drain.Tie as tie
 
@@ -21,7 +21,7 @@ Inv-loop buffer₀ memory₀ ring-one₀ table-one₀ ring-two₀ table-two₀ o
     × (length ring-two ≡ length ring-two₀)
     × (length table-two ≡ length table-two₀)
     × (length out ≡ length out₀)
-    × Steps (held q₀ buffer₀ memory₀ (rings ring-one₀ table-one₀ ring-two₀ table-two₀) out₀) (held q buffer memory (rings ring-one table-one ring-two table-two) out)
+    × Advances (held q₀ buffer₀ memory₀ (rings ring-one₀ table-one₀ ring-two₀ table-two₀) out₀) (held q buffer memory (rings ring-one table-one ring-two table-two) out)
 
 abbrev μ-loop : tie.MeasureT-loop
 μ-loop buffer₀ memory₀ ring-one₀ table-one₀ ring-two₀ table-two₀ out₀ q₀ buffer memory ring-one table-one ring-two table-two out q = q .used

@@ -1,7 +1,7 @@
-use Prim.Native.Nat.{ℕ}
 use borrow.Author.Needs.{needs}
-use lib.ListN.{length-replicate}
+use mathlib.Core.Path.{refl}
 use native.Mathlib.Omega.{arith}
+use Rattle.feed.specs.Machine.{start}
 use Rattle.socket_script.proofs.main.Statement.{statement}
 use Rattle.socket_script.proofs.main.Tie as tie
 
@@ -33,10 +33,10 @@ slice-aggregate-out : tie.Need-slice-aggregate-out
 slice-aggregate-out c = search needs
 
 run-requires : tie.Need-run-requires
+unfolding start
 run-requires c κs =
-    let z : ℕ = 0 in
     record {
-      size = omega (arith, length-replicate {A = ℕ} 4096 z);
+      starts = refl;
       least = omega arith;
       most = omega arith;
       room = omega arith;

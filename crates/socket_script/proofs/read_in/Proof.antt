@@ -19,8 +19,8 @@ part-read-end c = search needs
 read-requires : tie.Need-read-requires
 read-requires c κs = search needs
 
-report-read-requires : tie.Need-report-read-requires
-report-read-requires c κs = search needs
+tell-failed-read-requires : tie.Need-tell-failed-read-requires
+tell-failed-read-requires c κs = search needs
 
 sub-count : tie.Need-sub-count
 sub-count c = search needs
@@ -54,7 +54,7 @@ read-in-spec =
     part-read-start
     part-read-end
     read-requires
-    report-read-requires
+    tell-failed-read-requires
     sub-count
     part-count-start
     part-count-end

@@ -12,10 +12,11 @@ use Rattle.feed.specs.Machine.{startState}
 use Rattle.feed.specs.Turn.{LIMIT}
 use Rattle.buffer.specs.declared.Progress.{Progress}
 use Rattle.plain_call.specs.Rings.{rings}
-use Rattle.socket_script.specs.Drain.{isOpen, ReadIn, held, Drained}
-use Rattle.socket_script.specs.Run.{RunMay, Blocks, none, more, readMore}
-use Rattle.socket_script.proofs.Drains.{open-below}
-use Rattle.socket_script.proofs.Blocks.{begun, open-first, stops-shut, stops-ended}
+use Rattle.blocks.specs.Drain.{isOpen, ReadIn, held, Drained}
+use Rattle.blocks.specs.Run.{RunMay, Blocks, none, more, readMore}
+use Rattle.blocks.proofs.Drains.{open-below}
+use Rattle.blocks.proofs.Blocks.{first-memory, begun, open-first, stops-shut, stops-ended}
+use Rattle.blocks.proofs.Listed.{listed}
 use Rattle.socket_script.proofs.run.Statement.{statement}
 use Rattle.socket_script.proofs.run.Tie as tie
 
@@ -23,13 +24,13 @@ no-record : startState .number ≡ 0
 unfolding startState
 no-record = refl
 
--- from p₀ on, where the slices were the first seven, blocks were read and fed up to p, and o says whether the script may go on
+-- from p₀ on, where the slices were the first seven, blocks were read and fed up to p, and o says whether the program reads on
 abbrev Standing :
     (memory₀ ring-one₀ table-one₀ ring-two₀ table-two₀ buffer₀ out₀ : List ℕ) → Progress → (memory ring-one table-one ring-two table-two buffer out : List ℕ)
     → Progress → Bool → Type 0
 Standing memory₀ ring-one₀ table-one₀ ring-two₀ table-two₀ buffer₀ out₀ p₀ memory ring-one table-one ring-two table-two buffer out p o =
     (p .used ≤ length buffer₀)
-    × RunMay memory₀ buffer₀ out₀
+    × RunMay memory₀ (rings ring-one₀ table-one₀ ring-two₀ table-two₀) buffer₀ out₀
     × (length memory ≡ length memory₀)
     × (length ring-one ≡ length ring-one₀)
     × (length table-one ≡ length table-one₀)
@@ -99,7 +100,7 @@ loop-holds c =
     let u : f .result .used ≡ 0 = ap (λ (q : Progress). q .used) (f .ensures) in
     let o : f .result .offset ≡ 0 = ap (λ (q : Progress). q .offset) (f .ensures) in
     let n : f .result .state .number ≡ 0 = ap (λ (q : Progress). q .state .number) (f .ensures) ∙ no-record in
-    (omega (arith, u), record { size = q .size; least = q .least; most = q .most; room = omega (arith, q .room, g .kept .0) }, refl, refl, refl, refl, refl, refl, refl, omega (arith, u, o), omega (arith, n), none, open-first (f .ensures))
+    (omega (arith, u), record { starts = q .starts; least = q .least; most = q .most; room = omega (arith, q .room, g .kept .0) }, refl, refl, refl, refl, refl, refl, refl, omega (arith, u, o), omega (arith, n), none, open-first (f .ensures))
 
 read-in-requires : tie.Need-read-in-requires Inv-loop μ-loop
 read-in-requires c κs =
@@ -120,7 +121,7 @@ drain-requires c κs =
       used = omega (arith, r .ensures .within, r .ensures .size);
       count = l .inv .10;
       total = omega (arith, r .ensures .within, l .inv .1 .most, l .inv .7, open-below _ _ (sym (l .inv .12) ∙ c .before .before .before .before .before .before .before .before .before .before .before .before .loop-test .taken));
-      size = omega (arith, l .inv .1 .size, l .inv .2);
+      size = omega (arith, first-memory (l .inv .1 .starts), l .inv .2);
       room = omega (arith, l .inv .1 .room, l .inv .8);
     }
 
@@ -179,16 +180,20 @@ same-length-7 c = c .before .before .close .kept .1 .1 .0 ∙ c .before .before 
 returns : tie.Need-returns Inv-loop μ-loop
 returns c =
     let l = c .before .before .before .before .before .before .loop in
+    let b = begun (now (c .before .before .before .before .before .before .before .before .before .before .before .before .before .before .before .before .before .before .before .args .out)) (c .before .before .before .before .before .before .before .before .before .before .before .first .ensures) (c .before .before .before .before .before .before .before .before .before .begin .ensures) (l .inv .11) in
+    let s =
+    ⊎-elim (λ w. stops-shut (sym (l .inv .12) ∙ w .0 .left) (w .1))
+    (λ w. stops-ended b (omega (arith, l .inv .0, l .inv .7)) (omega (arith, l .inv .1 .least, l .inv .7)) (sym (l .inv .12) ∙ w .0 .taken) (w .2 .ensures) (w .5 .taken) (w .6))
+    (c .before .before .before .before .before .loop-test .came)
+    in
     record {
       last = held (l .p) (l .buffer) (l .memory) (rings (l .ring-one) (l .table-one) (l .ring-two) (l .table-two)) (l .out);
-      blocks = begun (now (c .before .before .before .before .before .before .before .before .before .before .before .before .before .before .before .before .before .before .before .args .out)) (c .before .before .before .before .before .before .before .before .before .before .before .first .ensures) (c .before .before .before .before .before .before .before .before .before .begin .ensures) (l .inv .11);
-      stops =
-          ⊎-elim (λ w. stops-shut (sym (l .inv .12) ∙ w .0 .left) (w .1))
-          (λ w. stops-ended (sym (l .inv .12) ∙ w .0 .taken) (w .2 .ensures) (w .5 .taken) (w .6))
-          (c .before .before .before .before .before .loop-test .came);
+      blocks = b;
+      stops = s;
       user = refl;
       lent = refl;
       text = c .before .before .close .ensures;
+      listed = listed b s (l .inv .1 .starts);
     }
 
 pub run-spec : {M : Type 1} → statement M

@@ -10,8 +10,8 @@ use lib.ListN.{length}
 use Rattle.tally.specs.declared.Outcome.the-variants.{Agrees}
 use Rattle.tally.specs.declared.Tally.{Tally}
 use Rattle.tally.proofs.Counts.{counted-small}
-use Rattle.replay.specs.Entry.{AllAgree, none, more, FirstMissed, noTally, Tallied, begun, next}
-use Rattle.replay.proofs.Entries.{counted-total, counted-most, counted-all, first-counted}
+use Rattle.replay.specs.Replay.{AllAgree, none, more, FirstMissed, noTally, Tallied, begun, next}
+use Rattle.replay.proofs.Entries.{counted-total, counted-most, counted-all, none-missed, first-counted}
 use Rattle.replay.proofs.entry.replay.Statement.{statement}
 use Rattle.replay.proofs.entry.replay.Tie as tie
 
@@ -45,7 +45,9 @@ returns c =
     record {
       within = h .0;
       tally = h .5;
+      most = h .2;
       all = h .3;
+      none = none-missed (h .5) .1;
       first = h .6;
       cut = λ e. rw (c .enum-told .given .1) at (c .before .before .entry-at .ensures);
     }
@@ -91,7 +93,17 @@ same-length-2 : tie.Need-same-length-2 Inv-loop μ-loop
 same-length-2 c = search needs
 
 returns-2 : tie.Need-returns-2 Inv-loop μ-loop
-returns-2 c = search needs
+returns-2 c =
+    let h = c .before .loop .inv in
+    record {
+      within = h .0;
+      tally = h .5;
+      most = h .2;
+      all = h .3;
+      none = none-missed (h .5) .1;
+      first = h .6;
+      cut = λ e. absurd (let z : ⊥ = omega (arith, e, c .loop-test .left) in z);
+    }
 
 pub replay-spec : {M : Type 1} → statement M
 replay-spec =
