@@ -12,8 +12,8 @@ use Rattle.buffer.specs.declared.Progress.{Progress}
 use Rattle.script.specs.Listing.{header}
 use Rattle.status.specs.Choice.{pick}
 use Rattle.feed.specs.Machine.{Machine, machine, startState, start}
-use Rattle.blocks.specs.Drain.{isOpen, ReadIn, Held, held, machineOf, inUse}
-use Rattle.blocks.specs.Run.{firstProgress, readsOn, Blocks, Stops, shut, ended}
+use Rattle.blocks.specs.Drain.{readsOn, ReadIn, Held, held, machineOf, inUse}
+use Rattle.blocks.specs.Run.{firstProgress, readsOnAt, Blocks, Stops, shut, inputEnded}
 use Rattle.blocks.proofs.Short.{stay-short}
 use Rattle.blocks.proofs.Listed.{blocks-stay, first-stays}
 
@@ -33,32 +33,32 @@ begun {p} {buffer} {memory} {out₁} {z} {y} out e f b =
     (subst (λ (o : List ℕ). Blocks (held p buffer memory z o) y) f b)
 
 -- before the first block the program reads on
-pub open-first : {p : Progress} → p ≡ firstProgress → true ≡ isOpen (p .state .ended) (p .offset)
-unfolding isOpen pick startState
-open-first e = subst (λ (q : Progress). true ≡ isOpen (q .state .ended) (q .offset)) (sym e) refl
+pub open-first : {p : Progress} → p ≡ firstProgress → true ≡ readsOn (p .state .ended) (p .offset)
+unfolding readsOn pick startState
+open-first e = subst (λ (q : Progress). true ≡ readsOn (q .state .ended) (q .offset)) (sym e) refl
 
-pub stops-shut : {x : Held} {buffer : List ℕ} → readsOn x ≡ false → buffer ≡ x .buffer → Stops x buffer
+pub stops-shut : {x : Held} {buffer : List ℕ} → readsOnAt x ≡ false → buffer ≡ x .buffer → Stops x buffer
 stops-shut {x} {buffer} e f = subst (λ (l : List ℕ). Stops x l) (sym f) (shut e)
 
--- a script that the program reads on has not ended
-goes-on : (e : Bool) (offset : ℕ) → isOpen e offset ≡ true → e ≡ false
-unfolding isOpen pick
-goes-on true offset h =
+-- where the program reads on, the script has not ended
+not-ended : (e : Bool) (offset : ℕ) → readsOn e offset ≡ true → e ≡ false
+unfolding readsOn pick
+not-ended true offset h =
     let z : _≡_ {A = Bool} false true = h in
     let n : _≡_ {A = ℕ} 0 1 = (cc) in
     absurd (let y : ⊥ = omega arith in y)
-goes-on false offset h = refl
+not-ended false offset h = refl
 
 -- where the program reads on, another byte has room in a buffer that a record fits into
-has-room : {buffer memory out : List ℕ} {z : Rings} {x : Held} → Blocks (held firstProgress buffer memory z out) x → readsOn x ≡ true
+has-room : {buffer memory out : List ℕ} {z : Rings} {x : Held} → Blocks (held firstProgress buffer memory z out) x → readsOnAt x ≡ true
     → x .at .used ≤ length (x .buffer) → 4107 ≤ length (x .buffer) → x .at .used < length (x .buffer)
 has-room {buffer} {memory} {out} {z} {x} f e u l =
-    let k : length (inUse x) < 4107 = stay-short (machineOf x) (inUse x) (goes-on _ _ e) (blocks-stay f (first-stays memory z)) in
+    let k : length (inUse x) < 4107 = stay-short (machineOf x) (inUse x) (not-ended _ _ e) (blocks-stay f (first-stays memory z)) in
     let n : length (inUse x) ≡ x .at .used = length-take-le (x .at .used) (x .buffer) u in
     omega (arith, k, n, l)
 
 pub stops-ended : {buffer₀ memory out : List ℕ} {z : Rings} {x : Held} {buffer buffer′ : List ℕ} {got : ℕ} → Blocks (held firstProgress buffer₀ memory z out) x
-    → x .at .used ≤ length (x .buffer) → 4107 ≤ length (x .buffer) → readsOn x ≡ true → ReadIn (x .at .used) got (x .buffer) buffer′ → got ≡ 0
+    → x .at .used ≤ length (x .buffer) → 4107 ≤ length (x .buffer) → readsOnAt x ≡ true → ReadIn (x .at .used) got (x .buffer) buffer′ → got ≡ 0
     → buffer ≡ buffer′ → Stops x buffer
 stops-ended {x = x} {buffer} {buffer′} {got} b u l e r n f =
-    subst (λ (l : List ℕ). Stops x l) (sym f) (ended e (has-room b e u l) (subst (λ (n : ℕ). ReadIn (x .at .used) n (x .buffer) buffer′) n r))
+    subst (λ (l : List ℕ). Stops x l) (sym f) (inputEnded e (has-room b e u l) (subst (λ (n : ℕ). ReadIn (x .at .used) n (x .buffer) buffer′) n r))

@@ -1,4 +1,4 @@
--- What the loop keeps that feeds the bytes in use. Assumes nothing.
+-- What the loop keeps that feeds the bytes in use, and how far a program that reads on is from LIMIT. Assumes nothing.
 use Prim.Native.Nat.{ℕ, _+_, _-_, _≤_, _<_}
 use native.Mathlib.Omega.{arith}
 use mathlib.Core.Path.{_≡_, refl, sym, ap, _∙_}
@@ -20,11 +20,11 @@ use Rattle.script.proofs.Tells.{tells}
 use Rattle.script.proofs.Alls.{all-stay, splits, fed-idle}
 use Rattle.script.proofs.Complete.{is-ready}
 use Rattle.buffer.proofs.Fronts.{front-fed, front-left}
-use Rattle.blocks.specs.Drain.{isOpen, Held, machineOf, inUse, movesOf, Advance, Advances, Drained}
+use Rattle.blocks.specs.Drain.{readsOn, Held, machineOf, inUse, movesOf, Advance, Advances, Drained}
 
 -- where the program reads on, a whole buffer more stays within LIMIT
-pub open-below : (ended : Bool) (offset : ℕ) → isOpen ended offset ≡ true → offset < 4611686018427256832
-unfolding isOpen pick
+pub open-below : (ended : Bool) (offset : ℕ) → readsOn ended offset ≡ true → offset < 4611686018427256832
+unfolding readsOn pick
 open-below true offset e =
     let z : _≡_ {A = Bool} false true = e in
     let n : _≡_ {A = ℕ} 0 1 = (cc) in

@@ -1,6 +1,6 @@
--- Drains: what the inner loop keeps
--- Short: where no move is left, another byte has room in the buffer
--- Blocks: blocks read and fed, and why no other follows
+-- Drains: what the loop keeps that feeds the bytes in use, and how far a program that reads on is from LIMIT
+-- Short: where a script that has not ended has no move left, fewer than 4107 bytes are
+-- Blocks: blocks read and fed, why no other follows, and that a byte then has room
 -- Listed: what is put out is the listing of the bytes read
 pub mod Drains
 pub mod Short

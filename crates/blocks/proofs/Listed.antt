@@ -21,8 +21,8 @@ use Rattle.script.proofs.Tells.{tells, passes, shown}
 use Rattle.buffer.specs.Buffer.{shifted, frontOf}
 use Rattle.buffer.proofs.Fronts.{front-left}
 use Rattle.blocks.specs.Drain.{Held, held, machineOf, inUse, Advance, Advances, Drained, callText, advancesText, drainText}
-use Rattle.blocks.specs.Drain.{none as no-advance, more as advance}
-use Rattle.blocks.specs.Run.{firstProgress, readMore, Blocks, none, more, Stops, shut, ended, bytesRead, blocksText, endText}
+use Rattle.blocks.specs.Drain.{none as no-other, more as another}
+use Rattle.blocks.specs.Run.{firstProgress, readMore, Blocks, none, more, Stops, shut, inputEnded, inputRead, blocksText, endText}
 
 -- ---- calls of `advance`
 
@@ -79,8 +79,8 @@ both x y z k l f g t = f t ∙ ap (λ (o : List ℕ). k ++ o) (g t) ∙ sym (app
 
 advances-put : {x y : Held} (f : Advances x y) → Puts x y (advancesText f)
 unfolding advancesText
-advances-put no-advance t = refl
-advances-put {x} (advance {y} {z} f d n) t = both x y z (advancesText f) (callText z) (advances-put f) (advance-puts y z d) t
+advances-put no-other t = refl
+advances-put {x} (another {y} {z} f d n) t = both x y z (advancesText f) (callText z) (advances-put f) (advance-puts y z d) t
 
 drain-puts : {x y : Held} (d : Drained x y) → Puts x y (drainText d)
 unfolding drainText
@@ -91,15 +91,15 @@ drain-puts {x} {y} d =
 -- ---- blocks
 
 -- the bytes read, and any t behind them, give the text of the blocks, and then what t gives from y on
-blocks-put : {x y : Held} (f : Blocks x y) (t : List ℕ) → from x (bytesRead f ++ t) ≡ blocksText f ++ from y t
-unfolding bytesRead blocksText
+blocks-put : {x y : Held} (f : Blocks x y) (t : List ℕ) → from x (inputRead f ++ t) ≡ blocksText f ++ from y t
+unfolding inputRead blocksText
 blocks-put none t = refl
 blocks-put {x} (more {y} {z} {buffer} {got} f g r n d) t =
     let k : List ℕ = take got (drop (y .at .used) buffer) in
     let e : inUse y ++ k ≡ take (y .at .used + got) buffer =
     ap (λ (l : List ℕ). l ++ k) (sym (r .front)) ∙ sym (take-add (y .at .used) got buffer)
     in
-    ap (λ (l : List ℕ). from x l) (append-assoc (bytesRead f) k t)
+    ap (λ (l : List ℕ). from x l) (append-assoc (inputRead f) k t)
     ∙ blocks-put f (k ++ t)
     ∙ ap (λ (l : List ℕ). blocksText f ++ run (y .at .offset) (machineOf y) l) (sym (append-assoc (inUse y) k t))
     ∙ ap (λ (l : List ℕ). blocksText f ++ run (y .at .offset) (machineOf y) (l ++ t)) e
@@ -125,11 +125,11 @@ first-stays memory z = refl
 -- a read that gives nothing leaves the bytes in use as they were
 stops-in-use : {x : Held} {buffer : List ℕ} → Stops x buffer → take (x .at .used) buffer ≡ inUse x
 stops-in-use (shut e) = refl
-stops-in-use (ended e k r) = r .front
+stops-in-use (inputEnded e k r) = r .front
 
 -- the header, the text of the blocks and the end are the listing of the bytes read
 pub listed : {memory buffer out buffer′ : List ℕ} {z : Rings} {y : Held} (f : Blocks (held firstProgress buffer memory z out) y) → Stops y buffer′
-    → machine startState memory z ≡ start → header ++ (blocksText f ++ endText y buffer′) ≡ listing (bytesRead f)
+    → machine startState memory z ≡ start → header ++ (blocksText f ++ endText y buffer′) ≡ listing (inputRead f)
 unfolding listing
 listed {memory} {buffer} {out} {buffer′} {z} {y} f s e =
     let c : run (y .at .offset) (machineOf y) (inUse y) ≡ endText y buffer′ =
@@ -139,5 +139,5 @@ listed {memory} {buffer} {out} {buffer′} {z} {y} f s e =
     ap (λ (l : List ℕ). header ++ l)
     (ap (λ (l : List ℕ). blocksText f ++ l) (sym c ∙ ap (λ (l : List ℕ). run (y .at .offset) (machineOf y) l) (sym (append-nil (inUse y))))
     ∙ sym (blocks-put f [])
-    ∙ ap (λ (l : List ℕ). run 0 (machine startState memory z) l) (append-nil (bytesRead f))
-    ∙ ap (λ (m : Machine). run 0 m (bytesRead f)) e)
+    ∙ ap (λ (l : List ℕ). run 0 (machine startState memory z) l) (append-nil (inputRead f))
+    ∙ ap (λ (m : Machine). run 0 m (inputRead f)) e)

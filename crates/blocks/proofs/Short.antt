@@ -1,4 +1,4 @@
--- The bytes that are left once no move is left are fewer than a record has at most, so that another byte has room in the buffer. Assumes nothing.
+-- Where a script has not ended and no move is left, fewer than 4107 bytes are left. Assumes nothing.
 use Prim.Native.Nat.{ℕ, _+_, _-_, _≤_, _<_}
 use native.Mathlib.Omega.{arith}
 use mathlib.Core.Path.{_≡_, refl, sym, _∙_, subst}
@@ -6,15 +6,14 @@ use mathlib.Core.Bool.{Bool, true, false}
 use mathlib.Core.List.{List}
 use lib.ListN.{length, getD, take, drop}
 use lib.Dec.{ltb, leb, eqb}
-use borrow.Author.Tests.{ltb-true, ltb-false, leb-true, eqb-true}
-use Rattle.status.specs.Choice.{pick}
+use borrow.Author.Tests.{ltb-true, leb-true, eqb-true}
 use Rattle.record.specs.declared.Decoded.{Decoded}
 use Rattle.record.specs.declared.Decoded.the-variants.{Whole, Bad, Cut}
 use Rattle.record.specs.Fields.{two}
 use Rattle.record.specs.Record.{isBody, recordOf}
 use Rattle.record.specs.Order.{isMisplaced}
 use Rattle.record.proofs.Records.{cases}
-use Rattle.feed.specs.Machine.{Machine, Move, stay, halt, go, moveOf, stepped, stepLine}
+use Rattle.feed.specs.Machine.{Machine, stay, halt, go, moveOf, stepped, stepLine}
 use Rattle.feed.proofs.Moves.{move-bad, move-misplaced, move-step}
 
 -- ---- a body
@@ -73,7 +72,7 @@ cut-short s e = subst (λ (r : Decoded). CutTells s r) e (cut-tells s)
 
 -- ---- no move
 
--- bytes that make no move of a script that has not ended
+-- bytes that make no move of a script that has not ended are fewer than 4107
 pub stay-short : (m : Machine) (s : List ℕ) → m .state .ended ≡ false → moveOf m s ≡ stay → length s < 4107
 stay-short m s e f = by (recordOf s) refl
   where

@@ -16,9 +16,9 @@ use Rattle.feed.specs.Turn.{LIMIT}
 use Rattle.feed.specs.Feed.{Block, allOf}
 use Rattle.buffer.specs.Buffer.{frontOf, Advanced}
 
--- 01 "Script program": whether the program reads on. Not once the script has ended, nor where one more buffer might take the bytes above LIMIT
-unfoldable pub isOpen : (ended : Bool) → (offset : ℕ) → Bool
-isOpen ended offset = pick ended false (ltb offset (LIMIT - 131072))
+-- 01 "Script program": whether the program reads on. Not once the script has ended, nor where one more buffer might take the bytes to LIMIT or above
+unfoldable pub readsOn : (ended : Bool) → (offset : ℕ) → Bool
+readsOn ended offset = pick ended false (ltb offset (LIMIT - 131072))
 
 -- ---- reading
 
@@ -43,7 +43,8 @@ pub record Held : Type 0 where
 abbrev pub held : Progress → (buffer memory : List ℕ) → Rings → (out : List ℕ) → Held
 held p buffer memory z out = record { at = p; buffer = buffer; memory = memory; lent = z; out = out }
 
--- what draining asks for: the bytes in use stand in the buffer, no number is above LIMIT, and a line has room
+-- what draining asks for: the bytes in use stand in the buffer, no number is above LIMIT, memory is such that no line is longer than LINE, and a line has
+-- room
 pub record DrainMay (p : Progress) (buffer memory out : List ℕ) : Type 0 where
   pub used : p .used ≤ length buffer
   pub count : p .state .number ≤ p .offset
@@ -55,7 +56,7 @@ pub record DrainMay (p : Progress) (buffer memory out : List ℕ) : Type 0 where
 abbrev pub machineOf : Held → Machine
 machineOf x = machine (x .at .state) (x .memory) (x .lent)
 
--- the bytes in use: they came, and are not done with
+-- the bytes in use: they were read, and are not done with
 abbrev pub inUse : Held → List ℕ
 inUse x = take (x .at .used) (x .buffer)
 

@@ -10,10 +10,10 @@ use Rattle.plain_call.specs.Rings.{Rings}
 use Rattle.buffer.specs.declared.Progress.{Progress}
 use Rattle.feed.specs.Machine.{machine, start, startState}
 use Rattle.script.specs.Listing.{header, closing, listing}
-use Rattle.blocks.specs.Drain.{isOpen, ReadIn, Held, held, Drained, drainText}
+use Rattle.blocks.specs.Drain.{readsOn, ReadIn, Held, held, Drained, drainText}
 
 -- what it asks for: 01 "Script program", memory, rings and tables are as a script finds them before its first record; a record, of at most 4107 bytes, has
--- room in the buffer, which has at most what is read at once; and a line has room
+-- room in the buffer, which has at most the 131072 bytes that `readsOn` leaves below LIMIT; and a line has room
 pub record RunMay (memory : List ℕ) (z : Rings) (buffer out : List ℕ) : Type 0 where
   pub starts : machine startState memory z ≡ start
   pub least : 4107 ≤ length buffer
@@ -30,26 +30,26 @@ readMore got buffer x =
     held (record { state = x .at .state; offset = x .at .offset; used = x .at .used + got; written = x .at .written }) buffer (x .memory) (x .lent) (x .out)
 
 -- whether the program reads on
-abbrev pub readsOn : Held → Bool
-readsOn x = isOpen (x .at .state .ended) (x .at .offset)
+abbrev pub readsOnAt : Held → Bool
+readsOnAt x = readsOn (x .at .state .ended) (x .at .offset)
 
 -- blocks, one after the other, each while the program reads on: a byte or more come behind those in use, as a read may leave them, and then all moves are
 -- made that the bytes in use make
 pub data Blocks (x : Held) : Held → Type 0 where
   none : Blocks x x
   more :
-      {y z : Held} {buffer : List ℕ} {got : ℕ} → Blocks x y → readsOn y ≡ true → ReadIn (y .at .used) got (y .buffer) buffer → (got ≡ 0 → ⊥)
+      {y z : Held} {buffer : List ℕ} {got : ℕ} → Blocks x y → readsOnAt y ≡ true → ReadIn (y .at .used) got (y .buffer) buffer → (got ≡ 0 → ⊥)
       → Drained (readMore got buffer y) z → Blocks x z
 
 -- why no block follows, and what the buffer is then: the program does not read on, or no byte came where one had room, as a read may leave the buffer
 pub data Stops (x : Held) : (buffer : List ℕ) → Type 0 where
-  shut : readsOn x ≡ false → Stops x (x .buffer)
-  ended : {buffer : List ℕ} → readsOn x ≡ true → x .at .used < length (x .buffer) → ReadIn (x .at .used) 0 (x .buffer) buffer → Stops x buffer
+  shut : readsOnAt x ≡ false → Stops x (x .buffer)
+  inputEnded : {buffer : List ℕ} → readsOnAt x ≡ true → x .at .used < length (x .buffer) → ReadIn (x .at .used) 0 (x .buffer) buffer → Stops x buffer
 
--- 01 "Script program", standard input: the bytes read, of each block those behind the bytes in use, as `ReadIn` has them
-unfoldable pub bytesRead : {x y : Held} → Blocks x y → List ℕ
-bytesRead none = []
-bytesRead (more {y} {z} {buffer} {got} f g r n d) = bytesRead f ++ take got (drop (y .at .used) buffer)
+-- 01 "Script program", standard input: the bytes read, of each block those that stand behind the bytes in use in the buffer after its read
+unfoldable pub inputRead : {x y : Held} → Blocks x y → List ℕ
+inputRead none = []
+inputRead (more {y} {z} {buffer} {got} f g r n d) = inputRead f ++ take got (drop (y .at .used) buffer)
 
 -- the text that draining the blocks puts out
 unfoldable pub blocksText : {x y : Held} → Blocks x y → List ℕ
@@ -60,10 +60,11 @@ blocksText (more {y} {z} {buffer} {got} f g r n d) = blocksText f ++ drainText d
 abbrev pub endText : Held → (buffer : List ℕ) → List ℕ
 endText x buffer = closing (x .at .offset) (x .at .state .ended) (take (x .at .used) buffer)
 
--- the header is put out, then blocks come and are fed, then the end of the input is put out. This settles memory, rings, tables, output and the bytes in use
--- by the bytes read; behind those in use the buffer is as the reads left it. listed: the header, the texts that the calls of `advance` leave at the front
--- of the output, and the end, one behind the other, are the listing of the bytes read. That each was written, once and in this order, stands in the code
--- alone, and which bytes a read gives, or that one was made, cannot be said: the contracts of the operating system's `read` and `write` say nothing of it
+-- the header is put out, then blocks come and are fed, then the end of the input is put out. This settles memory, rings, tables and the bytes in use by the
+-- bytes read, and the output by the blocks in which they were read; behind the bytes in use the buffer is as the reads and the moves to the front left it.
+-- listed: the header, the texts that the calls of `advance` leave at the front of the output, and the end, one behind the other, are the listing of the
+-- bytes read. That each was written, once and in this order, stands in the code alone, and which bytes a read gives, or that one was made, cannot be said:
+-- the contracts of the operating system's `read` and `write` say nothing of it
 pub record RunDone (memory : List ℕ) (z : Rings) (buffer out memory′ : List ℕ) (z′ : Rings) (buffer′ out′ : List ℕ) : Type 0 where
   pub last : Held
   pub blocks : Blocks (held firstProgress buffer memory z (place 0 header out)) last
@@ -71,4 +72,4 @@ pub record RunDone (memory : List ℕ) (z : Rings) (buffer out memory′ : List 
   pub user : memory′ ≡ last .memory
   pub lent : z′ ≡ last .lent
   pub text : out′ ≡ place 0 (endText last buffer′) (last .out)
-  pub listed : header ++ (blocksText blocks ++ endText last buffer′) ≡ listing (bytesRead blocks)
+  pub listed : header ++ (blocksText blocks ++ endText last buffer′) ≡ listing (inputRead blocks)

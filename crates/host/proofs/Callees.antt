@@ -1,5 +1,5 @@
 -- The functions that the walks call, each with its contract, what it ensures, and how it is called: by values alone, or with the pair's reference.
--- That of `kept_pair::outcome` stands in the file of this name in kept_transfer. Assumes nothing.
+-- `kept_pair::outcome` stands in the file of the same name in kept_transfer. Assumes nothing.
 use mathlib.Core.Path.{_≡_, refl}
 use mathlib.Core.Bool.{Bool}
 use Prim.Native.Nat.{ℕ}

@@ -30,7 +30,7 @@ pub fn wrote(p: &mut Pair, handle: u32, t: Transfer) -> i64
     w
 }
 
-// The same for a read, where its peer is open too.
+// The same for a read; without an outcome only where its peer is open too.
 pub fn read(p: &mut Pair, handle: u32, t: Transfer) -> i64
     ensures { λ w. ⌜ (w ≡ answerWord (t .answer)) × (now (p .exit) ≡ settled (readBy (endsOf (now (p .entry))) handle t) (now (p .entry)) .pair) ⌝ }
 {

@@ -87,19 +87,23 @@ name-within {s} begun = none-within s
 name-within {s} (next {at} {nameEnd} t o k e r) =
     counted-within t (at + 4) nameEnd (length s) o (name-within k) (omega (arith, e .name), omega (arith, e .behind .script, e .behind .stored, e .behind .within))
 
--- where as many agree as were run, the tally holds none
-none-counted : (t : Tally) (from to : ℕ) (o : Outcome) → t .agree ≤ t .total → (t .agree ≡ t .total → t .first ≡ Agrees)
-    → countedOf t from to o .agree ≡ countedOf t from to o .total → countedOf t from to o .first ≡ Agrees
+-- the tally holds no entry and no name
+abbrev Holds-none : Tally → Type 0
+Holds-none t = (t .first ≡ Agrees) × (t .from ≡ t .to)
+
+-- where as many agree as were run, it holds none
+none-counted : (t : Tally) (from to : ℕ) (o : Outcome) → t .agree ≤ t .total → (t .agree ≡ t .total → Holds-none t)
+    → countedOf t from to o .agree ≡ countedOf t from to o .total → Holds-none (countedOf t from to o)
 unfolding countedOf missed
 none-counted t from to Agrees h k e = k (omega (arith, e))
 none-counted t from to (DiffersAt i) h k e = absurd (let z : ⊥ = omega (arith, e, h) in z)
 none-counted t from to NoRoom h k e = absurd (let z : ⊥ = omega (arith, e, h) in z)
 
-none-tallied : (noTally .agree ≤ noTally .total) × (noTally .agree ≡ noTally .total → noTally .first ≡ Agrees)
+none-tallied : (noTally .agree ≤ noTally .total) × (noTally .agree ≡ noTally .total → Holds-none noTally)
 unfolding noTally
-none-tallied = (omega arith, λ e. refl)
+none-tallied = (omega arith, λ e. (refl, refl))
 
-pub none-missed : {s out₀ out : List ℕ} {at : ℕ} {t : Tally} → Tallied s out₀ at t out → (t .agree ≤ t .total) × (t .agree ≡ t .total → t .first ≡ Agrees)
+pub none-missed : {s out₀ out : List ℕ} {at : ℕ} {t : Tally} → Tallied s out₀ at t out → (t .agree ≤ t .total) × (t .agree ≡ t .total → Holds-none t)
 none-missed begun = none-tallied
 none-missed (next {at} {nameEnd} t o k e r) =
     let h = none-missed k in

@@ -35,8 +35,8 @@ pub data AllAgree (s : List ℕ) : (number at : ℕ) → Type 0 where
       {number at nameEnd scriptEnd end : ℕ} → AllAgree s number at → EntryIn s at nameEnd scriptEnd end → Agreed s nameEnd scriptEnd end
       → AllAgree s (number + 1) end
 
--- the tally holds an entry that does not agree: as many as its number says lie before it, and agree, its name lies between the two places of the
--- tally, and its outcome says how it does not agree
+-- the tally holds an entry whose outcome is not `Agrees`: as many as its number says lie before it, and agree, its name lies between the two places of the
+-- tally, and its outcome says where it differs, or that another line might not have had room
 pub record FirstMissed (room : ℕ) (s : List ℕ) (t : Tally) : Type 0 where
   pub at : ℕ
   pub scriptEnd : ℕ
@@ -47,14 +47,14 @@ pub record FirstMissed (room : ℕ) (s : List ℕ) (t : Tally) : Type 0 where
   pub outcome : Agreement room s (t .to) scriptEnd end (t .first)
   pub misses : t .first ≡ Agrees → ⊥
 
--- the entries that were run end at a place, and are counted; no more agree than were run. If as many do, all agree and the tally holds none, else it
--- holds the first that does not. Behind the place the input ends, or an entry is cut
+-- the entries that were run end at a place, and are counted; no more agree than were run. If as many do, all agree and the tally holds no entry
+-- and no name, else it holds the first that does not. Behind the place the input ends, or an entry is cut
 pub record AgreeTo (s out out′ : List ℕ) (r : Replayed) : Type 0 where
   pub within : r .at ≤ length s
   pub tally : Tallied s out (r .at) (r .tally) out′
   pub most : r .tally .agree ≤ r .tally .total
   pub all : r .tally .agree ≡ r .tally .total → AllAgree s (r .tally .total) (r .at)
-  pub none : r .tally .agree ≡ r .tally .total → r .tally .first ≡ Agrees
+  pub noneMissed : r .tally .agree ≡ r .tally .total → (r .tally .first ≡ Agrees) × (r .tally .from ≡ r .tally .to)
   pub first : r .tally .agree < r .tally .total → FirstMissed (length out) s (r .tally)
   pub cut : r .at < length s → length s < entryEnd s (r .at)
 

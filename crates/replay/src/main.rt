@@ -1,6 +1,6 @@
-// Runs stored scripts and compares each listing with the stored one, which the original Rust gave. Of the first that differs it prints the number
-// from 0, the name and the byte, or that the listing had no room; then an entry that is cut, an input that fills the buffer, and how many agree. The
-// stored scripts are this program's standard input. They were made in rust/differential, from the original, by
+// Runs stored scripts and compares each listing with the stored one, which the original Rust gave. Of the first entry that does not agree it prints the
+// number from 0 and the name, and the byte, or that another line might not have had room; then, where it is so, that an entry is cut and that the input
+// fills the buffer; last how many agree. The stored scripts are this program's standard input. They were made in rust/differential, from the original, by
 //     cargo build --release --offline && target/release/sample FILE
 // For each script the input has its name, the script and the listing, each after a four-byte little-endian length.
 mod entry;
@@ -17,7 +17,7 @@ const STDOUT: i32 = 1;
 
 const STDERR: i32 = 2;
 
-// Tells on standard error that a write failed.
+// Tells on standard error that a write failed, if it did.
 fn tell_failed_write(done: bool) {
     if !done {
         io::write_all(STDERR, b"replay: standard output cannot be written\n");
@@ -53,7 +53,7 @@ fn replay(input: &[u8], used: usize, out: &mut [u8])
     put(out, n);
 }
 
-// The contracts of the two give only the length, which lending the array needs. The output has 190 bytes more than the input, so that a report has room
+// The contracts of the two give only the length, which lending the array needs. The output has 190 bytes more than the input's buffer, so that a report has room
 // whatever name from the input is in it.
 fn input_buffer() -> [u8; 1048576]
     ensures { λ r. ⌜ 1048576 ≡ length r ⌝ }

@@ -15,14 +15,14 @@ const STDOUT: i32 = 1;
 
 const STDERR: i32 = 2;
 
-// Tells on standard error that a read failed.
+// Tells on standard error that a read failed, if it did.
 fn tell_failed_read(got: isize) {
     if got < 0 {
         io::write_all(STDERR, b"socket_script: standard input cannot be read\n");
     }
 }
 
-// Tells on standard error that a write failed.
+// Tells on standard error that a write failed, if it did.
 fn tell_failed_write(done: bool) {
     if !done {
         io::write_all(
@@ -138,7 +138,7 @@ fn run(
             table_two,
             out,
         );
-        if !blocks::is_open(p.state.ended, p.offset) {
+        if !blocks::reads_on(p.state.ended, p.offset) {
             open = false;
         }
     }

@@ -1,5 +1,5 @@
-// A write and a read that can fire no wait: what they change, put into the pair. Whether a write or a read is such; the outcome of any write and any
-// read.
+// A write and a read that move bytes and can fire no wait, the read with an open peer: what they change, put into the pair. Whether a write or a read
+// is such; the outcome of any write and any read.
 use endpoint::Endpoint;
 use endpoint::Queue;
 use ends::Outcome;

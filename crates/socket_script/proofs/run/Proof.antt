@@ -12,7 +12,7 @@ use Rattle.feed.specs.Machine.{startState}
 use Rattle.feed.specs.Turn.{LIMIT}
 use Rattle.buffer.specs.declared.Progress.{Progress}
 use Rattle.plain_call.specs.Rings.{rings}
-use Rattle.blocks.specs.Drain.{isOpen, ReadIn, held, Drained}
+use Rattle.blocks.specs.Drain.{readsOn, ReadIn, held, Drained}
 use Rattle.blocks.specs.Run.{RunMay, Blocks, none, more, readMore}
 use Rattle.blocks.proofs.Drains.{open-below}
 use Rattle.blocks.proofs.Blocks.{first-memory, begun, open-first, stops-shut, stops-ended}
@@ -41,7 +41,7 @@ Standing memory₀ ring-one₀ table-one₀ ring-two₀ table-two₀ buffer₀ o
     × (p .offset + p .used ≤ LIMIT)
     × (p .state .number ≤ p .offset)
     × Blocks (held p₀ buffer₀ memory₀ (rings ring-one₀ table-one₀ ring-two₀ table-two₀) out₀) (held p buffer memory (rings ring-one table-one ring-two table-two) out)
-    × (o ≡ isOpen (p .state .ended) (p .offset))
+    × (o ≡ readsOn (p .state .ended) (p .offset))
 
 abbrev Inv-loop : tie.InvT-loop
 Inv-loop memory₀ ring-one₀ table-one₀ ring-two₀ table-two₀ buffer₀ out₀ p₀ o₀ memory ring-one table-one ring-two table-two buffer out p o = Standing memory₀ ring-one₀ table-one₀ ring-two₀ table-two₀ buffer₀ out₀ p₀ memory ring-one table-one ring-two table-two buffer out p o
@@ -67,7 +67,7 @@ module _ {memory₀ ring-one₀ table-one₀ ring-two₀ table-two₀ buffer₀ 
 
   again : length buffer′ ≡ length buffer₁ → length memory′ ≡ length memory → length ring-one′ ≡ length ring-one → length table-one′ ≡ length table-one
       → length ring-two′ ≡ length ring-two → length table-two′ ≡ length table-two → length out′ ≡ length out
-      → (o′ : Bool) → o′ ≡ isOpen (p′ .state .ended) (p′ .offset)
+      → (o′ : Bool) → o′ ≡ readsOn (p′ .state .ended) (p′ .offset)
       → Standing memory₀ ring-one₀ table-one₀ ring-two₀ table-two₀ buffer₀ out₀ p₀ memory′ ring-one′ table-one′ ring-two′ table-two′ buffer′ out′ p′ o′
   again lb lm l1 t1 l2 t2 lo o′ e =
       let u : p′ .used ≤ p .used + got = d .within in (
@@ -125,8 +125,8 @@ drain-requires c κs =
       room = omega (arith, l .inv .1 .room, l .inv .8);
     }
 
-is-open-requires : tie.Need-is-open-requires Inv-loop μ-loop
-is-open-requires c κs = search needs
+reads-on-requires : tie.Need-reads-on-requires Inv-loop μ-loop
+reads-on-requires c κs = search needs
 
 loop-less : tie.Need-loop-less Inv-loop μ-loop
 loop-less c = less (c .before .before .before .before .before .before .before .before .before .before .before .before .before .before .before .before .before .before .before .before .before .before .before .before .before .before .before .before .before .before .loop .inv) (c .before .before .before .before .before .before .before .before .before .before .before .before .before .before .before .before .before .before .before .before .before .before .before .before .before .before .before .before .before .loop-test .taken) (c .before .before .before .before .before .before .before .before .before .before .before .before .before .before .before .before .before .before .before .before .before .before .before .before .before .before .before .read-in .ensures) (c .before .before .before .before .before .before .before .before .before .before .before .before .before .before .before .before .before .before .before .before .before .before .before .before .if1 .left) (c .before .before .before .before .before .before .before .before .before .before .before .before .before .before .before .before .drain .ensures)
@@ -136,7 +136,7 @@ loop-again c =
     let z = c .before .before .before .before .before .before .before .before .before .before .before .before .before .before .before .before .drain .kept .1 in
     again (c .before .before .before .before .before .before .before .before .before .before .before .before .before .before .before .before .before .before .before .before .before .before .before .before .before .before .before .before .before .before .loop .inv) (c .before .before .before .before .before .before .before .before .before .before .before .before .before .before .before .before .before .before .before .before .before .before .before .before .before .before .before .before .before .loop-test .taken) (c .before .before .before .before .before .before .before .before .before .before .before .before .before .before .before .before .before .before .before .before .before .before .before .before .before .before .before .read-in .ensures) (c .before .before .before .before .before .before .before .before .before .before .before .before .before .before .before .before .before .before .before .before .before .before .before .before .if1 .left) (c .before .before .before .before .before .before .before .before .before .before .before .before .before .before .before .before .drain .ensures)
     (z .0) (z .1 .0) (z .1 .1 .0) (z .1 .1 .1 .0) (z .1 .1 .1 .1 .0) (z .1 .1 .1 .1 .1 .0) (z .1 .1 .1 .1 .1 .1 .0)
-    _ (sym (via-not (c .before .is-open .ensures) (c .if2 .taken)))
+    _ (sym (via-not (c .before .reads-on .ensures) (c .if2 .taken)))
 
 loop-less-2 : tie.Need-loop-less-2 Inv-loop μ-loop
 loop-less-2 c = less (c .before .before .before .before .before .before .before .before .before .before .before .before .before .before .before .before .before .before .before .before .before .before .before .before .before .before .before .before .before .before .loop .inv) (c .before .before .before .before .before .before .before .before .before .before .before .before .before .before .before .before .before .before .before .before .before .before .before .before .before .before .before .before .before .loop-test .taken) (c .before .before .before .before .before .before .before .before .before .before .before .before .before .before .before .before .before .before .before .before .before .before .before .before .before .before .before .read-in .ensures) (c .before .before .before .before .before .before .before .before .before .before .before .before .before .before .before .before .before .before .before .before .before .before .before .before .if1 .left) (c .before .before .before .before .before .before .before .before .before .before .before .before .before .before .before .before .drain .ensures)
@@ -146,7 +146,7 @@ loop-again-2 c =
     let z = c .before .before .before .before .before .before .before .before .before .before .before .before .before .before .before .before .drain .kept .1 in
     again (c .before .before .before .before .before .before .before .before .before .before .before .before .before .before .before .before .before .before .before .before .before .before .before .before .before .before .before .before .before .before .loop .inv) (c .before .before .before .before .before .before .before .before .before .before .before .before .before .before .before .before .before .before .before .before .before .before .before .before .before .before .before .before .before .loop-test .taken) (c .before .before .before .before .before .before .before .before .before .before .before .before .before .before .before .before .before .before .before .before .before .before .before .before .before .before .before .read-in .ensures) (c .before .before .before .before .before .before .before .before .before .before .before .before .before .before .before .before .before .before .before .before .before .before .before .before .if1 .left) (c .before .before .before .before .before .before .before .before .before .before .before .before .before .before .before .before .drain .ensures)
     (z .0) (z .1 .0) (z .1 .1 .0) (z .1 .1 .1 .0) (z .1 .1 .1 .1 .0) (z .1 .1 .1 .1 .1 .0) (z .1 .1 .1 .1 .1 .1 .0)
-    _ (c .before .before .before .before .before .before .before .before .before .before .before .before .before .before .before .before .before .before .before .before .before .before .before .before .before .before .before .before .before .loop-test .taken ∙ sym (via-not-not (c .before .is-open .ensures) (c .if2 .left)))
+    _ (c .before .before .before .before .before .before .before .before .before .before .before .before .before .before .before .before .before .before .before .before .before .before .before .before .before .before .before .before .before .loop-test .taken ∙ sym (via-not-not (c .before .reads-on .ensures) (c .if2 .left)))
 
 close-requires : tie.Need-close-requires Inv-loop μ-loop
 close-requires c κs =
@@ -208,7 +208,7 @@ run-spec =
     read-in-requires
     add-p
     drain-requires
-    is-open-requires
+    reads-on-requires
     loop-less
     loop-again
     loop-less-2

@@ -47,7 +47,7 @@ returns c =
       tally = h .5;
       most = h .2;
       all = h .3;
-      none = none-missed (h .5) .1;
+      noneMissed = none-missed (h .5) .1;
       first = h .6;
       cut = λ e. rw (c .enum-told .given .1) at (c .before .before .entry-at .ensures);
     }
@@ -100,7 +100,7 @@ returns-2 c =
       tally = h .5;
       most = h .2;
       all = h .3;
-      none = none-missed (h .5) .1;
+      noneMissed = none-missed (h .5) .1;
       first = h .6;
       cut = λ e. absurd (let z : ⊥ = omega (arith, e, c .loop-test .left) in z);
     }
