@@ -13,7 +13,7 @@ use Rattle.script.specs.Listing.{header}
 use Rattle.status.specs.Choice.{pick}
 use Rattle.feed.specs.Machine.{Machine, machine, startState, start}
 use Rattle.blocks.specs.Drain.{readsOn, ReadIn, Held, held, machineOf, inUse}
-use Rattle.blocks.specs.Run.{firstProgress, readsOnAt, Blocks, Stops, shut, inputEnded}
+use Rattle.blocks.specs.Run.{firstProgress, readsOnAt, Blocks, Stops, readsNoMore, inputEnded}
 use Rattle.blocks.proofs.Short.{stay-short}
 use Rattle.blocks.proofs.Listed.{blocks-stay, first-stays}
 
@@ -33,12 +33,12 @@ begun {p} {buffer} {memory} {out₁} {z} {y} out e f b =
     (subst (λ (o : List ℕ). Blocks (held p buffer memory z o) y) f b)
 
 -- before the first block the program reads on
-pub open-first : {p : Progress} → p ≡ firstProgress → true ≡ readsOn (p .state .ended) (p .offset)
+pub reads-first : {p : Progress} → p ≡ firstProgress → true ≡ readsOn (p .state .ended) (p .offset)
 unfolding readsOn pick startState
-open-first e = subst (λ (q : Progress). true ≡ readsOn (q .state .ended) (q .offset)) (sym e) refl
+reads-first e = subst (λ (q : Progress). true ≡ readsOn (q .state .ended) (q .offset)) (sym e) refl
 
-pub stops-shut : {x : Held} {buffer : List ℕ} → readsOnAt x ≡ false → buffer ≡ x .buffer → Stops x buffer
-stops-shut {x} {buffer} e f = subst (λ (l : List ℕ). Stops x l) (sym f) (shut e)
+pub stops-reading : {x : Held} {buffer : List ℕ} → readsOnAt x ≡ false → buffer ≡ x .buffer → Stops x buffer
+stops-reading {x} {buffer} e f = subst (λ (l : List ℕ). Stops x l) (sym f) (readsNoMore e)
 
 -- where the program reads on, the script has not ended
 not-ended : (e : Bool) (offset : ℕ) → readsOn e offset ≡ true → e ≡ false

@@ -23,15 +23,15 @@ use Rattle.buffer.proofs.Fronts.{front-fed, front-left}
 use Rattle.blocks.specs.Drain.{readsOn, Held, machineOf, inUse, movesOf, Advance, Advances, Drained}
 
 -- where the program reads on, a whole buffer more stays within LIMIT
-pub open-below : (ended : Bool) (offset : ℕ) → readsOn ended offset ≡ true → offset < 4611686018427256832
+pub reads-below : (ended : Bool) (offset : ℕ) → readsOn ended offset ≡ true → offset < 4611686018427256832
 unfolding readsOn pick
-open-below true offset e =
+reads-below true offset e =
     let z : _≡_ {A = Bool} false true = e in
     let n : _≡_ {A = ℕ} 0 1 = (cc) in
     omega arith
-open-below false offset e = ltb-true _ _ e
+reads-below false offset e = ltb-true _ _ e
 
--- from the begin on, where s₀ was at hand, what is left to do is what m does with the bytes s that are in use
+-- from the beginning on, where s₀ was at hand, what is left to do is what m does with the bytes s that are in use
 pub record Stands (p₀ : Progress) (m₀ : Machine) (s₀ : List ℕ) (p : Progress) (m : Machine) (s : List ℕ) : Type 0 where
   pub after : allOf (p₀ .offset) m₀ s₀ .after ≡ allOf (p .offset) m s .after
   pub taken : p₀ .offset + allOf (p₀ .offset) m₀ s₀ .taken ≡ p .offset + allOf (p .offset) m s .taken

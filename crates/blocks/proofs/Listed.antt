@@ -1,4 +1,4 @@
--- What the script program puts out is the listing of the bytes read. Assumes nothing.
+-- The texts that the script program makes are the listing of the bytes read. Assumes nothing.
 use Prim.Native.Nat.{ℕ, _+_, _-_}
 use native.Mathlib.Omega.{arith}
 use mathlib.Core.Path.{_≡_, refl, sym, ap, _∙_}
@@ -22,7 +22,7 @@ use Rattle.buffer.specs.Buffer.{shifted, frontOf}
 use Rattle.buffer.proofs.Fronts.{front-left}
 use Rattle.blocks.specs.Drain.{Held, held, machineOf, inUse, Advance, Advances, Drained, callText, advancesText, drainText}
 use Rattle.blocks.specs.Drain.{none as no-other, more as another}
-use Rattle.blocks.specs.Run.{firstProgress, readMore, Blocks, none, more, Stops, shut, inputEnded, inputRead, blocksText, endText}
+use Rattle.blocks.specs.Run.{firstProgress, readMore, Blocks, none, more, Stops, readsNoMore, inputEnded, inputRead, blocksText, endText}
 
 -- ---- calls of `advance`
 
@@ -52,7 +52,7 @@ short x e t =
     (ap (λ (j : ℕ). run j (machineOf x) (inUse x ++ t)) n
     ∙ ap (λ (j : ℕ). run (x .at .offset + 0) (machineOf x) (take j (x .buffer) ++ t)) k)
 
--- the block that `advance` is given
+-- the block that `advance` does
 front : (x : Held) → PutsBlock x (frontOf (x .at) (length (x .out)) (x .buffer) (x .memory) (x .lent))
 unfolding frontOf
 front x =
@@ -124,7 +124,7 @@ first-stays memory z = refl
 
 -- a read that gives nothing leaves the bytes in use as they were
 stops-in-use : {x : Held} {buffer : List ℕ} → Stops x buffer → take (x .at .used) buffer ≡ inUse x
-stops-in-use (shut e) = refl
+stops-in-use (readsNoMore e) = refl
 stops-in-use (inputEnded e k r) = r .front
 
 -- the header, the text of the blocks and the end are the listing of the bytes read

@@ -1,5 +1,5 @@
--- When the program reads on, what the function says that reads, and the one that feeds the bytes in the buffer until no move is left; the text that this
--- puts out.
+-- When the program reads on, what the function says that reads, and the one that feeds the bytes in the buffer until no move is left; the texts that this
+-- makes.
 -- 01 "Script program": standard input is read to its end, or until the script ends with `stop N` or a refused create.
 use Prim.Native.Nat.{ℕ, _+_, _-_, _≤_}
 use mathlib.Core.Path.{_≡_}
@@ -16,7 +16,8 @@ use Rattle.feed.specs.Turn.{LIMIT}
 use Rattle.feed.specs.Feed.{Block, allOf}
 use Rattle.buffer.specs.Buffer.{frontOf, Advanced}
 
--- 01 "Script program": whether the program reads on. Not once the script has ended, nor where one more buffer might take the bytes to LIMIT or above
+-- whether the program reads on. Not once the script has ended (01 "Script program"), nor where one more buffer might take the bytes to LIMIT or above, of
+-- which 01 says nothing
 unfoldable pub readsOn : (ended : Bool) → (offset : ℕ) → Bool
 readsOn ended offset = pick ended false (ltb offset (LIMIT - 131072))
 
@@ -87,7 +88,7 @@ pub record Drained (x y : Held) : Type 0 where
   pub within : y .at .used ≤ x .at .used
   pub count : y .at .state .number ≤ y .at .offset
 
--- ---- the text that the program puts out
+-- ---- the texts that the program makes, each at the front of the output
 
 -- 01 "Script program", line and `stop N`: the text of the call of `advance` that left y, at the front of the output
 abbrev pub callText : Held → List ℕ

@@ -43,7 +43,7 @@ pub data Blocks (x : Held) : Held → Type 0 where
 
 -- why no block follows, and what the buffer is then: the program does not read on, or no byte came where one had room, as a read may leave the buffer
 pub data Stops (x : Held) : (buffer : List ℕ) → Type 0 where
-  shut : readsOnAt x ≡ false → Stops x (x .buffer)
+  readsNoMore : readsOnAt x ≡ false → Stops x (x .buffer)
   inputEnded : {buffer : List ℕ} → readsOnAt x ≡ true → x .at .used < length (x .buffer) → ReadIn (x .at .used) 0 (x .buffer) buffer → Stops x buffer
 
 -- 01 "Script program", standard input: the bytes read, of each block those that stand behind the bytes in use in the buffer after its read
@@ -51,17 +51,17 @@ unfoldable pub inputRead : {x y : Held} → Blocks x y → List ℕ
 inputRead none = []
 inputRead (more {y} {z} {buffer} {got} f g r n d) = inputRead f ++ take got (drop (y .at .used) buffer)
 
--- the text that draining the blocks puts out
+-- the texts that draining the blocks makes
 unfoldable pub blocksText : {x y : Held} → Blocks x y → List ℕ
 blocksText none = []
 blocksText (more {y} {z} {buffer} {got} f g r n d) = blocksText f ++ drainText d
 
--- 01 "Script program", `stop N`: the text put out at the end of the input, where the buffer is this
+-- 01 "Script program", `stop N`: the text at the end of the input, where the buffer is this
 abbrev pub endText : Held → (buffer : List ℕ) → List ℕ
 endText x buffer = closing (x .at .offset) (x .at .state .ended) (take (x .at .used) buffer)
 
--- the header is put out, then blocks come and are fed, then the end of the input is put out. This settles memory, rings, tables and the bytes in use by the
--- bytes read, and the output by the blocks in which they were read; behind the bytes in use the buffer is as the reads and the moves to the front left it.
+-- the header is made, then blocks come and are fed, then the text at the end of the input is made. This settles memory, rings, tables, the bytes in use and
+-- the output block by block; behind the bytes in use the buffer is as the reads and the moves to the front left it.
 -- listed: the header, the texts that the calls of `advance` leave at the front of the output, and the end, one behind the other, are the listing of the
 -- bytes read. That each was written, once and in this order, stands in the code alone, and which bytes a read gives, or that one was made, cannot be said:
 -- the contracts of the operating system's `read` and `write` say nothing of it

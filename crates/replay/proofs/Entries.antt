@@ -2,23 +2,23 @@
 use Prim.Native.Nat.{ℕ, _+_, _≤_, _<_}
 use mathlib.Core.Bool.{Bool, true, false}
 use native.Mathlib.Omega.{arith}
-use mathlib.Core.Path.{_≡_, refl, sym, subst, _∙_}
+use mathlib.Core.Path.{_≡_, refl, sym, ap, subst, _∙_}
 use borrow.Author.Tests.{ltb-true, ltb-false}
 use lib.Dec.{ltb, eqb}
 use Rattle.status.specs.Choice.{pick}
 use mathlib.Core.List.{List, _++_}
-use lib.ListN.{length, take, length-take, length-drop}
+use lib.ListN.{length, take, getD, length-take, length-drop}
 use Rattle.text.specs.Put.{Put, Written}
 use Rattle.feed.specs.Machine.{start}
 use Rattle.script.specs.Listing.{header, run, listing}
-use Rattle.tally.specs.declared.Outcome.{Outcome}
-use Rattle.tally.specs.declared.Outcome.the-variants.{Agrees, DiffersAt, NoRoom}
+use Rattle.tally.specs.declared.Comparison.{Comparison}
+use Rattle.tally.specs.declared.Comparison.the-variants.{Agrees, DiffersAt, NoRoom}
 use Rattle.tally.specs.declared.Tally.{Tally}
 use Rattle.tally.specs.Count.{missed, countedOf}
 use Rattle.tally.proofs.Counts.{counted-again, counted-first}
 use Rattle.report.specs.Report.{REPORT, reportText}
 use Rattle.replay.specs.declared.entry.Replayed.{Replayed}
-use Rattle.replay.specs.Entry.{fieldEnd, entryEnd, bytesOf, FirstDifference, Compares, EntryIn, Agreement}
+use Rattle.replay.specs.Entry.{fieldEnd, entryEnd, bytesOf, FirstDifference, Compares, EntryIn, roomFor, Agreement}
 use Rattle.replay.specs.Replay.{firstName, noTally, Tallied, begun, next, AllAgree, FirstMissed, AgreeTo, ReplayMay, Replays}
 
 -- what is cut in the second field, or in the third, is a cut entry
@@ -36,27 +36,68 @@ listing-is s = refl
 
 -- the text compared is the script's listing
 pub agreement :
-    (room : ℕ) (s : List ℕ) (at scriptEnd end : ℕ) (text : List ℕ) (o : Outcome) → text ≡ listing (bytesOf s at scriptEnd) → Compares text (bytesOf s scriptEnd end) o
-    → Agreement room s at scriptEnd end o
-agreement room s at scriptEnd end text Agrees e h = sym e ∙ h
-agreement room s at scriptEnd end text (DiffersAt i) e h = subst (λ (x : List ℕ). FirstDifference x (bytesOf s scriptEnd end) i) e h
-agreement room s at scriptEnd end text NoRoom e h = absurd h
+    (room : ℕ) (s : List ℕ) (at scriptEnd end : ℕ) (text : List ℕ) (o : Comparison) → roomFor room s at scriptEnd ≤ room → text ≡ listing (bytesOf s at scriptEnd)
+    → Compares text (bytesOf s scriptEnd end) o → Agreement room s at scriptEnd end o
+agreement room s at scriptEnd end text Agrees k e h = (sym e ∙ h, k)
+agreement room s at scriptEnd end text (DiffersAt i) k e h = (subst (λ (x : List ℕ). FirstDifference x (bytesOf s scriptEnd end) i) e h, k)
+agreement room s at scriptEnd end text NoRoom k e h = absurd h
+
+-- ---- just one comparison is so of an entry
+
+earlier : (a b : List ℕ) (i j : ℕ) → FirstDifference a b i → FirstDifference a b j → i < j → ⊥
+earlier a b i j f g h = f .differs (omega (arith, h, g .inOne)) (omega (arith, h, g .inOther)) (g .before i h)
+
+-- two lists have one place where they first differ
+same-place : (a b : List ℕ) (i j : ℕ) → FirstDifference a b i → FirstDifference a b j → i ≡ j
+same-place a b i j f g = by (ltb i j) (ltb j i) refl refl
+  where
+    by : (c d : Bool) → ltb i j ≡ c → ltb j i ≡ d → i ≡ j
+    by true d e k = absurd (earlier a b i j f g (ltb-true i j e))
+    by false true e k = absurd (earlier a b j i g f (ltb-true j i k))
+    by false false e k = omega (arith, ltb-false i j e, ltb-false j i k)
+
+-- and none where they are equal
+no-place : (a b : List ℕ) (i : ℕ) → a ≡ b → FirstDifference a b i → ⊥
+no-place a b i e f = by (ltb i (length a)) refl
+  where
+    same : length a ≡ length b
+    same = ap length e
+
+    by : (c : Bool) → ltb i (length a) ≡ c → ⊥
+    by true k =
+        let h = ltb-true i (length a) k in
+        f .differs h (omega (arith, h, same)) (ap (λ (x : List ℕ). getD x i 0) e)
+    by false k =
+        let h = ltb-false i (length a) k in
+        f .oneGoesOn (omega (arith, h, f .inOne)) (omega (arith, h, f .inOne, same))
+
+pub one-comparison : (room : ℕ) (s : List ℕ) (at scriptEnd end : ℕ) (o o′ : Comparison) → Agreement room s at scriptEnd end o
+    → Agreement room s at scriptEnd end o′ → o ≡ o′
+one-comparison room s at scriptEnd end Agrees Agrees h k = refl
+one-comparison room s at scriptEnd end Agrees (DiffersAt j) h k = absurd (no-place _ _ j (h .0) (k .0))
+one-comparison room s at scriptEnd end Agrees NoRoom h k = absurd (let z : ⊥ = omega (arith, h .1, k) in z)
+one-comparison room s at scriptEnd end (DiffersAt i) Agrees h k = absurd (no-place _ _ i (k .0) (h .0))
+one-comparison room s at scriptEnd end (DiffersAt i) (DiffersAt j) h k = ap DiffersAt (same-place _ _ i j (h .0) (k .0))
+one-comparison room s at scriptEnd end (DiffersAt i) NoRoom h k = absurd (let z : ⊥ = omega (arith, h .1, k) in z)
+one-comparison room s at scriptEnd end NoRoom Agrees h k = absurd (let z : ⊥ = omega (arith, k .1, h) in z)
+one-comparison room s at scriptEnd end NoRoom (DiffersAt j) h k = absurd (let z : ⊥ = omega (arith, k .1, h) in z)
+one-comparison room s at scriptEnd end NoRoom NoRoom h k = refl
 
 -- ---- what the loop needs of a tally
 
-pub counted-total : (t : Tally) (from to : ℕ) (o : Outcome) → countedOf t from to o .total ≡ t .total + 1
+pub counted-total : (t : Tally) (from to : ℕ) (o : Comparison) → countedOf t from to o .total ≡ t .total + 1
 unfolding countedOf missed
 counted-total t from to Agrees = refl
 counted-total t from to (DiffersAt i) = refl
 counted-total t from to NoRoom = refl
 
-pub counted-most : (t : Tally) (from to : ℕ) (o : Outcome) → t .agree ≤ t .total → countedOf t from to o .agree ≤ countedOf t from to o .total
+pub counted-most : (t : Tally) (from to : ℕ) (o : Comparison) → t .agree ≤ t .total → countedOf t from to o .agree ≤ countedOf t from to o .total
 unfolding countedOf missed
 counted-most t from to Agrees h = omega arith
 counted-most t from to (DiffersAt i) h = omega arith
 counted-most t from to NoRoom h = omega arith
 
-pub counted-all : (t : Tally) (from to : ℕ) (o : Outcome) → t .agree ≤ t .total → countedOf t from to o .agree ≡ countedOf t from to o .total → (t .agree ≡ t .total) × (o ≡ Agrees)
+pub counted-all : (t : Tally) (from to : ℕ) (o : Comparison) → t .agree ≤ t .total → countedOf t from to o .agree ≡ countedOf t from to o .total → (t .agree ≡ t .total) × (o ≡ Agrees)
 unfolding countedOf missed
 counted-all t from to Agrees h e = (omega arith, refl)
 counted-all t from to (DiffersAt i) h e = absurd (let z : ⊥ = omega arith in z)
@@ -71,7 +112,7 @@ unfolding pick
 pick-within from′ to′ n true h g = h
 pick-within from′ to′ n false h g = g
 
-counted-within : (t : Tally) (from to n : ℕ) (o : Outcome) → (t .from ≤ t .to) × (t .to ≤ n) → (from ≤ to) × (to ≤ n)
+counted-within : (t : Tally) (from to n : ℕ) (o : Comparison) → (t .from ≤ t .to) × (t .to ≤ n) → (from ≤ to) × (to ≤ n)
     → (countedOf t from to o .from ≤ countedOf t from to o .to) × (countedOf t from to o .to ≤ n)
 unfolding countedOf missed
 counted-within t from to n Agrees h g = h
@@ -92,7 +133,7 @@ abbrev Holds-none : Tally → Type 0
 Holds-none t = (t .first ≡ Agrees) × (t .from ≡ t .to)
 
 -- where as many agree as were run, it holds none
-none-counted : (t : Tally) (from to : ℕ) (o : Outcome) → t .agree ≤ t .total → (t .agree ≡ t .total → Holds-none t)
+none-counted : (t : Tally) (from to : ℕ) (o : Comparison) → t .agree ≤ t .total → (t .agree ≡ t .total → Holds-none t)
     → countedOf t from to o .agree ≡ countedOf t from to o .total → Holds-none (countedOf t from to o)
 unfolding countedOf missed
 none-counted t from to Agrees h k e = k (omega (arith, e))
@@ -121,7 +162,7 @@ kept t total agree m =
       before = m .before;
       entry = m .entry;
       name = m .name;
-      outcome = m .outcome;
+      comparison = m .comparison;
       misses = m .misses;
     }
 
@@ -129,7 +170,7 @@ module _ {room at nameEnd scriptEnd end : ℕ} {s : List ℕ} (t : Tally) (most 
     (all : t .agree ≡ t .total → AllAgree s (t .total) at) (first : t .agree < t .total → FirstMissed room s t)
     (entry : EntryIn s at nameEnd scriptEnd end) where
   -- an entry that does not agree is counted: it is the first, or there was one before it
-  first-missed : (o : Outcome) → Agreement room s nameEnd scriptEnd end o → (o ≡ Agrees → ⊥) → (b : Bool) → ltb (t .agree) (t .total) ≡ b
+  first-missed : (o : Comparison) → Agreement room s nameEnd scriptEnd end o → (o ≡ Agrees → ⊥) → (b : Bool) → ltb (t .agree) (t .total) ≡ b
       → FirstMissed room s (countedOf t (at + 4) nameEnd o)
   unfolding firstName
   first-missed o a h true e =
@@ -138,10 +179,10 @@ module _ {room at nameEnd scriptEnd end : ℕ} {s : List ℕ} (t : Tally) (most 
   first-missed o a h false e =
       let g = ltb-false (t .agree) (t .total) e in
       let m : FirstMissed room s (record { total = t .total + 1; agree = t .agree; number = t .total; from = at + 4; to = nameEnd; first = o }) =
-      record { at = at; scriptEnd = scriptEnd; end = end; before = all (omega arith); entry = entry; name = refl; outcome = a; misses = h } in
+      record { at = at; scriptEnd = scriptEnd; end = end; before = all (omega arith); entry = entry; name = refl; comparison = a; misses = h } in
       subst (λ (x : Tally). FirstMissed room s x) (counted-first t (at + 4) nameEnd o h g) m
 
-  pub first-counted : (o : Outcome) → Agreement room s nameEnd scriptEnd end o
+  pub first-counted : (o : Comparison) → Agreement room s nameEnd scriptEnd end o
       → countedOf t (at + 4) nameEnd o .agree < countedOf t (at + 4) nameEnd o .total → FirstMissed room s (countedOf t (at + 4) nameEnd o)
   unfolding countedOf
   first-counted Agrees a h = kept t (t .total + 1) (t .agree + 1) (first (omega arith))

@@ -1,5 +1,5 @@
--- The stored entries: where they lie in the input, and whether a stored listing agrees with that of its script. Of 01 it uses
--- the listing of "Script program" alone.
+-- The stored entries: where they lie in the input, and whether a stored listing agrees with that of its script. Of 01 it uses the listing of "Script
+-- program" alone.
 use Prim.Native.Nat.{ℕ, _+_, _-_, _≤_, _<_}
 use mathlib.Core.Path.{_≡_}
 use mathlib.Core.List.{List}
@@ -10,8 +10,8 @@ use Rattle.line.specs.Line.{LINE}
 use Rattle.feed.specs.Machine.{start}
 use Rattle.script.specs.Listing.{listing}
 use Rattle.listing.specs.Ran.{ranText}
-use Rattle.tally.specs.declared.Outcome.{Outcome}
-use Rattle.tally.specs.declared.Outcome.the-variants.{Agrees, DiffersAt, NoRoom}
+use Rattle.tally.specs.declared.Comparison.{Comparison}
+use Rattle.tally.specs.declared.Comparison.the-variants.{Agrees, DiffersAt, NoRoom}
 use Rattle.replay.specs.declared.entry.Field.{Field}
 use Rattle.replay.specs.declared.entry.Field.the-variants as Field
 use Rattle.replay.specs.declared.entry.Found.{Found}
@@ -58,8 +58,8 @@ pub record FirstDifference (a b : List ℕ) (i : ℕ) : Type 0 where
   pub differs : i < length a → i < length b → getD a i 0 ≡ getD b i 0 → ⊥
   pub oneGoesOn : i ≡ length a → i ≡ length b → ⊥
 
--- what an outcome says of two lists
-abbrev pub Compares : (a b : List ℕ) → Outcome → Type 0
+-- what a comparison says of two lists
+abbrev pub Compares : (a b : List ℕ) → Comparison → Type 0
 Compares a b Agrees = a ≡ b
 Compares a b (DiffersAt i) = FirstDifference a b i
 Compares a b NoRoom = ⊥
@@ -68,13 +68,19 @@ Compares a b NoRoom = ⊥
 abbrev pub Agreed : List ℕ → (at scriptEnd end : ℕ) → Type 0
 Agreed s at scriptEnd end = listing (bytesOf s at scriptEnd) ≡ bytesOf s scriptEnd end
 
--- what an outcome says: that the stored listing is right, or where it first differs, or that another line might not have fit into so much room
-abbrev pub Agreement : (room : ℕ) → List ℕ → (at scriptEnd end : ℕ) → Outcome → Type 0
-Agreement room s at scriptEnd end Agrees = Agreed s at scriptEnd end
-Agreement room s at scriptEnd end (DiffersAt i) = FirstDifference (listing (bytesOf s at scriptEnd)) (bytesOf s scriptEnd end) i
-Agreement room s at scriptEnd end NoRoom = room < length (ranText room start (bytesOf s at scriptEnd)) + LINE
+-- how many bytes the text of a script takes that begins at a place, with room for one more line behind it
+abbrev pub roomFor : (room : ℕ) → List ℕ → (at scriptEnd : ℕ) → ℕ
+roomFor room s at scriptEnd = length (ranText room start (bytesOf s at scriptEnd)) + LINE
 
--- a script is run: its outcome, and its text at the front of the buffer
-pub record EntryRun (s : List ℕ) (at scriptEnd end : ℕ) (out out′ : List ℕ) (r : Outcome) : Type 0 where
-  pub outcome : Agreement (length out) s at scriptEnd end r
+-- what a comparison says: that the stored listing is right, or where it first differs, or that another line might not have fit into so much room. Just
+-- one comparison is so of an entry (`one-comparison` in proofs/)
+abbrev pub Agreement : (room : ℕ) → List ℕ → (at scriptEnd end : ℕ) → Comparison → Type 0
+Agreement room s at scriptEnd end Agrees = Agreed s at scriptEnd end × (roomFor room s at scriptEnd ≤ room)
+Agreement room s at scriptEnd end (DiffersAt i) =
+    FirstDifference (listing (bytesOf s at scriptEnd)) (bytesOf s scriptEnd end) i × (roomFor room s at scriptEnd ≤ room)
+Agreement room s at scriptEnd end NoRoom = room < roomFor room s at scriptEnd
+
+-- a script is run: its comparison, and its text at the front of the buffer
+pub record EntryRun (s : List ℕ) (at scriptEnd end : ℕ) (out out′ : List ℕ) (r : Comparison) : Type 0 where
+  pub comparison : Agreement (length out) s at scriptEnd end r
   pub text : out′ ≡ place 0 (ranText (length out) start (bytesOf s at scriptEnd)) out

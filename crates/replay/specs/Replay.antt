@@ -5,8 +5,8 @@ use mathlib.Core.List.{List}
 use lib.ListN.{length, take, drop}
 use lib.Dec.{ltb, eqb}
 use Rattle.text.specs.Put.{place}
-use Rattle.tally.specs.declared.Outcome.{Outcome}
-use Rattle.tally.specs.declared.Outcome.the-variants.{Agrees}
+use Rattle.tally.specs.declared.Comparison.{Comparison}
+use Rattle.tally.specs.declared.Comparison.the-variants.{Agrees}
 use Rattle.tally.specs.declared.Tally.{Tally}
 use Rattle.tally.specs.Count.{countedOf}
 use Rattle.report.specs.Report.{REPORT, reportText}
@@ -25,7 +25,7 @@ noTally = record { total = 0; agree = 0; number = 0; from = 0; to = 0; first = A
 pub data Tallied (s out₀ : List ℕ) : ℕ → Tally → List ℕ → Type 0 where
   begun : Tallied s out₀ 0 noTally out₀
   next :
-      {at nameEnd scriptEnd end : ℕ} {out out′ : List ℕ} (t : Tally) (o : Outcome) → Tallied s out₀ at t out → EntryIn s at nameEnd scriptEnd end
+      {at nameEnd scriptEnd end : ℕ} {out out′ : List ℕ} (t : Tally) (o : Comparison) → Tallied s out₀ at t out → EntryIn s at nameEnd scriptEnd end
       → EntryRun s nameEnd scriptEnd end out out′ o → Tallied s out₀ end (countedOf t (at + 4) nameEnd o) out′
 
 -- so many entries lie before a place, and every one of them agrees
@@ -35,8 +35,8 @@ pub data AllAgree (s : List ℕ) : (number at : ℕ) → Type 0 where
       {number at nameEnd scriptEnd end : ℕ} → AllAgree s number at → EntryIn s at nameEnd scriptEnd end → Agreed s nameEnd scriptEnd end
       → AllAgree s (number + 1) end
 
--- the tally holds an entry whose outcome is not `Agrees`: as many as its number says lie before it, and agree, its name lies between the two places of the
--- tally, and its outcome says where it differs, or that another line might not have had room
+-- the tally holds an entry whose comparison is not `Agrees`: as many as its number says lie before it, and agree, its name lies between the two places of the
+-- tally, and its comparison says where it differs, or that another line might not have had room
 pub record FirstMissed (room : ℕ) (s : List ℕ) (t : Tally) : Type 0 where
   pub at : ℕ
   pub scriptEnd : ℕ
@@ -44,7 +44,7 @@ pub record FirstMissed (room : ℕ) (s : List ℕ) (t : Tally) : Type 0 where
   pub before : AllAgree s (t .number) at
   pub entry : EntryIn s at (t .to) scriptEnd end
   pub name : firstName s t ≡ bytesOf s at (t .to)
-  pub outcome : Agreement room s (t .to) scriptEnd end (t .first)
+  pub comparison : Agreement room s (t .to) scriptEnd end (t .first)
   pub misses : t .first ≡ Agrees → ⊥
 
 -- the entries that were run end at a place, and are counted; no more agree than were run. If as many do, all agree and the tally holds no entry

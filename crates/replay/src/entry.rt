@@ -1,6 +1,6 @@
 // The stored entries, each a name, a script and its listing: where they lie in the input, whether they agree, how many do, and where the name of
 // the first lies that does not.
-use tally::Outcome;
+use tally::Comparison;
 use tally::Tally;
 ghost use Prim.Native.Nat.{_+_, _≤_, _<_};
 ghost use mathlib.Core.Path.{_≡_};
@@ -75,41 +75,47 @@ fn entry_at(s: &[u8], at: usize) -> Found
     Found::Whole(name_end, script_end, end)
 }
 
-fn compare(a: &[u8], b: &[u8]) -> Outcome
+fn compare(a: &[u8], b: &[u8]) -> Comparison
     ensures { λ r. ⌜ Compares (now (a .entry)) (now (b .entry)) r ⌝ }
 {
     let mut i = 0;
     while i < a.len() {
         if i == b.len() {
-            return Outcome::DiffersAt(i);
+            return Comparison::DiffersAt(i);
         }
         if a[i] != b[i] {
-            return Outcome::DiffersAt(i);
+            return Comparison::DiffersAt(i);
         }
         i += 1;
     }
     if i == b.len() {
-        return Outcome::Agrees;
+        return Comparison::Agrees;
     }
-    Outcome::DiffersAt(i)
+    Comparison::DiffersAt(i)
 }
 
 // Runs an entry's script, which stands behind the name, and compares. A listing has no room where another line might not have fit behind it.
-fn replay_entry(s: &[u8], name_end: usize, script_end: usize, end: usize, out: &mut [u8]) -> Outcome
+fn replay_entry(
+    s: &[u8],
+    name_end: usize,
+    script_end: usize,
+    end: usize,
+    out: &mut [u8],
+) -> Comparison
     requires { ⌜ ScriptIn (now s) «name_end» «script_end» end ⌝ }
     ensures { λ r. ⌜ EntryRun (now (s .entry)) «name_end» «script_end» end (now (out .entry)) (now (out .exit)) r ⌝ }
 {
     let from = name_end + 4;
     let n = listing::run_script(&s[from..script_end], out);
     if out.len() - n < 8254 {
-        return Outcome::NoRoom;
+        return Comparison::NoRoom;
     }
     let listing = script_end + 4;
     compare(&out[0..n], &s[listing..end])
 }
 
 // Runs the entries from the start of the input, until its end or an entry that is cut.
-pub fn replay(s: &[u8], out: &mut [u8]) -> Replayed
+pub fn replay_all(s: &[u8], out: &mut [u8]) -> Replayed
     ensures { λ r. ⌜ AgreeTo (now (s .entry)) (now (out .entry)) (now (out .exit)) r ⌝ }
 {
     let mut t = Tally {
@@ -118,7 +124,7 @@ pub fn replay(s: &[u8], out: &mut [u8]) -> Replayed
         number: 0,
         from: 0,
         to: 0,
-        first: Outcome::Agrees,
+        first: Comparison::Agrees,
     };
     let mut at = 0;
     while at < s.len() {

@@ -47,7 +47,7 @@ fn replay(input: &[u8], used: usize, out: &mut [u8])
     ensures { λ _. ⌜ Replays (now (input .entry)) used (now (out .entry)) (now (out .exit)) ⌝ }
 {
     let s = &input[0..used];
-    let r = entry::replay(s, out);
+    let r = entry::replay_all(s, out);
     let t = r.tally;
     let n = report::report(out, t, first_name(s, t), r.at < used, used == input.len());
     put(out, n);

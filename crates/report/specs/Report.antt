@@ -4,8 +4,8 @@ use Prim.Native.Nat.{ℕ}
 use mathlib.Core.Bool.{Bool}
 use mathlib.Core.List.{List, [], _∷_, _++_}
 use Rattle.status.specs.Choice.{pick}
-use Rattle.tally.specs.declared.Outcome.{Outcome}
-use Rattle.tally.specs.declared.Outcome.the-variants.{Agrees, DiffersAt, NoRoom}
+use Rattle.tally.specs.declared.Comparison.{Comparison}
+use Rattle.tally.specs.declared.Comparison.the-variants.{Agrees, DiffersAt, NoRoom}
 use Rattle.tally.specs.declared.Tally.{Tally}
 use Rattle.text.specs.Digits.{decimalOf}
 
@@ -22,13 +22,13 @@ numberedText before n after = before ++ (decimalOf n ++ after)
 unfoldable pub entryText : (number : ℕ) → (name : List ℕ) → List ℕ
 entryText number name = numberedText (108 ∷ 105 ∷ 115 ∷ 116 ∷ 105 ∷ 110 ∷ 103 ∷ 32 ∷ []) number (32 ∷ 40 ∷ []) ++ (name ++ (41 ∷ []))
 
--- the first entry that does not agree: ` differs at byte `, the byte's place in the listing; or ` has no room`. Where all agree there is no line
-unfoldable pub firstText : Outcome → (number : ℕ) → (name : List ℕ) → List ℕ
+-- the first entry that does not agree: ` differs at byte `, the byte's place in the listing; or ` may have no room`. Where all agree there is no line
+unfoldable pub firstText : Comparison → (number : ℕ) → (name : List ℕ) → List ℕ
 firstText Agrees number name = []
 firstText (DiffersAt i) number name =
     entryText number name
     ++ numberedText (32 ∷ 100 ∷ 105 ∷ 102 ∷ 102 ∷ 101 ∷ 114 ∷ 115 ∷ 32 ∷ 97 ∷ 116 ∷ 32 ∷ 98 ∷ 121 ∷ 116 ∷ 101 ∷ 32 ∷ []) i (10 ∷ [])
-firstText NoRoom number name = entryText number name ++ (32 ∷ 104 ∷ 97 ∷ 115 ∷ 32 ∷ 110 ∷ 111 ∷ 32 ∷ 114 ∷ 111 ∷ 111 ∷ 109 ∷ 10 ∷ [])
+firstText NoRoom number name = entryText number name ++ (32 ∷ 109 ∷ 97 ∷ 121 ∷ 32 ∷ 104 ∷ 97 ∷ 118 ∷ 101 ∷ 32 ∷ 110 ∷ 111 ∷ 32 ∷ 114 ∷ 111 ∷ 111 ∷ 109 ∷ 10 ∷ [])
 
 -- `entry `, its number, ` is cut`; no line where no entry is cut
 unfoldable pub cutText : (cut : Bool) → (number : ℕ) → List ℕ

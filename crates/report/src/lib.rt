@@ -1,5 +1,5 @@
 // What the program `replay` prints of its tally, put as text into a lent slice.
-use tally::Outcome;
+use tally::Comparison;
 use tally::Tally;
 ghost use Prim.Native.Nat.{_+_};
 ghost use lib.ListN.{length};
@@ -25,18 +25,18 @@ fn entry(out: &mut [u8], at: usize, number: u64, name: &[u8]) -> usize
 }
 
 // The first entry that does not agree, if there is one.
-fn first(out: &mut [u8], at: usize, o: Outcome, number: u64, name: &[u8]) -> usize
+fn first(out: &mut [u8], at: usize, o: Comparison, number: u64, name: &[u8]) -> usize
     ensures { λ r. ⌜ Fit (length (now (name .entry)) + 69) at (firstText o number (now (name .entry))) r (now (out .entry)) (now (out .exit)) ⌝ }
 {
     match o {
-        Outcome::Agrees => at,
-        Outcome::DiffersAt(i) => {
+        Comparison::Agrees => at,
+        Comparison::DiffersAt(i) => {
             let a = entry(out, at, number, name);
             numbered(out, a, b" differs at byte ", i as u64, b"\n")
         }
-        Outcome::NoRoom => {
+        Comparison::NoRoom => {
             let a = entry(out, at, number, name);
-            text::copy(out, a, b" has no room\n")
+            text::copy(out, a, b" may have no room\n")
         }
     }
 }
@@ -68,8 +68,8 @@ fn counts(out: &mut [u8], at: usize, agree: u64, total: u64) -> usize
     numbered(out, a, b" of ", total, b" listings agree\n")
 }
 
-// The whole report, put at the front of the slice; the answer is its length. It asks for the room of the name and of 190 bytes more, the longest; with
-// less it puts nothing and gives 0.
+// The whole report, put at the front of the slice; the answer is its length. It asks for the room of the name and of 190 bytes, the most that the rest
+// takes; with less it puts nothing and gives 0.
 pub fn report(out: &mut [u8], t: Tally, name: &[u8], cut: bool, full: bool) -> usize
     ensures { λ r. ⌜ Written (length (now (name .entry)) + REPORT) 0 (reportText t (now (name .entry)) cut full) r (now (out .entry)) (now (out .exit)) ⌝ }
 {

@@ -95,7 +95,7 @@ fn begin(out: &mut [u8])
 }
 
 // The end of the input.
-fn close(p: Progress, buffer: &[u8], out: &mut [u8])
+fn finish(p: Progress, buffer: &[u8], out: &mut [u8])
     requires { ⌜ (p .used ≤ length (now buffer)) × (26 ≤ length (now out)) ⌝ }
     ensures { λ _. ⌜ now (out .exit) ≡ place 0 (closing (p .offset) (p .state .ended) (take (p .used) (now (buffer .entry)))) (now (out .entry)) ⌝ }
 {
@@ -119,9 +119,9 @@ fn run(
     ensures { λ _. ⌜ RunDone (now (memory .entry)) (rings (now («ring_one» .entry)) (now («table_one» .entry)) (now («ring_two» .entry)) (now («table_two» .entry))) (now (buffer .entry)) (now (out .entry)) (now (memory .exit)) (rings (now («ring_one» .exit)) (now («table_one» .exit)) (now («ring_two» .exit)) (now («table_two» .exit))) (now (buffer .exit)) (now (out .exit)) ⌝ }
 {
     let mut p = buffer::first();
-    let mut open = true;
+    let mut reading = true;
     begin(out);
-    while open {
+    while reading {
         let used = p.used;
         let got = read_in(buffer, used);
         if got == 0 {
@@ -139,10 +139,10 @@ fn run(
             out,
         );
         if !blocks::reads_on(p.state.ended, p.offset) {
-            open = false;
+            reading = false;
         }
     }
-    close(p, buffer, out);
+    finish(p, buffer, out);
 }
 
 // The contracts of the two give only the length, which lending the array needs.

@@ -3,16 +3,16 @@ use Prim.Native.Nat.{ℕ, _+_}
 use mathlib.Core.Bool.{Bool}
 use lib.Dec.{ltb, leb}
 use Rattle.status.specs.Choice.{pick, _or_}
-use Rattle.tally.specs.declared.Outcome.{Outcome}
-use Rattle.tally.specs.declared.Outcome.the-variants.{Agrees, DiffersAt, NoRoom}
+use Rattle.tally.specs.declared.Comparison.{Comparison}
+use Rattle.tally.specs.declared.Comparison.the-variants.{Agrees, DiffersAt, NoRoom}
 use Rattle.tally.specs.declared.Tally.{Tally}
 
--- a tally that could overflow is full, and is left as it is; no input is so long
+-- a tally with a count of 2^63 or above is full, and is left as it is; no input is so long
 unfoldable pub isFull : Tally → Bool
 isFull t = leb 9223372036854775808 (t .total) or leb 9223372036854775808 (t .agree)
 
 -- an entry is counted that does not agree, and whose name begins and ends at two places: it is the first such if all before it agree
-unfoldable pub missed : Tally → (from to : ℕ) → Outcome → Tally
+unfoldable pub missed : Tally → (from to : ℕ) → Comparison → Tally
 missed t from to o =
     record {
       total = t .total + 1;
@@ -24,7 +24,7 @@ missed t from to o =
     }
 
 -- one entry more is counted
-unfoldable pub countedOf : Tally → (from to : ℕ) → Outcome → Tally
+unfoldable pub countedOf : Tally → (from to : ℕ) → Comparison → Tally
 countedOf t from to Agrees =
     record { total = t .total + 1; agree = t .agree + 1; number = t .number; from = t .from; to = t .to; first = t .first }
 countedOf t from to (DiffersAt i) = missed t from to (DiffersAt i)

@@ -5,25 +5,25 @@ ghost use Rattle.status.specs.Choice.{pick};
 ghost use Rattle.tally.specs.Count.{isFull, missed, countedOf};
 
 // What came of an entry: its listing agrees, or first differs at a byte, or another line might not have fit behind it.
-pub enum Outcome {
+pub enum Comparison {
     Agrees,
     DiffersAt(usize),
     NoRoom,
 }
 
 // How many entries were run, how many agree, and the first that does not: its number from 0, where its name begins and ends in the input, and its
-// outcome.
+// comparison.
 pub struct Tally {
     pub total: u64,
     pub agree: u64,
     pub number: u64,
     pub from: usize,
     pub to: usize,
-    pub first: Outcome,
+    pub first: Comparison,
 }
 
 // An entry is counted that does not agree, whose name begins and ends at the two places.
-fn missed(t: Tally, from: usize, to: usize, o: Outcome) -> Tally
+fn missed(t: Tally, from: usize, to: usize, o: Comparison) -> Tally
     requires { ⌜ t .total < 9223372036854775808 ⌝ }
     ensures { λ r. ⌜ r ≡ missed t from to o ⌝ }
 {
@@ -48,9 +48,8 @@ fn missed(t: Tally, from: usize, to: usize, o: Outcome) -> Tally
     }
 }
 
-// One entry more is counted, whose name begins and ends at the two places. A tally that could overflow is left as it is; no input is so
-// long.
-pub fn counted(t: Tally, from: usize, to: usize, o: Outcome) -> Tally
+// One entry more is counted, whose name begins and ends at the two places. A tally with a count of 2^63 or above is left as it is; no input is so long.
+pub fn counted(t: Tally, from: usize, to: usize, o: Comparison) -> Tally
     ensures { λ r. ⌜ r ≡ pick (isFull t) t (countedOf t from to o) ⌝ }
 {
     if t.total >= 9223372036854775808 {
@@ -60,7 +59,7 @@ pub fn counted(t: Tally, from: usize, to: usize, o: Outcome) -> Tally
         return t;
     }
     match o {
-        Outcome::Agrees => {
+        Comparison::Agrees => {
             let first = t.first;
             Tally {
                 total: t.total + 1,
@@ -71,6 +70,6 @@ pub fn counted(t: Tally, from: usize, to: usize, o: Outcome) -> Tally
                 first,
             }
         }
-        Outcome::DiffersAt(_) | Outcome::NoRoom => missed(t, from, to, o),
+        Comparison::DiffersAt(_) | Comparison::NoRoom => missed(t, from, to, o),
     }
 }

@@ -19,11 +19,11 @@ part-s-start c = search needs
 part-s-end : tie.Need-part-s-end
 part-s-end c = search needs
 
-replay-requires : tie.Need-replay-requires
-replay-requires c κs = search needs
+replay-all-requires : tie.Need-replay-all-requires
+replay-all-requires c κs = search needs
 
 first-name-requires : tie.Need-first-name-requires
-first-name-requires c κs = name-within (c .before .before .before .before .replay .ensures .tally)
+first-name-requires c κs = name-within (c .before .before .before .before .replay-all .ensures .tally)
 
 report-requires : tie.Need-report-requires
 report-requires c κs = search needs
@@ -31,7 +31,7 @@ report-requires c κs = search needs
 put-requires : tie.Need-put-requires
 put-requires c κs =
     let a = c .before .before .before .before .before .before .before .before .before .before .before .before .before .before .before .args in
-    let k = c .before .before .before .before .before .before .before .before .before .before .replay in
+    let k = c .before .before .before .before .before .before .before .before .before .before .replay-all in
     let w = c .before .before .before .report in
     let s = ap (λ (m : ℕ). take m (now (a .input))) (sub-zero (a .used)) in
     omega (arith, report-put (c .before .before .before .before .before .before .before .before .before .before .before .before .before .before .before .pre) s (k .ensures) (c .before .before .before .before .before .first-name .ensures) (k .kept .1 .0) (w .ensures) .fits, w .kept .0)
@@ -42,7 +42,7 @@ same-length c = search needs
 returns : tie.Need-returns
 returns c =
     let a = c .before .before .before .before .before .before .before .before .before .before .before .before .before .before .before .before .args in
-    let k = c .before .before .before .before .before .before .before .before .before .before .before .replay in
+    let k = c .before .before .before .before .before .before .before .before .before .before .before .replay-all in
     let w = c .before .before .before .before .report in
     let s = ap (λ (m : ℕ). take m (now (a .input))) (sub-zero (a .used)) in
     replays (c .before .before .before .before .before .before .before .before .before .before .before .before .before .before .before .before .pre) s (k .ensures) (c .before .before .before .before .before .before .first-name .ensures) (k .kept .1 .0) (w .ensures)
@@ -54,7 +54,7 @@ replay-spec =
     sub-s
     part-s-start
     part-s-end
-    replay-requires
+    replay-all-requires
     first-name-requires
     report-requires
     put-requires

@@ -14,8 +14,8 @@ use Rattle.buffer.specs.declared.Progress.{Progress}
 use Rattle.plain_call.specs.Rings.{rings}
 use Rattle.blocks.specs.Drain.{readsOn, ReadIn, held, Drained}
 use Rattle.blocks.specs.Run.{RunMay, Blocks, none, more, readMore}
-use Rattle.blocks.proofs.Drains.{open-below}
-use Rattle.blocks.proofs.Blocks.{first-memory, begun, open-first, stops-shut, stops-ended}
+use Rattle.blocks.proofs.Drains.{reads-below}
+use Rattle.blocks.proofs.Blocks.{first-memory, begun, reads-first, stops-reading, stops-ended}
 use Rattle.blocks.proofs.Listed.{listed}
 use Rattle.socket_script.proofs.run.Statement.{statement}
 use Rattle.socket_script.proofs.run.Tie as tie
@@ -57,7 +57,7 @@ module _ {memory₀ ring-one₀ table-one₀ ring-two₀ table-two₀ buffer₀ 
     (go : o ≡ true) (r : ReadIn (p .used) got buffer buffer₁) (n : got ≡ 0 → ⊥)
     (d : Drained (readMore got buffer₁ (held p buffer memory (rings ring-one table-one ring-two table-two) out)) (held p′ buffer′ memory′ (rings ring-one′ table-one′ ring-two′ table-two′) out′)) where
   below : p .offset < 4611686018427256832
-  below = open-below _ _ (sym (i .12) ∙ go)
+  below = reads-below _ _ (sym (i .12) ∙ go)
 
   count : p′ .offset + p′ .used ≡ p .offset + (p .used + got)
   count = d .used
@@ -100,7 +100,7 @@ loop-holds c =
     let u : f .result .used ≡ 0 = ap (λ (q : Progress). q .used) (f .ensures) in
     let o : f .result .offset ≡ 0 = ap (λ (q : Progress). q .offset) (f .ensures) in
     let n : f .result .state .number ≡ 0 = ap (λ (q : Progress). q .state .number) (f .ensures) ∙ no-record in
-    (omega (arith, u), record { starts = q .starts; least = q .least; most = q .most; room = omega (arith, q .room, g .kept .0) }, refl, refl, refl, refl, refl, refl, refl, omega (arith, u, o), omega (arith, n), none, open-first (f .ensures))
+    (omega (arith, u), record { starts = q .starts; least = q .least; most = q .most; room = omega (arith, q .room, g .kept .0) }, refl, refl, refl, refl, refl, refl, refl, omega (arith, u, o), omega (arith, n), none, reads-first (f .ensures))
 
 read-in-requires : tie.Need-read-in-requires Inv-loop μ-loop
 read-in-requires c κs =
@@ -120,7 +120,7 @@ drain-requires c κs =
     record {
       used = omega (arith, r .ensures .within, r .ensures .size);
       count = l .inv .10;
-      total = omega (arith, r .ensures .within, l .inv .1 .most, l .inv .7, open-below _ _ (sym (l .inv .12) ∙ c .before .before .before .before .before .before .before .before .before .before .before .before .loop-test .taken));
+      total = omega (arith, r .ensures .within, l .inv .1 .most, l .inv .7, reads-below _ _ (sym (l .inv .12) ∙ c .before .before .before .before .before .before .before .before .before .before .before .before .loop-test .taken));
       size = omega (arith, first-memory (l .inv .1 .starts), l .inv .2);
       room = omega (arith, l .inv .1 .room, l .inv .8);
     }
@@ -148,8 +148,8 @@ loop-again-2 c =
     (z .0) (z .1 .0) (z .1 .1 .0) (z .1 .1 .1 .0) (z .1 .1 .1 .1 .0) (z .1 .1 .1 .1 .1 .0) (z .1 .1 .1 .1 .1 .1 .0)
     _ (c .before .before .before .before .before .before .before .before .before .before .before .before .before .before .before .before .before .before .before .before .before .before .before .before .before .before .before .before .before .loop-test .taken ∙ sym (via-not-not (c .before .reads-on .ensures) (c .if2 .left)))
 
-close-requires : tie.Need-close-requires Inv-loop μ-loop
-close-requires c κs =
+finish-requires : tie.Need-finish-requires Inv-loop μ-loop
+finish-requires c κs =
     let i = c .before .before .before .loop .inv in
     ⊎-elim (λ w. (omega (arith, ap length (w .1), i .0, i .7), omega (arith, i .1 .room, i .8))) (λ w. (omega (arith, ap length (w .6), w .2 .ensures .size, i .0, i .7), omega (arith, i .1 .room, i .8)))
     (c .before .before .loop-test .came)
@@ -175,14 +175,14 @@ same-length-6 c =
     ⊎-elim (λ w. ap length (w .1) ∙ i .7) (λ w. ap length (w .6) ∙ w .2 .ensures .size ∙ i .7) (c .before .before .before .before .before .loop-test .came)
 
 same-length-7 : tie.Need-same-length-7 Inv-loop μ-loop
-same-length-7 c = c .before .before .close .kept .1 .1 .0 ∙ c .before .before .before .before .before .before .loop .inv .8 ∙ c .before .before .before .before .before .before .before .before .before .begin .kept .0
+same-length-7 c = c .before .before .finish .kept .1 .1 .0 ∙ c .before .before .before .before .before .before .loop .inv .8 ∙ c .before .before .before .before .before .before .before .before .before .begin .kept .0
 
 returns : tie.Need-returns Inv-loop μ-loop
 returns c =
     let l = c .before .before .before .before .before .before .loop in
     let b = begun (now (c .before .before .before .before .before .before .before .before .before .before .before .before .before .before .before .before .before .before .before .args .out)) (c .before .before .before .before .before .before .before .before .before .before .before .first .ensures) (c .before .before .before .before .before .before .before .before .before .begin .ensures) (l .inv .11) in
     let s =
-    ⊎-elim (λ w. stops-shut (sym (l .inv .12) ∙ w .0 .left) (w .1))
+    ⊎-elim (λ w. stops-reading (sym (l .inv .12) ∙ w .0 .left) (w .1))
     (λ w. stops-ended b (omega (arith, l .inv .0, l .inv .7)) (omega (arith, l .inv .1 .least, l .inv .7)) (sym (l .inv .12) ∙ w .0 .taken) (w .2 .ensures) (w .5 .taken) (w .6))
     (c .before .before .before .before .before .loop-test .came)
     in
@@ -192,7 +192,7 @@ returns c =
       stops = s;
       user = refl;
       lent = refl;
-      text = c .before .before .close .ensures;
+      text = c .before .before .finish .ensures;
       listed = listed b s (l .inv .1 .starts);
     }
 
@@ -213,7 +213,7 @@ run-spec =
     loop-again
     loop-less-2
     loop-again-2
-    close-requires
+    finish-requires
     same-length
     same-length-2
     same-length-3

@@ -36,7 +36,7 @@ same-length c = search needs
 returns : tie.Need-returns
 returns c =
     let r = c .before .before .before .run-script in
-    record { outcome = omega (arith, c .if1 .taken, r .ensures .next, r .ensures .fits, r .kept .1 .0); text = r .ensures .text }
+    record { comparison = omega (arith, c .if1 .taken, r .ensures .next, r .ensures .fits, r .kept .1 .0); text = r .ensures .text }
 
 add-listing : tie.Need-add-listing
 add-listing c = search needs
@@ -75,10 +75,11 @@ returns-2 c =
     let short : length (bytesOf s at (a .script-end)) ≤ LIMIT =
     omega (arith, c .before .before .before .before .before .before .before .before .before .before .before .before .pre .script, length-take (a .script-end - (at + 4)) (drop (at + 4) s), b at, b (at + 1), b (at + 2), b (at + 3)) in
     let w = agreement (length (now (a .out))) s at (a .script-end) (a .end) (take (r .result - 0) (r .last .1 .0)) (c .compare .result)
+    (omega (arith, c .before .before .before .before .if1 .left, r .ensures .next, r .ensures .fits, r .kept .1 .0))
     (ap (λ (k : ℕ). take k (r .last .1 .0)) (sub-zero (r .result)) ∙ r .ensures .whole short (omega (arith, c .before .before .before .before .if1 .left, r .ensures .fits)) ∙ listing-is (bytesOf s at (a .script-end)))
     (c .compare .ensures)
     in
-    record { outcome = w; text = r .ensures .text }
+    record { comparison = w; text = r .ensures .text }
 
 pub replay-entry-spec : {M : Type 1} → statement M
 replay-entry-spec =

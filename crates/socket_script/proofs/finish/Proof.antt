@@ -7,8 +7,8 @@ use native.Mathlib.Nat.{sub-zero}
 use native.Mathlib.Omega.{arith}
 use Rattle.text.specs.Put.{place}
 use Rattle.script.specs.Listing.{closing}
-use Rattle.socket_script.proofs.close.Statement.{statement}
-use Rattle.socket_script.proofs.close.Tie as tie
+use Rattle.socket_script.proofs.finish.Statement.{statement}
+use Rattle.socket_script.proofs.finish.Tie as tie
 
 sub-finish : tie.Need-sub-finish
 sub-finish c = search needs
@@ -34,8 +34,8 @@ returns c =
     c .before .before .before .before .finish .ensures .fit .put (c .before .before .before .before .before .before .before .before .before .before .pre .1) .out
     ∙ ap (λ (n : ℕ). place 0 (closing (a .p .offset) (a .p .state .ended) (take n (now (a .buffer)))) (now (a .out))) (sub-zero (a .p .used))
 
-pub close-spec : {M : Type 1} → statement M
-close-spec =
+pub finish-spec : {M : Type 1} → statement M
+finish-spec =
     tie.close
     (tie.spec
     sub-finish

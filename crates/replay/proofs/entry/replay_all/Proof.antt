@@ -1,19 +1,18 @@
--- `replay` meets its contract. The invariant: if as many entries agree as were run, all entries before `at` agree, else the tally holds the first
--- that does not. An entry takes twelve bytes at least, so that there are no more entries than bytes, and the tally
--- is never full.
+-- `replay_all` meets its contract. The invariant: if as many entries agree as were run, all entries before `at` agree, else the tally holds the first
+-- that does not. An entry takes twelve bytes at least, so that there are no more entries than bytes, and the tally is never full.
 use Prim.Native.Nat.{ℕ, _+_, _-_, _≤_, _<_}
 use mathlib.Core.List.{List}
 use mathlib.Core.Path.{_≡_, refl, ap, _∙_}
 use native.Mathlib.Omega.{arith}
 use borrow.Author.Needs.{needs}
 use lib.ListN.{length}
-use Rattle.tally.specs.declared.Outcome.the-variants.{Agrees}
+use Rattle.tally.specs.declared.Comparison.the-variants.{Agrees}
 use Rattle.tally.specs.declared.Tally.{Tally}
 use Rattle.tally.proofs.Counts.{counted-small}
 use Rattle.replay.specs.Replay.{AllAgree, none, more, FirstMissed, noTally, Tallied, begun, next}
 use Rattle.replay.proofs.Entries.{counted-total, counted-most, counted-all, none-missed, first-counted}
-use Rattle.replay.proofs.entry.replay.Statement.{statement}
-use Rattle.replay.proofs.entry.replay.Tie as tie
+use Rattle.replay.proofs.entry.replay_all.Statement.{statement}
+use Rattle.replay.proofs.entry.replay_all.Tie as tie
 
 begins : {s out : List ℕ} → Tallied s out 0 (record { total = 0; agree = 0; number = 0; from = 0; to = 0; first = Agrees }) out
 unfolding noTally
@@ -83,10 +82,10 @@ loop-again c =
       entry .behind .within,
       omega (arith, entry .name, entry .behind .script, entry .behind .stored, total),
       rw e (counted-most t _ _ (k .result) (h .2)),
-      (λ g. let w = counted-all t _ _ (k .result) (h .2) (rw e at g) in rw total (more (h .3 (w .0)) entry (rw (w .1) at (k .ensures .outcome)))),
+      (λ g. let w = counted-all t _ _ (k .result) (h .2) (rw e at g) in rw total (more (h .3 (w .0)) entry ((rw (w .1) at (k .ensures .comparison)) .0))),
       omega (arith, k .kept .1 .1 .1 .1 .0),
       rw e (next t (k .result) (h .5) entry (k .ensures)),
-      (λ g. rw e (first-counted t (h .2) (h .3) (h .6) entry (k .result) (rw (h .4) at (k .ensures .outcome)) (rw e at g))),
+      (λ g. rw e (first-counted t (h .2) (h .3) (h .6) entry (k .result) (rw (h .4) at (k .ensures .comparison)) (rw e at g))),
     )
 
 same-length-2 : tie.Need-same-length-2 Inv-loop μ-loop
@@ -105,8 +104,8 @@ returns-2 c =
       cut = λ e. absurd (let z : ⊥ = omega (arith, e, c .loop-test .left) in z);
     }
 
-pub replay-spec : {M : Type 1} → statement M
-replay-spec =
+pub replay-all-spec : {M : Type 1} → statement M
+replay-all-spec =
     tie.close
     (tie.spec
     Inv-loop
