@@ -18,7 +18,8 @@ use Rattle.status.specs.Answer.{statusNumber, recordCount, answerWord, countOf,
 use Rattle.status.specs.Choice.{pick, _and_, _or_}
 use Rattle.ring.specs.Ring.{place, front, put}
 use Rattle.places.specs.Lists.{filter}
-use Rattle.firing.specs.Firing.{firedOf, changeOf, fires, fired, kept}
+use Rattle.firing.specs.Firing.{fires}
+use Rattle.signal_change.specs.SignalChange.{firedOf, changeOf, fired, kept}
 use Rattle.packets.specs.Packets.{takenOf}
 use Rattle.port.specs.Port.{insertedOf, appendedOf, registeredOf, droppedOf, ofOther, others}
 use Rattle.signal.specs.Signal.{changedWord, meets}

@@ -17,7 +17,7 @@ use Rattle.firing.specs.Firing.{fires}
 use Rattle.places.specs.Table.{onlyWait}
 use Rattle.places.specs.Lists.{any}
 use Rattle.places.proofs.Lists.{either}
-use Rattle.firing.proofs.Only.{only-on, only-off}
+use Rattle.signal_change.proofs.Only.{only-on, only-off}
 use Rattle.ends.specs.declared.Pending.{Pending}
 use Rattle.ends.specs.declared.Outcome.{Outcome}
 use Rattle.socket.specs.declared.Pair.{Pair}

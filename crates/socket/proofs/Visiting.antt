@@ -17,11 +17,11 @@ use Rattle.status.proofs.Chains.{neither}
 use Rattle.places.specs.declared.Places.{Places}
 use Rattle.signal.specs.Signal.{changedWord}
 use Rattle.places.specs.Table.{sound}
-use Rattle.firing.specs.Firing.{changeOf}
+use Rattle.signal_change.specs.SignalChange.{changeOf}
 use Rattle.places.proofs.Lists.{either}
-use Rattle.firing.proofs.Operations.{change-sound, change-unsound, change-same}
+use Rattle.signal_change.proofs.Operations.{change-sound, change-unsound, change-same}
 use Rattle.places.proofs.Size.{table-128}
-use Rattle.firing.proofs.Idle.{nothing-fires, idle-change}
+use Rattle.signal_change.proofs.Idle.{nothing-fires, idle-change}
 use Rattle.port.proofs.Sound.{sound-change}
 use Rattle.endpoint.specs.Endpoint.{withQueue, withSignals}
 use Rattle.ends.specs.declared.Pending.{Pending}

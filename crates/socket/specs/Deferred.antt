@@ -8,7 +8,8 @@ use Rattle.status.specs.Choice.{pick, _and_, _or_}
 use Rattle.places.specs.declared.Places.{Places}
 use Rattle.signal.specs.Signal.{changedWord}
 use Rattle.port.specs.Port.{registerOf, dropOf}
-use Rattle.firing.specs.Firing.{firesOf, changeOf}
+use Rattle.firing.specs.Firing.{firesOf}
+use Rattle.signal_change.specs.SignalChange.{changeOf}
 use Rattle.packets.specs.Packets.{takeOf}
 use Rattle.places.specs.Table.{onlyWait}
 use Rattle.endpoint.specs.declared.Endpoint.{Endpoint}

@@ -86,7 +86,7 @@ pub fn needs_visit(p: Pair, r: Outcome) -> bool
 fn visited(t: Places, a: Pending) -> Places
     ensures { λ r. ⌜ r ≡ visited a t ⌝ }
 {
-    let c = firing::change(t, a.one, a.word, a.clear, a.set);
+    let c = signal_change::change(t, a.one, a.word, a.clear, a.set);
     let places = c.places;
     places
 }
@@ -106,7 +106,7 @@ pub fn visit_each(p: Pair, r: Outcome) -> Pair
 fn visited_only(t: Places, a: Pending) -> Places
     ensures { λ r. ⌜ r ≡ pick (onlyWait t) (visited a t) t ⌝ }
 {
-    firing::only_visited(t, a.one, a.word, a.clear, a.set)
+    signal_change::only_visited(t, a.one, a.word, a.clear, a.set)
 }
 
 // The same for a pair whose only place used is a wait.

@@ -4,8 +4,8 @@ use borrow.Author.Tests.{eq-eqb, ne-eqb}
 use Rattle.status.specs.Choice.{_and_}
 use Rattle.status.proofs.Rules.{via-not, via-not-not}
 use Rattle.places.specs.Table.{onlyWait}
-use Rattle.firing.proofs.only_fires.Statement.{statement}
-use Rattle.firing.proofs.only_fires.Tie as tie
+use Rattle.signal_change.proofs.only_fires.Statement.{statement}
+use Rattle.signal_change.proofs.only_fires.Tie as tie
 
 is-only-wait-requires : tie.Need-is-only-wait-requires
 is-only-wait-requires c κs = tt

@@ -15,10 +15,11 @@ use Rattle.places.specs.declared.Places.{Places}
 use Rattle.places.specs.Lists.{filter}
 use Rattle.signal.specs.Signal.{changedWord}
 use Rattle.places.specs.Table.{free, used, sound, packetsOf, waitsOf, unusedOf, tableOf, observe, onlyWait}
-use Rattle.firing.specs.Firing.{fires, fired, kept, firedOf, changeOf}
+use Rattle.firing.specs.Firing.{fires}
+use Rattle.signal_change.specs.SignalChange.{fired, kept, firedOf, changeOf}
 use Rattle.places.proofs.Lists.{either}
 use Rattle.places.proofs.Tests.{sound-below}
-use Rattle.firing.proofs.Operations.{change-sound}
+use Rattle.signal_change.proofs.Operations.{change-sound}
 
 fired-one : (one : Bool) (w : ℕ) (tab : List Place) → 0 < length tab → fires one w (getD tab 0 free) ≡ true
     → firedOf one w (record { packets = 0; waits = 1; table = tab }) ≡ record { packets = 1; waits = 0; table = set tab 0 (observe w (getD tab 0 free)) }

@@ -13,7 +13,7 @@ use Rattle.places.specs.declared.Places.{Places}
 use Rattle.places.specs.declared.Change.{Change}
 use Rattle.signal.specs.Signal.{changedWord}
 use Rattle.places.specs.Table.{sound}
-use Rattle.firing.specs.Firing.{firedOf, changeOf}
+use Rattle.signal_change.specs.SignalChange.{firedOf, changeOf}
 use Rattle.places.proofs.Lists.{either}
 
 pub change-unsound : (one : Bool) (w clear set : ℕ) (t : Places) → sound t ≡ false → changeOf one w clear set t ≡ record { places = t; word = w; answer = Refused Internal }

@@ -1,9 +1,9 @@
 use borrow.Author.Needs.{needs}
 use borrow.Author.Tests.{leb-true}
 use mathlib.Core.Path.{sym, _∙_}
-use Rattle.firing.proofs.Operations.{change-as, other-word}
-use Rattle.firing.proofs.change.Statement.{statement}
-use Rattle.firing.proofs.change.Tie as tie
+use Rattle.signal_change.proofs.Operations.{change-as, other-word}
+use Rattle.signal_change.proofs.change.Statement.{statement}
+use Rattle.signal_change.proofs.change.Tie as tie
 
 is-sound-requires : tie.Need-is-sound-requires
 is-sound-requires c κs = search needs

@@ -1,9 +1,9 @@
 use mathlib.Core.Path.{refl, sym, _∙_}
 use borrow.Author.Needs.{needs}
 use Rattle.places.proofs.Size.{table-128}
-use Rattle.firing.proofs.Only.{only-on, only-off}
-use Rattle.firing.proofs.only_visited.Statement.{statement}
-use Rattle.firing.proofs.only_visited.Tie as tie
+use Rattle.signal_change.proofs.Only.{only-on, only-off}
+use Rattle.signal_change.proofs.only_visited.Statement.{statement}
+use Rattle.signal_change.proofs.only_visited.Tie as tie
 
 changed-requires : tie.Need-changed-requires
 changed-requires c κs = tt

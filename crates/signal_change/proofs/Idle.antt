@@ -11,10 +11,11 @@ use Rattle.status.specs.Choice.{pick, _and_}
 use Rattle.places.specs.declared.Places.{Places}
 use Rattle.signal.specs.Signal.{changedWord}
 use Rattle.places.specs.Table.{used, sound, packetsOf, waitsOf}
-use Rattle.firing.specs.Firing.{firedOf, changeOf, fired, kept, fires, anyFires, firesOf}
+use Rattle.firing.specs.Firing.{fires, anyFires, firesOf}
+use Rattle.signal_change.specs.SignalChange.{firedOf, changeOf, fired, kept}
 use Rattle.places.specs.Lists.{any}
 use Rattle.places.proofs.Lists.{either, filter-none, filter-all}
-use Rattle.firing.proofs.Operations.{change-unsound, change-sound}
+use Rattle.signal_change.proofs.Operations.{change-unsound, change-sound}
 use Rattle.places.proofs.Views.{as-table, none-waiting}
 
 -- ---- the waits of a table

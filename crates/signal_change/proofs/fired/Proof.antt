@@ -1,15 +1,16 @@
 use Rattle.status.specs.Choice.{pick}
 use Rattle.places.specs.Table.{free, observe, packetsOf, waitsOf, unusedOf, tableOf}
-use Rattle.firing.specs.Firing.{fires, fired, kept, firedOf}
-use Rattle.firing.proofs.Partition.{Partitioned, partition-start, step-hit, step-miss, partition-all, partition-front, partition-back}
+use Rattle.firing.specs.Firing.{fires}
+use Rattle.signal_change.specs.SignalChange.{fired, kept, firedOf}
+use Rattle.signal_change.proofs.Partition.{Partitioned, partition-start, step-hit, step-miss, partition-all, partition-front, partition-back}
 use Rattle.places.proofs.Size.{table-128}
 use borrow.Author.Needs.{needs}
 use native.Mathlib.Omega.{arith}
 use Prim.Native.Nat.{_+_, _-_, _≤_}
 use lib.ListN.{length}
 use mathlib.Core.Path.{_≡_, refl, sym, _∙_}
-use Rattle.firing.proofs.fired.Statement.{statement}
-use Rattle.firing.proofs.fired.Tie as tie
+use Rattle.signal_change.proofs.fired.Statement.{statement}
+use Rattle.signal_change.proofs.fired.Tie as tie
 
 -- The waits from i on are visited: those that fire stand from the packets on, newest first, and the kept ones end at the last used place.
 abbrev Inv-loop : tie.InvT-loop

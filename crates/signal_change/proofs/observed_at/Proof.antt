@@ -1,7 +1,7 @@
 use mathlib.Core.Path.{refl}
 use Rattle.places.specs.Table.{observe}
-use Rattle.firing.proofs.observed_at.Statement.{statement}
-use Rattle.firing.proofs.observed_at.Tie as tie
+use Rattle.signal_change.proofs.observed_at.Statement.{statement}
+use Rattle.signal_change.proofs.observed_at.Tie as tie
 
 returns : tie.Need-returns
 unfolding observe
