@@ -1,9 +1,8 @@
 use mathlib.Core.Path.{refl}
-use borrow.Author.Needs.{needs}
 use Rattle.status.proofs.Rules.{via, pick-on, pick-off}
-use Rattle.socket.specs.Deferred.{due}
-use Rattle.socket.proofs.deferred.is_due.Statement.{statement}
-use Rattle.socket.proofs.deferred.is_due.Tie as tie
+use Rattle.visits.specs.Visits.{due}
+use Rattle.visits.proofs.is_due.Statement.{statement}
+use Rattle.visits.proofs.is_due.Tie as tie
 
 keeps-word-requires : tie.Need-keeps-word-requires
 keeps-word-requires c κs = tt

@@ -1,15 +1,14 @@
 use Prim.Native.Nat.{_-_}
 use mathlib.Core.Path.{sym, ap, _∙_}
 use native.Mathlib.Omega.{arith}
-use lib.ListN.{length}
 use Rattle.firing.proofs.Any.{Searched, search-start, search-hit, search-miss, search-none}
 use Rattle.ends.specs.declared.Pending.{Pending}
 use Rattle.ends.specs.Outcome.{noVisit}
-use Rattle.socket.specs.Deferred.{changesOf, due}
-use Rattle.socket.proofs.Needed.{all-due}
+use Rattle.visits.specs.Visits.{changesOf, due}
+use Rattle.visits.proofs.Visiting.{all-due}
 use borrow.Author.Needs.{needs}
-use Rattle.socket.proofs.deferred.any_due.Statement.{statement}
-use Rattle.socket.proofs.deferred.any_due.Tie as tie
+use Rattle.visits.proofs.any_due.Statement.{statement}
+use Rattle.visits.proofs.any_due.Tie as tie
 
 -- No change below i is due.
 abbrev Inv-loop : tie.InvT-loop
@@ -19,7 +18,7 @@ abbrev μ-loop : tie.MeasureT-loop
 μ-loop t r i₀ i = 4 - i
 
 loop-holds : tie.Need-loop-holds Inv-loop μ-loop
-unfolding changesOf length
+unfolding changesOf
 loop-holds c = search-start (λ (a : Pending). due a (c .args .t)) (changesOf (c .args .r)) 0 4 (omega arith) (omega arith)
 
 change-at-requires : tie.Need-change-at-requires Inv-loop μ-loop

@@ -1,7 +1,7 @@
-use Rattle.socket.specs.Deferred.{visited}
+use Rattle.visits.specs.Visits.{visited}
 use borrow.Author.Needs.{needs}
-use Rattle.socket.proofs.deferred.visited_only.Statement.{statement}
-use Rattle.socket.proofs.deferred.visited_only.Tie as tie
+use Rattle.visits.proofs.visited_only.Statement.{statement}
+use Rattle.visits.proofs.visited_only.Tie as tie
 
 only-visited-requires : tie.Need-only-visited-requires
 only-visited-requires c κs = search needs

@@ -1,8 +1,7 @@
-use mathlib.Core.Path.{_≡_, refl, sym, ap, _∙_}
-use Rattle.socket.specs.Deferred.{visited}
+use Rattle.visits.specs.Visits.{visited}
 use borrow.Author.Needs.{needs}
-use Rattle.socket.proofs.deferred.visited.Statement.{statement}
-use Rattle.socket.proofs.deferred.visited.Tie as tie
+use Rattle.visits.proofs.visited.Statement.{statement}
+use Rattle.visits.proofs.visited.Tie as tie
 
 change-requires : tie.Need-change-requires
 change-requires c κs = search needs

@@ -1,30 +1,29 @@
 use mathlib.Core.Path.{_≡_, refl}
 use native.Mathlib.Omega.{arith}
-use lib.ListN.{getD}
-use Rattle.socket.specs.Deferred.{changesOf}
-use Rattle.socket.proofs.deferred.change_at.Statement.{statement}
-use Rattle.socket.proofs.deferred.change_at.Tie as tie
+use Rattle.visits.specs.Visits.{changesOf}
+use Rattle.visits.proofs.change_at.Statement.{statement}
+use Rattle.visits.proofs.change_at.Tie as tie
 
 returns : tie.Need-returns
-unfolding changesOf getD
+unfolding changesOf
 returns c =
     let e : c .before .before .args .i ≡ 0 = c .before .if1 .taken in
     rw e refl
 
 returns-2 : tie.Need-returns-2
-unfolding changesOf getD
+unfolding changesOf
 returns-2 c =
     let e : c .before .before .before .args .i ≡ 1 = c .before .if2 .taken in
     rw e refl
 
 returns-3 : tie.Need-returns-3
-unfolding changesOf getD
+unfolding changesOf
 returns-3 c =
     let e : c .before .before .before .before .args .i ≡ 2 = c .before .if3 .taken in
     rw e refl
 
 returns-4 : tie.Need-returns-4
-unfolding changesOf getD
+unfolding changesOf
 returns-4 c =
     let three = c .before in
     let two = three .before in
