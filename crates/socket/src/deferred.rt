@@ -106,7 +106,6 @@ pub fn without_waits(p: Pair, handle: u32) -> Pair
 pub fn close_waits(p: Pair, handle: u32, r: Outcome) -> Pair
     ensures { λ q. ⌜ q ≡ visitedAll r (withoutWaits (isOne handle) p) ⌝ }
 {
-    let n = port::drop_waits(p.places, handle == 1);
-    let t = visits::visited_each(n.places, r);
+    let t = visits::close_waits(p.places, handle == 1, r);
     parts::with_places(p, t)
 }

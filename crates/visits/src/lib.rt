@@ -8,6 +8,7 @@ ghost use Prim.Native.Nat.{_<_};
 ghost use lib.ListN.{getD};
 ghost use Rattle.status.specs.Choice.{pick};
 ghost use Rattle.places.specs.Table.{onlyWait};
+ghost use Rattle.port.specs.Port.{dropOf};
 ghost use Rattle.ends.specs.Outcome.{noVisit};
 ghost use Rattle.visits.specs.Visits.{changesOf, due, anyDue, visited, visitedEach};
 
@@ -70,6 +71,20 @@ pub fn visited_each(t: Places, r: Outcome) -> Places
     ensures { λ u. ⌜ u ≡ visitedEach r t ⌝ }
 {
     let mut u = t;
+    u = visited(u, r.visits.first);
+    u = visited(u, r.visits.second);
+    u = visited(u, r.more.first);
+    u = visited(u, r.more.second);
+    u
+}
+
+// The table without the waits of an end, once those of all changes of a call are visited. The four visits stand here again, since the compiler
+// inlines a function that is called in one place.
+pub fn close_waits(t: Places, one: bool, r: Outcome) -> Places
+    ensures { λ u. ⌜ u ≡ visitedEach r (dropOf one t .places) ⌝ }
+{
+    let n = port::drop_waits(t, one);
+    let mut u = n.places;
     u = visited(u, r.visits.first);
     u = visited(u, r.visits.second);
     u = visited(u, r.more.first);

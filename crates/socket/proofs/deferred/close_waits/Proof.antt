@@ -5,18 +5,15 @@ use borrow.Author.Needs.{needs}
 use Rattle.socket.proofs.deferred.close_waits.Statement.{statement}
 use Rattle.socket.proofs.deferred.close_waits.Tie as tie
 
-drop-waits-requires : tie.Need-drop-waits-requires
-drop-waits-requires c κs = search needs
-
-visited-each-requires : tie.Need-visited-each-requires
-visited-each-requires c κs = search needs
+close-waits-requires : tie.Need-close-waits-requires
+close-waits-requires c κs = search needs
 
 with-places-requires : tie.Need-with-places-requires
 with-places-requires c κs = search needs
 
 returns : tie.Need-returns
 unfolding visitedAll visitedPair visitedEach withoutWaits withPlaces
-returns c = rw (c .before .visited-each .ensures, c .before .before .drop-waits .ensures) at (c .with-places .ensures)
+returns c = rw (c .before .close-waits .ensures) at (c .with-places .ensures)
 
 pub close-waits-spec : {M : Type 1} → statement M
-close-waits-spec = tie.close (tie.spec drop-waits-requires visited-each-requires with-places-requires returns)
+close-waits-spec = tie.close (tie.spec close-waits-requires with-places-requires returns)
