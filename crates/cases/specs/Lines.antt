@@ -16,7 +16,8 @@ use Rattle.runs.specs.Step.{answerOf, start}
 -- what a call computes with, opened by `linesOf`
 use Rattle.status.specs.Answer.{statusNumber, recordCount, answerWord, countOf, isDone, refuseIf, refuseUnless, _then_}
 use Rattle.status.specs.Choice.{pick, _and_, _or_}
-use Rattle.ring.specs.Ring.{place, front, put}
+use Rattle.ring_place.specs.RingPlace.{place}
+use Rattle.ring.specs.Ring.{front, put}
 use Rattle.places.specs.Lists.{filter}
 use Rattle.firing.specs.Firing.{fires}
 use Rattle.signal_change.specs.SignalChange.{firedOf, changeOf, fired, kept}

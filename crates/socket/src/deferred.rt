@@ -3,13 +3,12 @@
 use crate::Pair;
 use crate::Step;
 use crate::parts;
-use endpoint::Endpoint;
 use ends::Outcome;
 ghost use mathlib.Core.Path.{_≡_};
 ghost use Rattle.status.specs.Choice.{pick};
 ghost use Rattle.places.specs.Table.{onlyWait};
 ghost use Rattle.socket.specs.Pair.{isOne};
-ghost use Rattle.socket.specs.Deferred.{needsVisit, visitedAll, withEnds, withOutcome, settled, withoutWaits};
+ghost use Rattle.socket.specs.Deferred.{needsVisit, visitedAll, withOutcome, settled, withoutWaits};
 
 // Whether the only place used is a wait.
 pub fn has_only_wait(p: Pair) -> bool
@@ -47,10 +46,12 @@ pub fn visit_only(p: Pair, r: Outcome) -> Pair
     parts::with_places(p, t)
 }
 
-// The pair with both ends replaced.
-fn with_ends(p: Pair, one: Endpoint, two: Endpoint) -> Pair
-    ensures { λ r. ⌜ r ≡ withEnds one two p ⌝ }
+// The pair with the ends of an outcome.
+pub fn with_outcome(p: Pair, r: Outcome) -> Pair
+    ensures { λ q. ⌜ q ≡ withOutcome r p ⌝ }
 {
+    let one = r.one;
+    let two = r.two;
     let places = p.places;
     Pair {
         datagram: p.datagram,
@@ -59,15 +60,6 @@ fn with_ends(p: Pair, one: Endpoint, two: Endpoint) -> Pair
         two,
         places,
     }
-}
-
-// The pair with the ends of an outcome.
-pub fn with_outcome(p: Pair, r: Outcome) -> Pair
-    ensures { λ q. ⌜ q ≡ withOutcome r p ⌝ }
-{
-    let one = r.one;
-    let two = r.two;
-    with_ends(p, one, two)
 }
 
 fn visit(p: Pair, r: Outcome) -> Pair

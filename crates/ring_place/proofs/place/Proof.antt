@@ -1,9 +1,9 @@
 use mathlib.Core.Path.{sym}
 use native.Mathlib.Omega.{arith}
-use Rattle.ring.proofs.Laws.{place-low, place-high}
+use Rattle.ring_place.proofs.Laws.{place-low, place-high}
 use borrow.Author.Needs.{needs}
-use Rattle.ring.proofs.place.Statement.{statement}
-use Rattle.ring.proofs.place.Tie as tie
+use Rattle.ring_place.proofs.place.Statement.{statement}
+use Rattle.ring_place.proofs.place.Tie as tie
 
 returns : tie.Need-returns
 returns c = let a = c .before .args in omega (arith, place-high (a .capacity) (a .start) (a .k) (omega arith))
