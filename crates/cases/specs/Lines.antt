@@ -16,9 +16,11 @@ use Rattle.runs.specs.Step.{answerOf, start}
 -- what a call computes with, opened by `linesOf`
 use Rattle.status.specs.Answer.{statusNumber, recordCount, answerWord, countOf, isDone, refuseIf, refuseUnless, _then_}
 use Rattle.status.specs.Choice.{pick, _and_, _or_}
-use Rattle.ring.specs.Ring.{place, front, put}
+use Rattle.ring_place.specs.RingPlace.{place}
+use Rattle.ring.specs.Ring.{front, put}
 use Rattle.places.specs.Lists.{filter}
-use Rattle.firing.specs.Firing.{firedOf, changeOf, fires, fired, kept}
+use Rattle.firing.specs.Firing.{fires}
+use Rattle.signal_change.specs.SignalChange.{firedOf, changeOf, fired, kept}
 use Rattle.packets.specs.Packets.{takenOf}
 use Rattle.port.specs.Port.{insertedOf, appendedOf, registeredOf, droppedOf, ofOther, others}
 use Rattle.signal.specs.Signal.{changedWord, meets}

@@ -8,7 +8,8 @@ use native.Mathlib.Omega.{arith}
 use lib.ListN.{length, take, drop, length-append, length-set, getElem?}
 use lib.Seq.{drop-append-seam}
 use Rattle.status.specs.Choice.{pick}
-use Rattle.ring.specs.Ring.{place, front}
+use Rattle.ring_place.specs.RingPlace.{place}
+use Rattle.ring.specs.Ring.{front}
 use Rattle.ring.proofs.Laws.{place-lt, front-none, front-put, front-set, take-front, drop-front, length-put}
 use Rattle.endpoint.specs.declared.Queue.{Queue}
 use Rattle.endpoint.specs.Queue.{noQueue}

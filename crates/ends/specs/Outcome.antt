@@ -1,5 +1,5 @@
 -- What a call leaves of the two ends, the changes of their words, and whether a wait can fire. 01 "Signal word and packets": a change of a word visits the end's waits.
--- The visit itself is in the crate socket.
+-- The visit itself is in the crate visits.
 use Prim.Native.Nat.{ℕ}
 use mathlib.Core.Bool.{Bool, true, false, not}
 use lib.Dec.{eqb}

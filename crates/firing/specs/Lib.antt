@@ -1,2 +1,2 @@
--- Firing: the waits that a change of a word fires, and what the change answers and leaves (01 "Signal word and packets").
+-- Firing: the waits that a change of a word fires, and whether there are any (01 "Signal word and packets").
 pub mod Firing

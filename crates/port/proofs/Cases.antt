@@ -12,7 +12,8 @@ use Rattle.places.specs.declared.Places.{Places}
 use Rattle.places.specs.Lists.{filter}
 use Rattle.signal.specs.Signal.{READABLE, WRITABLE, changedWord, meets}
 use Rattle.places.specs.Table.{packetsOf, waitsOf, unusedOf, tableOf, newPlaces, endNumber, waitOf, observe, packetOf}
-use Rattle.firing.specs.Firing.{fires, fired, kept, firedOf, changeOf}
+use Rattle.firing.specs.Firing.{fires}
+use Rattle.signal_change.specs.SignalChange.{fired, kept, firedOf, changeOf}
 use Rattle.places.specs.Next.{refused, done}
 use Rattle.packets.specs.Packets.{takeOf}
 use Rattle.port.specs.Port.{insertedOf, appendedOf, registeredOf, registerOf}

@@ -16,13 +16,14 @@ use Rattle.places.specs.declared.Places.{Places}
 use Rattle.places.specs.Lists.{filter}
 use Rattle.signal.specs.Signal.{changedWord, meets}
 use Rattle.places.specs.Table.{used, sound, packetsOf, waitsOf, tableOf, newPlaces, waitOf, observe}
-use Rattle.firing.specs.Firing.{fires, fired, kept, firedOf, changeOf}
+use Rattle.firing.specs.Firing.{fires}
+use Rattle.signal_change.specs.SignalChange.{fired, kept, firedOf, changeOf}
 use Rattle.port.specs.Port.{ofOther, others, insertedOf, appendedOf, registeredOf, droppedOf, registerOf, dropOf}
 use Rattle.places.specs.Next.{refused, done}
 use Rattle.packets.specs.Packets.{takenOf, takeOf}
 use Rattle.places.proofs.Lists.{either, length-filter}
 use Rattle.places.proofs.Tests.{sound-below}
-use Rattle.firing.proofs.Operations.{change-sound}
+use Rattle.signal_change.proofs.Operations.{change-sound}
 use Rattle.packets.proofs.Operations.{take-none, take-done}
 use Rattle.port.proofs.Operations.{register-full, register-done, drop-done}
 

@@ -3,7 +3,7 @@ use mathlib.Core.Path.{_≡_, refl}
 use mathlib.Core.List.{[], _∷_}
 use Prim.Native.Nat.{ℕ}
 use Rattle.status.specs.Choice.{pick, _and_}
-use Rattle.ring.specs.Ring.{place, front, put, fits, copiedIn, copiedOut}
+use Rattle.ring.specs.Ring.{front, put, fits, copiedIn, copiedOut}
 
 -- three entries put from place 3 on: one at the end, two at the start; the entry past the ring stays
 pub put-wrapped : put {A = ℕ} 4 3 3 (5 ∷ 6 ∷ 7 ∷ []) (0 ∷ 1 ∷ 2 ∷ 3 ∷ 4 ∷ []) ≡ 6 ∷ 7 ∷ 2 ∷ 5 ∷ 4 ∷ []
@@ -13,10 +13,6 @@ put-wrapped = refl
 pub front-wrapped : front {A = ℕ} 4 3 3 (6 ∷ 7 ∷ 2 ∷ 5 ∷ 4 ∷ []) ≡ 5 ∷ 6 ∷ 7 ∷ []
 unfolding front
 front-wrapped = refl
-
-pub place-wrapped : place 4 3 3 ≡ 2
-unfolding place pick
-place-wrapped = refl
 
 -- five entries do not fit in a ring of capacity 4
 pub too-many : copiedIn {A = ℕ} 4 0 5 (5 ∷ 6 ∷ 7 ∷ 8 ∷ 9 ∷ []) (0 ∷ 1 ∷ 2 ∷ 3 ∷ 4 ∷ []) ≡ 0 ∷ 1 ∷ 2 ∷ 3 ∷ 4 ∷ []

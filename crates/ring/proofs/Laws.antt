@@ -12,18 +12,12 @@ use lib.ListN.{length, getD, take, drop, set, length-append, length-take, length
 use lib.Seq.{paste, paste-zero, length-paste, getD-take, getD-drop, take-take, set-split}
 use borrow.Author.Tests.{lt-ltb, le-ltb, le-leb, ltb-true, leb-true}
 use Rattle.status.specs.Choice.{pick, _and_}
-use Rattle.ring.specs.Ring.{place, front, put, fits, copiedIn, copiedOut}
+use Rattle.ring_place.specs.RingPlace.{place}
+use Rattle.ring_place.proofs.Laws.{place-low, place-high}
+use Rattle.ring.specs.Ring.{front, put, fits, copiedIn, copiedOut}
 use Rattle.ring.proofs.Lists.{split, ext, getD-right, take-part, paste-before, paste-in, paste-after}
 
 -- ---- places
-
-pub place-low : (C s k : ℕ) → k < C - s → place C s k ≡ s + k
-unfolding place pick
-place-low C s k h = simp (lt-ltb k (C - s) h)
-
-pub place-high : (C s k : ℕ) → C - s ≤ k → place C s k ≡ k - (C - s)
-unfolding place pick
-place-high C s k h = simp (le-ltb k (C - s) h)
 
 pub place-lt : (C s k : ℕ) → s < C → k ≤ C → place C s k < C
 place-lt C s k low turn = split (C - s) k (λ h. omega (arith, place-high C s k h)) (λ h. omega (arith, place-low C s k h))

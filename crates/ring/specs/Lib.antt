@@ -1,2 +1,3 @@
--- Ring: the places of a ring, the entries that lie in it, and what a copy into it or out of it leaves. 01 "Delivered bytes".
+-- Ring: the entries that lie in a ring, and what a copy into it or out of it leaves. 01 "Delivered bytes". The places of a ring are in the crate
+-- ring_place.
 pub mod Ring

@@ -1,16 +1,12 @@
 -- A ring of capacity C is the first C entries of a lent slice. A queue in it starts at a place and continues at the ring's start where it
 -- runs past the ring's end. Queued bytes and a table's lengths lie so alike. 01 "Delivered bytes".
-use Prim.Native.Nat.{ℕ, _+_, _-_, min}
+use Prim.Native.Nat.{ℕ, _-_, min}
 use mathlib.Core.Bool.{Bool}
 use mathlib.Core.List.{List, _++_}
 use lib.Dec.{ltb, leb}
 use lib.ListN.{length, take, drop}
 use lib.Seq.{paste}
 use Rattle.status.specs.Choice.{pick, _and_}
-
--- the place that is k entries past the place s; k is at most C, and a whole turn comes back to s. 01 "Delivered bytes".
-unfoldable pub place : ℕ → ℕ → ℕ → ℕ
-place C s k = pick (ltb k (C - s)) (s + k) (k - (C - s))
 
 -- the n entries from the place s on: those up to the ring's end, then those from its start. 01 "Delivered bytes".
 unfoldable pub front : {A : Type 0} → ℕ → ℕ → ℕ → List A → List A

@@ -9,17 +9,6 @@ ghost use Rattle.ring.specs.Ring;
 // The most bytes that one block copies.
 const BLOCK: usize = 4096;
 
-// The place that is k entries past the place `start`, by comparison and subtraction.
-pub fn place(capacity: usize, start: usize, k: usize) -> usize
-    ensures { λ r. ⌜ r ≡ Ring.place capacity start k ⌝ }
-{
-    if capacity <= start {
-        return k;
-    }
-    let room = capacity - start;
-    if k < room { start + k } else { k - room }
-}
-
 // Whether n entries from the place `at` on lie in a ring of this capacity, in a slice of `size` entries.
 fn fits(capacity: usize, at: usize, n: usize, size: usize) -> bool
     ensures { λ r. ⌜ r ≡ Ring.fits capacity at n size ⌝ }

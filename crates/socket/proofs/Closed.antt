@@ -30,12 +30,14 @@ use Rattle.ends.specs.Outcome.{noVisit, noVisits, outcomeOf, keptEnds, unchange
 use Rattle.ends_tests.proofs.Sound.{opening-passed}
 use Rattle.control.specs.Signal.{changedEnd, firstOnly}
 use Rattle.control.specs.Close.{closeVisit, closeMoved, closeOutcome, closeEnds}
+use Rattle.visits.specs.Visits.{visited}
+use Rattle.visits.proofs.Visiting.{visited-none, visited-idle}
 use Rattle.socket.specs.declared.Pair.{Pair}
 use Rattle.socket.specs.Pair.{isOne, own, peer, endsOf, withEnd, withPlaces, signalChange}
 use Rattle.socket.specs.Tests.{Steps}
 use Rattle.socket.specs.Wait.{closeAnswer, closed}
-use Rattle.socket.specs.Deferred.{visited, visitedPair, visitedAll, withEnds, withOutcome, settled, withoutWaits, closedWaits, settledClose}
-use Rattle.socket.proofs.Visiting.{visited-none, visited-idle, no-visits, signal-visited, settled-pair}
+use Rattle.socket.specs.Deferred.{visitedPair, visitedAll, withEnds, withOutcome, settled, withoutWaits, closedWaits, settledClose}
+use Rattle.socket.proofs.Visiting.{no-visits, signal-visited, settled-pair}
 use Rattle.socket.proofs.Steps.{steps-refused, steps-done}
 
 -- the waits of end t dropped, then those of its peer visited

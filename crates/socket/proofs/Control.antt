@@ -23,7 +23,8 @@ use Rattle.socket.specs.declared.Pair.{Pair}
 use Rattle.socket.specs.Pair.{own, peer, withEnd, withPlaces, withChange, signalChange, putBit, switchReading}
 use Rattle.socket.specs.Disposition.{switchWriting, disposeOwn, disposePeer, disposedOwn, disposedPeer, disposed, shutEnd, shut}
 use Rattle.socket.specs.Threshold.{readThresholdSet, writeThresholdSet}
-use Rattle.socket.specs.Deferred.{visited, visitedPair, withEnds}
+use Rattle.visits.specs.Visits.{visited}
+use Rattle.socket.specs.Deferred.{visitedPair, withEnds}
 use Rattle.socket.proofs.Visiting.{movedPair, one-visited, two-visited, kept-visited}
 
 -- by whether the peer is closed

@@ -23,7 +23,8 @@ use Rattle.socket.specs.declared.Step.{Step}
 use Rattle.socket.specs.Pair.{isOne, own, peer, endsOf, withPlaces}
 use Rattle.socket.specs.Tests.{Steps}
 use Rattle.socket.specs.Disposition.{disposeAnswer, disposedOwn, disposedPeer, disposed}
-use Rattle.socket.specs.Deferred.{visited, visitedPair, visitedAll, withEnds, settled}
+use Rattle.visits.specs.Visits.{visited}
+use Rattle.socket.specs.Deferred.{visitedPair, visitedAll, withEnds, settled}
 use Rattle.socket.proofs.Visiting.{movedPair, cannot-fire, settled-pair}
 use Rattle.socket.proofs.Control.{own-disposed, peer-disposed}
 use Rattle.socket.proofs.Settled.{unchanged-settled}

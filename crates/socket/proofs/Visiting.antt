@@ -1,34 +1,27 @@
 -- The visit of the waits can wait until the words of both ends have changed. Assumes nothing.
 use Prim.Native.Nat.{ℕ}
 use mathlib.Core.Path.{_≡_, refl, sym, ap, _∙_}
-use mathlib.Core.Bool.{Bool, true, false, not, false≢true}
-use mathlib.Core.Logic.{⊎-elim}
+use mathlib.Core.Bool.{Bool, true, false, not}
 use mathlib.Core.List.{List}
 use mir.Val.{Val}
 use denote.Laws.{Is}
 use denote.Struct.Laws as LL
 use lib.ListN.{length}
-use lib.Dec.{eqb}
-use borrow.Author.Tests.{eqb-true}
 use Rattle.status.specs.declared.Answer.{Answer}
-use Rattle.status.specs.Choice.{pick, _and_, _or_}
-use Rattle.status.proofs.Rules.{pick-on, pick-off}
+use Rattle.status.specs.Choice.{pick, _or_}
 use Rattle.status.proofs.Chains.{neither}
 use Rattle.places.specs.declared.Places.{Places}
 use Rattle.signal.specs.Signal.{changedWord}
 use Rattle.places.specs.Table.{sound}
-use Rattle.firing.specs.Firing.{changeOf}
+use Rattle.signal_change.specs.SignalChange.{changeOf}
 use Rattle.places.proofs.Lists.{either}
-use Rattle.firing.proofs.Operations.{change-sound, change-unsound, change-same}
+use Rattle.signal_change.proofs.Operations.{change-sound}
 use Rattle.places.proofs.Size.{table-128}
-use Rattle.firing.proofs.Idle.{nothing-fires, idle-change}
 use Rattle.port.proofs.Sound.{sound-change}
 use Rattle.endpoint.specs.Endpoint.{withQueue, withSignals}
-use Rattle.ends.specs.declared.Pending.{Pending}
 use Rattle.ends.specs.declared.Visits.{Visits}
-use Rattle.ends.specs.declared.Outcome.{Outcome}
 use Rattle.ends.specs.declared.Moved.{Moved}
-use Rattle.ends.specs.Outcome.{noVisit, noVisits, keepsWord, canFire, anyFires, outcomeOf, keptEnds}
+use Rattle.ends.specs.Outcome.{noVisit, noVisits, canFire, anyFires, outcomeOf, keptEnds}
 use Rattle.transfer_write.specs.Write.{fedQueue, fedEnds}
 use Rattle.transfer_read.specs.Read.{drainedQueue, drainedEnds}
 use Rattle.socket.specs.declared.Pair.{Pair}
@@ -37,33 +30,11 @@ use Rattle.socket.proofs.Pair.Laws as T′
 use Rattle.socket.specs.Pair.{own, peer, withEnd, withPlaces, withChange, signalChange}
 use Rattle.socket.specs.Write.{wrote}
 use Rattle.socket.specs.Read.{consumed}
-use Rattle.socket.specs.Deferred.{due, visited, visitedPair, visitedAll, settled, withEnds}
+use Rattle.visits.specs.Visits.{visited}
+use Rattle.visits.proofs.Visiting.{visited-none, cannot-fire as table-cannot-fire}
+use Rattle.socket.specs.Deferred.{visitedPair, visitedAll, settled, withEnds}
 
--- ---- a change that fires nothing
-
-pub visited-same : (a : Pending) (t : Places) → changedWord (a .clear) (a .set) (a .word) ≡ a .word → visited a t ≡ t
-unfolding visited
-visited-same a t e =
-    ⊎-elim
-    (λ (s : sound t ≡ true). ap (λ c. c .places) (change-same (a .one) (a .word) (a .clear) (a .set) t s e))
-    (λ (s : sound t ≡ false). ap (λ c. c .places) (change-unsound (a .one) (a .word) (a .clear) (a .set) t s))
-    (either (sound t))
-
-pub visited-none : (t : Places) → visited noVisit t ≡ t
-unfolding changedWord
-visited-none t = visited-same noVisit t refl
-
-pub visited-idle : (a : Pending) (t : Places) → t .waits ≡ 0 → length (t .table) ≡ 128 → visited a t ≡ t
-unfolding visited
-visited-idle a t w l = idle-change (a .one) (a .word) (a .clear) (a .set) t l (nothing-fires (a .one) _ t w)
-
-pub not-due : (a : Pending) (t : Places) → length (t .table) ≡ 128 → due a t ≡ false → visited a t ≡ t
-unfolding due keepsWord pick visited
-not-due a t l e =
-    ⊎-elim
-    (λ (k : eqb (changedWord (a .clear) (a .set) (a .word)) (a .word) ≡ true). visited-same a t (eqb-true _ _ k))
-    (λ (k : eqb (changedWord (a .clear) (a .set) (a .word)) (a .word) ≡ false). idle-change (a .one) (a .word) (a .clear) (a .set) t l (rw k at e))
-    (either (eqb (changedWord (a .clear) (a .set) (a .word)) (a .word)))
+-- ---- changes that fire nothing
 
 pub visited-both : (v : Visits) (p : Pair) → visited (v .first) (p .places) ≡ p .places → visited (v .second) (p .places) ≡ p .places → visitedPair v p ≡ p
 unfolding visitedPair withPlaces
@@ -169,24 +140,10 @@ drained-visited false n p s =
 
 -- ---- where no wait can fire
 
-neither-changed : (z a b : Bool) → z ≡ false → pick z false (pick a (not b) true) ≡ false → (a ≡ true) × (b ≡ true)
-unfolding pick
-neither-changed true a b z e = absurd (false≢true (sym z))
-neither-changed false true true z e = (refl, refl)
-neither-changed false true false z e = absurd (false≢true (sym e))
-neither-changed false false b z e = absurd (false≢true (sym e))
-
 pub cannot-fire : (v : Visits) (p : Pair) → length (p .places .table) ≡ 128 → canFire (p .places .waits) v ≡ false → visitedPair v p ≡ p
-unfolding canFire keepsWord
 cannot-fire v p l e =
-    ⊎-elim
-    (λ (z : eqb (p .places .waits) 0 ≡ true).
-    let w = eqb-true (p .places .waits) 0 z in
-    visited-both v p (visited-idle (v .first) (p .places) w l) (visited-idle (v .second) (p .places) w l))
-    (λ (z : eqb (p .places .waits) 0 ≡ false).
-    let w = neither-changed _ _ _ z e in
-    visited-both v p (visited-same (v .first) (p .places) (eqb-true _ _ (w .0))) (visited-same (v .second) (p .places) (eqb-true _ _ (w .1))))
-    (either (eqb (p .places .waits) 0))
+    let same = table-cannot-fire v (p .places) l e in
+    visited-both v p (same .0) (same .1)
 
 pub settled-pair : (f : Bool) (p q : Pair) → (f ≡ false → p ≡ q) → pick f p q ≡ p
 unfolding pick

@@ -1,48 +1,28 @@
 -- How the code goes: a call whose waits are visited last, and a table that is passed on by whether the call is done. 01 "Signal word and packets":
 -- a change of a word visits the end's waits. The laws of proofs/ say that the visits can wait until all words have changed.
 use Prim.Native.Nat.{ℕ}
-use mathlib.Core.Bool.{Bool, false}
-use mathlib.Core.List.{List, [], _∷_}
+use mathlib.Core.Bool.{Bool}
 use lib.Dec.{eqb}
 use Rattle.status.specs.Choice.{pick, _and_, _or_}
 use Rattle.places.specs.declared.Places.{Places}
-use Rattle.signal.specs.Signal.{changedWord}
 use Rattle.port.specs.Port.{registerOf, dropOf}
-use Rattle.firing.specs.Firing.{firesOf, changeOf}
 use Rattle.packets.specs.Packets.{takeOf}
 use Rattle.places.specs.Table.{onlyWait}
 use Rattle.endpoint.specs.declared.Endpoint.{Endpoint}
-use Rattle.ends.specs.declared.Pending.{Pending}
 use Rattle.ends.specs.declared.Visits.{Visits}
 use Rattle.ends.specs.declared.Outcome.{Outcome}
-use Rattle.ends.specs.Outcome.{keepsWord}
+use Rattle.visits.specs.Visits.{anyDue, visited}
 use Rattle.socket.specs.declared.Pair.{Pair}
 use Rattle.socket.specs.declared.Step.{Step}
 use Rattle.socket.specs.Pair.{own, withPlaces}
 
--- 01 "Signal word and packets": whether a change fires a wait: the word becomes another, and a wait of its end meets the new one
-unfoldable pub due : Pending → Places → Bool
-due a t = pick (keepsWord a) false (firesOf (a .one) (changedWord (a .clear) (a .set) (a .word)) t)
-
--- 01 "Signal word and packets": the table after the waits of a change are visited
-unfoldable pub visited : Pending → Places → Places
-visited a t = changeOf (a .one) (a .word) (a .clear) (a .set) t .places
-
--- of two changes
+-- the pair after the waits of two changes are visited
 unfoldable pub visitedPair : Visits → Pair → Pair
 visitedPair v p = withPlaces (visited (v .second) (visited (v .first) (p .places))) p
 
 -- of all changes of a call
 unfoldable pub visitedAll : Outcome → Pair → Pair
 visitedAll r p = visitedPair (r .more) (visitedPair (r .visits) p)
-
--- all changes of a call, in their order
-unfoldable pub changesOf : Outcome → List Pending
-changesOf r = r .visits .first ∷ r .visits .second ∷ r .more .first ∷ r .more .second ∷ []
-
--- whether one of all changes of a call fires a wait
-unfoldable pub anyDue : Outcome → Places → Bool
-anyDue r t = due (r .visits .first) t or due (r .visits .second) t or due (r .more .first) t or due (r .more .second) t
 
 -- whether the waits are to be visited: one fires, or the only place used is a wait
 unfoldable pub needsVisit : Outcome → Places → Bool

@@ -7,7 +7,7 @@ use Rattle.status.specs.Choice.{pick}
 use Rattle.places.specs.declared.Places.{Places}
 use Rattle.places.specs.declared.Change.{Change}
 use Rattle.places.specs.Table.{newPlaces}
-use Rattle.firing.specs.Firing.{changeOf}
+use Rattle.signal_change.specs.SignalChange.{changeOf}
 use Rattle.endpoint.specs.declared.Endpoint.{Endpoint}
 use Rattle.endpoint.specs.declared.SignalWord.{SignalWord}
 use Rattle.endpoint.specs.declared.SignalWord.the-variants.{Closed}

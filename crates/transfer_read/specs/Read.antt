@@ -9,7 +9,8 @@ use lib.Seq.{paste}
 use Rattle.status.specs.declared.Answer.{Answer}
 use Rattle.status.specs.Choice.{pick, _or_}
 use Rattle.status.specs.Answer.{countOf}
-use Rattle.ring.specs.Ring.{place, front}
+use Rattle.ring_place.specs.RingPlace.{place}
+use Rattle.ring.specs.Ring.{front}
 use Rattle.signal.specs.Signal.{changedWord}
 use Rattle.endpoint.specs.declared.Queue.{Queue}
 use Rattle.endpoint.specs.declared.Endpoint.{Endpoint}

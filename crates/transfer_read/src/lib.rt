@@ -46,13 +46,13 @@ fn drained_queue(datagram: bool, capacity: u32, n: u32, q: Queue) -> Queue
     requires { ⌜ Drain datagram capacity n q ⌝ }
     ensures { λ r. ⌜ r ≡ drainedQueue datagram capacity n q ⌝ }
 {
-    let start = ring::place(capacity as usize, q.bytes.start as usize, n as usize);
+    let start = ring_place::place(capacity as usize, q.bytes.start as usize, n as usize);
     let bytes = Span {
         start: start as u32,
         count: q.bytes.count - n,
     };
     if datagram {
-        let next = ring::place(capacity as usize, q.lengths.start as usize, 1);
+        let next = ring_place::place(capacity as usize, q.lengths.start as usize, 1);
         let fewer = Span {
             start: next as u32,
             count: q.lengths.count - 1,

@@ -8,7 +8,8 @@ use lib.Dec.{eqb}
 use Rattle.status.specs.declared.Answer.{Answer}
 use Rattle.status.specs.Choice.{pick}
 use Rattle.status.specs.Answer.{countOf}
-use Rattle.ring.specs.Ring.{place, put}
+use Rattle.ring_place.specs.RingPlace.{place}
+use Rattle.ring.specs.Ring.{put}
 use Rattle.signal.specs.Signal.{changedWord}
 use Rattle.endpoint.specs.declared.Queue.{Queue}
 use Rattle.endpoint.specs.declared.Endpoint.{Endpoint}

@@ -64,14 +64,14 @@ fn feed(
     ensures { λ _. ⌜ now (ring .exit) ≡ ringFed capacity q m (now (bytes .entry)) (now (ring .entry)) ⌝ }
     ensures { λ _. ⌜ now (table .exit) ≡ tableFed datagram capacity q m (now (table .entry)) ⌝ }
 {
-    let at = ring::place(
+    let at = ring_place::place(
         capacity as usize,
         q.bytes.start as usize,
         q.bytes.count as usize,
     );
     ring::copy_in(ring, capacity as usize, at, bytes, m as usize);
     if datagram {
-        let next = ring::place(
+        let next = ring_place::place(
             capacity as usize,
             q.lengths.start as usize,
             q.lengths.count as usize,

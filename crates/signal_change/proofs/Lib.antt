@@ -1,0 +1,4 @@
+pub mod Partition
+pub mod Operations
+pub mod Idle
+pub mod Only

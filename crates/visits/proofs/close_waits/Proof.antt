@@ -1,0 +1,34 @@
+use Rattle.visits.specs.Visits.{visitedEach}
+use borrow.Author.Needs.{needs}
+use Rattle.visits.proofs.close_waits.Statement.{statement}
+use Rattle.visits.proofs.close_waits.Tie as tie
+
+drop-waits-requires : tie.Need-drop-waits-requires
+drop-waits-requires c κs = search needs
+
+visited-requires : tie.Need-visited-requires
+visited-requires c κs = search needs
+
+visited-requires-2 : tie.Need-visited-requires-2
+visited-requires-2 c κs = search needs
+
+visited-requires-3 : tie.Need-visited-requires-3
+visited-requires-3 c κs = search needs
+
+visited-requires-4 : tie.Need-visited-requires-4
+visited-requires-4 c κs = search needs
+
+returns : tie.Need-returns
+unfolding visitedEach
+returns c = rw (c .before .visited3 .ensures, c .before .before .visited2 .ensures, c .before .before .before .visited .ensures, c .before .before .before .before .before .drop-waits .ensures) at (c .visited4 .ensures)
+
+pub close-waits-spec : {M : Type 1} → statement M
+close-waits-spec =
+    tie.close
+    (tie.spec
+    drop-waits-requires
+    visited-requires
+    visited-requires-2
+    visited-requires-3
+    visited-requires-4
+    returns)
