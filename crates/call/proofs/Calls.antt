@@ -1,19 +1,16 @@
 -- What a call says is what its definition says. Assumes nothing.
-use Prim.Native.Nat.{ℕ, _+_, _-_, _≤_, _<_}
+use Prim.Native.Nat.{ℕ, _-_, _≤_}
 use native.Mathlib.Omega.{arith}
 use mathlib.Core.Path.{_≡_, refl, sym, ap, _∙_, subst}
 use mathlib.Core.Bool.{Bool, true, false, cond}
 use mathlib.Core.List.{List}
-use lib.ListN.{length, take, drop, length-drop}
-use lib.Seq.{take-all}
-use lib.Dec.{ltb, leb, eqb}
-use borrow.Author.Tests.{le-ltb, ltb-false, leb-true, ne-eqb, le-leb, lt-leb, lt-ltb}
+use lib.ListN.{length, drop}
+use borrow.Author.Tests.{le-ltb, ne-eqb, lt-ltb}
 use Rattle.status.specs.declared.Answer.{Answer}
-use Rattle.status.specs.declared.Answer.the-variants.{Done, Refused}
+use Rattle.status.specs.declared.Answer.the-variants.{Refused}
 use Rattle.status.specs.declared.Status.the-variants.{InvalidArgs}
-use Rattle.status.specs.declared.Record.the-variants.{Count}
-use Rattle.status.specs.Choice.{pick, _and_, _or_}
-use Rattle.status.specs.Answer.{countOf, isDone, refuseUnless, _then_}
+use Rattle.status.specs.Choice.{pick}
+use Rattle.status.specs.Answer.{countOf, isDone}
 use Rattle.socket.specs.declared.Pair.{Pair}
 use Rattle.socket.specs.declared.Step.{Step}
 use Rattle.socket.specs.Pair.{isOne, own}
@@ -27,15 +24,15 @@ use Rattle.pair_outcome.specs.PairOutcome.{unchangedPair, outcomeStep}
 use Rattle.pair_outcome.proofs.Steps.{visit-step, unchanged-is}
 use Rattle.pair_outcome.proofs.Steps.{mk as mkOutcome}
 use Rattle.endpoint.specs.Queue.{firstLength}
-use Rattle.user_memory.specs.Memory.{fits, countLanded}
+use Rattle.user_memory.specs.Memory.{countLanded}
 use Rattle.syscall.specs.Write.{UserWrote}
 use Rattle.syscall.specs.Read.{isPeek, bytesLanded, BytesRead}
-use Rattle.text.specs.Put.{place}
 use Rattle.record.specs.declared.fields.Transfer.{Transfer}
 use Rattle.record.specs.Fields.{eight, transferOf}
 use Rattle.record.specs.Record.{isBody}
 use Rattle.delivered.specs.Delivered.{BASE}
-use Rattle.call.specs.Transfer.{Called, writeAnswerOf, wroteBy, writeCall, readAnswerOf, gotBy, readCall, fillAnswer, filled, fillCall, CallDone}
+use Rattle.fill.specs.Fill.{fillAnswer, filled}
+use Rattle.call.specs.Transfer.{Called, writeAnswerOf, wroteBy, writeCall, readAnswerOf, gotBy, readCall, fillCall, CallDone}
 use Rattle.plain_call.specs.Rings.{Rings, ownRing, ownTable, peerRing, peerTable, withPeer}
 use Rattle.plain_call.specs.Plain.{plainStep}
 use Rattle.plain_call.proofs.Steps.{mk, same-step}
@@ -96,63 +93,6 @@ module _ (memory memory′ ring table : List ℕ) (z : Rings) (p : Pair) (t : Tr
         lent = refl;
       }
 
--- ---- fill
-
--- the part of a list from a place to its end
-pub part-all : (from : ℕ) (l : List ℕ) → from ≤ length l → take (length l - from) (drop from l) ≡ drop from l
-part-all from l h = take-all (length l - from) (drop from l) (simp length-drop (omega arith))
-
-module _ (size address n : ℕ) (some : 1 ≤ n) where
-  fits-by : (b c : Bool) → leb BASE address ≡ b → leb (address - BASE + n) size ≡ c → fits BASE size address n ≡ (b and c)
-  unfolding fits _or_
-  fits-by b c e f = let z : eqb n 0 ≡ false = ne-eqb n 0 (λ x. omega arith) in rw (z, e, f) refl
-
-  pub fits-no : address < BASE → fits BASE size address n ≡ false
-  unfolding _and_
-  fits-no h = fits-by false (leb (address - BASE + n) size) (lt-leb _ _ h) refl
-
-  pub fits-not : BASE ≤ address → size < address - BASE + n → fits BASE size address n ≡ false
-  unfolding _and_
-  fits-not g h = fits-by true false (le-leb _ _ g) (lt-leb _ _ h)
-
-  pub fits-yes : BASE ≤ address → address - BASE + n ≤ size → fits BASE size address n ≡ true
-  unfolding _and_
-  fits-yes g h = fits-by true true (le-leb _ _ g) (le-leb _ _ h)
-
--- both facts of a fill, by whether its range fits
-pub fill-no : (address : ℕ) (bs memory : List ℕ) → fits BASE (length memory) address (length bs) ≡ false
-    → (Refused InvalidArgs ≡ fillAnswer (length memory) address (length bs)) × (memory ≡ filled address bs memory)
-unfolding fillAnswer filled pick refuseUnless _then_
-fill-no address bs memory e = (rw e refl, rw e refl)
-
-pub fill-yes : (address : ℕ) (bs memory : List ℕ) → fits BASE (length memory) address (length bs) ≡ true
-    → (Done (Count (length bs)) ≡ fillAnswer (length memory) address (length bs)) × (place (address - BASE) bs memory ≡ filled address bs memory)
-unfolding fillAnswer filled pick refuseUnless _then_
-fill-yes address bs memory e = (rw e refl, rw e refl)
-
--- the body of a fill
-off : {X : Type 0} (x y : X) → pick false x y ≡ y
-unfolding pick
-off x y = refl
-
-never : _≡_ {A = Bool} false true → ⊥
-never e = let z : _≡_ {A = ℕ} 0 1 = ap (λ (b : Bool). cond b 1 0) e in omega arith
-
-fill-cases : (b c d : Bool) → pick b (pick c false d) false ≡ true → (c ≡ false) × (d ≡ true)
-unfolding pick
-fill-cases true true d e = absurd (let z : _≡_ {A = Bool} false true = e in never z)
-fill-cases true false d e = (refl, e)
-fill-cases false c d e = absurd (never e)
-
-pub fill-body : (tag n : ℕ) → 11 ≤ tag → isBody tag n ≡ true → (9 ≤ n) × (n ≤ 4104)
-unfolding isBody
-fill-body tag n h e =
-    let f : (ltb n 9 ≡ false) × (leb n 4104 ≡ true) =
-    fill-cases (ltb tag 12) (ltb n 9) (leb n 4104)
-    (simp (le-ltb tag 1 (omega arith), le-ltb tag 3 (omega arith), le-ltb tag 4 (omega arith), le-ltb tag 5 (omega arith), le-ltb tag 7 (omega arith), le-ltb tag 9 (omega arith), le-ltb tag 10 (omega arith), le-ltb tag 11 (omega arith), off) at e)
-    in
-    (ltb-false n 9 (f .0), leb-true n 4104 (f .1))
-
 -- ---- by the tag
 
 module _ (memory : List ℕ) (z : Rings) (p : Pair) (tag : ℕ) (b memory′ : List ℕ) (z′ : Rings) (r : Step) where
@@ -182,6 +122,9 @@ pub fill-done : (memory memory′ : List ℕ) (z : Rings) (p : Pair) (address : 
     → (a ≡ fillAnswer (length memory) address (length bs)) × (memory′ ≡ filled address bs memory) → CallDone (fillCall memory z p address bs) memory′ z (mk p a)
 unfolding fillCall
 fill-done memory memory′ z p address bs a w = record { step = ap (λ (x : Answer). mk p x) (w .0); memory = w .1; lent = refl }
+
+never : _≡_ {A = Bool} false true → ⊥
+never e = let z : _≡_ {A = ℕ} 0 1 = ap (λ (b : Bool). cond b 1 0) e in omega arith
 
 -- a body that is right, and one that is not
 module _ {memory : List ℕ} {z : Rings} {p : Pair} {tag : ℕ} {b : List ℕ} where

@@ -3,12 +3,9 @@ use Prim.Native.Nat.{ℕ, _-_}
 use mathlib.Core.Path.{_≡_}
 use mathlib.Core.List.{List}
 use lib.ListN.{length, drop}
-use Rattle.status.specs.declared.Status.the-variants.{InvalidArgs}
-use Rattle.status.specs.declared.Record.the-variants.{Count}
 use Rattle.status.specs.declared.Answer.{Answer}
-use Rattle.status.specs.declared.Answer.the-variants.{Done}
 use Rattle.status.specs.Choice.{pick}
-use Rattle.status.specs.Answer.{refuseUnless, _then_, countOf, isDone}
+use Rattle.status.specs.Answer.{countOf, isDone}
 use Rattle.endpoint.specs.Queue.{firstLength}
 use Rattle.socket.specs.declared.Pair.{Pair}
 use Rattle.socket.specs.declared.Step.{Step}
@@ -16,12 +13,12 @@ use Rattle.socket.specs.Pair.{isOne, own, peer}
 use Rattle.socket.specs.Tests.{lentOf}
 use Rattle.socket.specs.Write.{pairWritten, ringWritten, tableWritten}
 use Rattle.socket.specs.Read.{pairRead}
-use Rattle.user_memory.specs.Memory.{fits, countLanded}
+use Rattle.user_memory.specs.Memory.{countLanded}
 use Rattle.syscall.specs.Write.{userWriteAnswer}
 use Rattle.syscall.specs.Read.{isPeek, userReadAnswer, bytesLanded}
-use Rattle.text.specs.Put.{place}
 use Rattle.record.specs.declared.fields.Transfer.{Transfer}
 use Rattle.delivered.specs.Delivered.{BASE}
+use Rattle.fill.specs.Fill.{fillAnswer, filled}
 use Rattle.plain_call.specs.Rings.{Rings, ownRing, ownTable, peerRing, peerTable, withPeer}
 
 -- what a call leaves
@@ -77,13 +74,7 @@ gotBy memory z p t a =
 unfoldable pub readCall : (memory : List ℕ) → Rings → Pair → Transfer → Called
 readCall memory z p t = gotBy memory z p t (readAnswerOf memory z p t)
 
--- fill is no call on the pair: its bytes land where their range fits
-unfoldable pub fillAnswer : (size address n : ℕ) → Answer
-fillAnswer size address n = refuseUnless (fits BASE size address n) InvalidArgs then Done (Count n)
-
-unfoldable pub filled : (address : ℕ) → (bytes memory : List ℕ) → List ℕ
-filled address bs memory = pick (fits BASE (length memory) address (length bs)) (place (address - BASE) bs memory) memory
-
+-- 01 "Script program", tag 11: no call on the pair
 unfoldable pub fillCall : (memory : List ℕ) → Rings → Pair → (address : ℕ) → (bytes : List ℕ) → Called
 fillCall memory z p address bs =
     record { step = record { pair = p; answer = fillAnswer (length memory) address (length bs) }; memory = filled address bs memory; lent = z }

@@ -1,4 +1,5 @@
 // The call that a record makes on the pair, on memory, and on the rings and tables of both ends.
+use fill::BASE;
 use pair_outcome::PairOutcome;
 use pair_outcome::unchanged;
 use pair_outcome::visits;
@@ -7,18 +8,11 @@ use record::fields::Transfer;
 use socket::Pair;
 use socket::ends_of;
 use status::Answer;
-use status::Record;
 use status::Status;
-ghost use Prim.Native.Nat.{_≤_};
-ghost use mathlib.Core.Path.{_≡_};
-ghost use lib.ListN.{length};
 ghost use Rattle.pair_outcome.specs.PairOutcome.{outcomeStep};
 ghost use Rattle.plain_call.specs.Rings.{rings};
-ghost use Rattle.call.specs.Transfer.{writeCall, readCall, fillAnswer, filled, CallDone};
+ghost use Rattle.call.specs.Transfer.{writeCall, readCall, CallDone};
 ghost use Rattle.call.specs.Call.{CallMade};
-
-// Where the memory begins.
-const BASE: u64 = 65536;
 
 // A write is lent the ring and the table of the peer.
 fn write(
@@ -100,22 +94,6 @@ fn read(
     ))
 }
 
-// Puts bytes into memory where their range fits.
-fn fill(memory: &mut [u8], address: u64, bytes: &[u8]) -> Answer
-    requires { ⌜ (1 ≤ length (now bytes)) × (length (now bytes) ≤ 4096) ⌝ }
-    ensures { λ r. ⌜ (r ≡ fillAnswer (length (now (memory .entry))) address (length (now (bytes .entry)))) × (now (memory .exit) ≡ filled address (now (bytes .entry)) (now (memory .entry))) ⌝ }
-{
-    if address < BASE {
-        return Answer::Refused(Status::InvalidArgs);
-    }
-    let at = (address - BASE) as usize;
-    if text::has_room(memory.len(), at, bytes.len()) {
-        text::copy(memory, at, bytes);
-        return Answer::Done(Record::Count(bytes.len() as u32));
-    }
-    Answer::Refused(Status::InvalidArgs)
-}
-
 // By the tag; the count of a read does not land yet, and the table of places is rebuilt last. What it leaves of the pair may be said in several ways;
 // each has this step. With a body that is not right for the tag no call is made.
 pub fn call(
@@ -153,8 +131,7 @@ pub fn call(
             table_two,
         ),
         11..=255 => {
-            let address = fields::u64_at(body, 0);
-            let answer = fill(memory, address, &body[8..]);
+            let answer = fill::fill(memory, body);
             unchanged(p, answer)
         }
         0 | 3..=10 => plain_call::plain(p, tag, body, ring_one, table_one, ring_two, table_two),

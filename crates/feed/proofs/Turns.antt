@@ -18,7 +18,7 @@ use Rattle.socket.specs.Pair.{isHandle, shownBy}
 use Rattle.pair_outcome.specs.declared.PairOutcome.{PairOutcome}
 use Rattle.pair_outcome.specs.PairOutcome.{unchangedPair, nextPair, outcomeStep}
 use Rattle.pair_outcome.proofs.Steps.{unchanged-step, next-one, next-two}
-use Rattle.call.proofs.Calls.{part-all}
+use Rattle.fill.proofs.Fills.{part-all}
 use Rattle.feed.specs.declared.State.{State}
 use Rattle.feed.specs.declared.turn.StateChange.{StateChange}
 use Rattle.feed.specs.declared.turn.Stepped.{Stepped}

@@ -10,7 +10,7 @@ use lib.Dec.{leb}
 use lib.ListN.{length, take, drop, length-take, length-drop, length-append, drop-of-length-le}
 use lib.Seq.{drop-drop, take-all, take-append-add, take-append-le}
 use borrow.Author.Tests.{le-leb, leb-true, leb-false}
-use borrow.Rule.Slice.PartMut.{midOf, putMid, postOf}
+use borrow.Rule.Slice.PartMut.{midOf, putMid, postOf, same-len-mid}
 use Rattle.status.specs.Choice.{pick, _and_}
 use Rattle.places.proofs.Lists.{either}
 use Rattle.text.specs.Put.{place, Put, Written}
@@ -53,6 +53,12 @@ ready input memory hi hm = simp (le-leb input 4611686018427387904 hi, le-leb mem
 -- a list, when its part from a place on is back
 abbrev pub behind : (at : ℕ) → (l part : List ℕ) → List ℕ
 behind at l part = putMid at (length l - at) l part
+
+-- the output keeps its length when the part behind the header is back, and then the part behind the lines
+pub out-length : (n w : ℕ) (out out₁ sub sub₂ : List ℕ) → length out₁ ≡ length out → length sub ≡ length (midOf n (length out₁ - n) out₁)
+    → length sub₂ ≡ length (midOf (n + w) (length (behind n out₁ sub) - (n + w)) (behind n out₁ sub)) → length (behind (n + w) (behind n out₁ sub) sub₂) ≡ length out
+out-length n w out out₁ sub sub₂ same₁ same same₂ =
+    same-len-mid (n + w) (length (behind n out₁ sub) - (n + w)) (behind n out₁ sub) sub₂ same₂ ∙ same-len-mid n (length out₁ - n) out₁ sub same ∙ same₁
 
 module _ (s memory memory′ l sub l₂ sub₂ : List ℕ) (z z′ : Rings) (c : ℕ) (f : Fed)
     (d : FeedDone startState 0 s memory memory′ z z′ l sub f)
@@ -115,24 +121,46 @@ text-is room m s hd b cl i j f eh ei eb ej ec et ee =
     ∙ ap (λ (k : ℕ). hd ++ linesText k s (fedOf 0 k m s)) ei
     ∙ ap (λ (v : List ℕ). v ++ linesText (room - length v) s (fedOf 0 (room - length v) m s)) eh
 
+-- what the block leaves of memory, rings and tables
+ran-lent :
+    {s memory memory′ out out₁ l sub : List ℕ} {z z′ : Rings} {n : ℕ} {st : State} {f : Fed}
+    → st ≡ startState → Written 22 0 header n out out₁ → length out₁ ≡ length out → FeedDone st 0 s memory memory′ z z′ l sub f
+    → l ≡ midOf n (length out₁ - n) out₁ → RanLent (length out) (machine startState memory z) s memory′ z′
+unfolding ranMachine
+ran-lent {s} {memory} {memory′} {out} {out₁} {l} {sub} {z} {z′} {n} {st} {f} e h same d₀ part =
+    let m : Machine = machine startState memory z in
+    let d : FeedDone startState 0 s memory memory′ z z′ l sub f = rw e at d₀ in
+    let hd : List ℕ = ifRoom 22 (length out) header in
+    let x = put-if h in
+    let begins : n ≤ length out = written-fits h (omega arith) in
+    let k : length l ≡ length out - length hd =
+    ap length part ∙ (omega (arith, length-take (length out₁ - n) (drop n out₁), length-drop n out₁, x .0)) in
+    let a : machine (f .state) memory′ z′ ≡ fedOf 0 (length out - length hd) m s .after = d .block .after ∙ ap (λ (j : ℕ). fedOf 0 j m s .after) k in
+    record { memory = ap (λ (v : Machine). v .memory) a; lent = ap (λ (v : Machine). v .lent) a }
+
 -- the header, the lines in the part behind it, and the end of the input in the part behind these
 pub ran :
     {s memory memory′ out out₁ l sub l₂ sub₂ : List ℕ} {z z′ : Rings} {n c : ℕ} {st : State} {f : Fed}
     → length memory ≤ 4096 → st ≡ startState → Written 22 0 header n out out₁ → length out₁ ≡ length out
-    → FeedDone st 0 s memory memory′ z z′ l sub f → n + length sub ≡ length out
-    → Written 26 0 (closing (f .taken) (f .state .ended) (midOf (f .taken) (length s - f .taken) s)) c l₂ sub₂
-    → n + f .written + length l₂ ≡ length out → length sub₂ ≡ length l₂ → n + f .written ≤ length (behind n out₁ sub)
-    → length (behind (n + f .written) (behind n out₁ sub) sub₂) ≡ length out
+    → FeedDone st 0 s memory memory′ z z′ l sub f → length sub ≡ length l
+    → Written 26 0 (closing (f .taken) (f .state .ended) (midOf (f .taken) (length s - f .taken) s)) c l₂ sub₂ → length sub₂ ≡ length l₂
     → l ≡ midOf n (length out₁ - n) out₁ → l₂ ≡ midOf (n + f .written) (length (behind n out₁ sub) - (n + f .written)) (behind n out₁ sub)
     → Ran (machine startState memory z) s (n + f .written + c) out (behind (n + f .written) (behind n out₁ sub) sub₂)
-ran {s} {memory} {memory′} {out} {out₁} {l} {sub} {l₂} {sub₂} {z} {z′} {n} {c} {st} {f} small e h same₁ d₀ len w₀ len₂ same₂ within all part part₂ =
+    × RanLent (length out) (machine startState memory z) s memory′ z′
+ran {s} {memory} {memory′} {out} {out₁} {l} {sub} {l₂} {sub₂} {z} {z′} {n} {c} {st} {f} small e h same₁ d₀ same w₀ same₂ part part₂ =
     let d : FeedDone startState 0 s memory memory′ z z′ l sub f = rw e at d₀ in
     let left : midOf (f .taken) (length s - f .taken) s ≡ drop (f .taken) s = take-all (length s - f .taken) (drop (f .taken) s) (omega (arith, length-drop (f .taken) s)) in
     let w : Written 26 0 (closing (f .taken) (f .state .ended) (drop (f .taken) s)) c l₂ sub₂ = rw left at w₀ in
     let at : ℕ = n + f .written in
     let out₂ : List ℕ = behind n out₁ sub in
+    let same₀ : length sub ≡ length (midOf n (length out₁ - n) out₁) = same ∙ ap length part in
+    let len₁ : length out₂ ≡ length out = same-len-mid n (length out₁ - n) out₁ sub same₀ ∙ same₁ in
+    let all : length (behind at out₂ sub₂) ≡ length out = out-length n (f .written) out out₁ sub sub₂ same₁ same₀ (same₂ ∙ ap length part₂) in
     let rests : c ≤ length l₂ = written-fits w (omega arith) in
     let begins : n ≤ length out = written-fits h (omega arith) in
+    let len : n + length sub ≡ length out = omega (arith, same₀, length-take (length out₁ - n) (drop n out₁), length-drop n out₁) in
+    let within : at ≤ length out₂ = omega (arith, d .fits) in
+    let len₂ : at + length l₂ ≡ length out = omega (arith, ap length part₂, length-take (length out₂ - at) (drop at out₂), length-drop at out₂) in
     let m : Machine = machine startState memory z in
     let hd : List ℕ = ifRoom 22 (length out) header in
     let x = put-if h in
@@ -155,35 +183,20 @@ ran {s} {memory} {memory′} {out} {out₁} {l} {sub} {l₂} {sub₂} {z} {z′}
     ∙ place-place 0 (hd ++ b .text) cl out (omega (arith, x .0, d .block .written, length-append hd (b .text)))
     in
     let t : (hd ++ b .text) ++ cl ≡ ranText (length out) m s = text-is (length out) m s hd b cl (length l) (length l₂) f refl (ll ∙ (omega (arith, x .0))) refl (omega (arith, x .0, d .block .written)) refl
-    (d .block .taken) (ap (λ (v : Machine). v .state .ended) (d .block .after)) in
-    record {
-      fits = omega arith;
-      next = omega (arith, x .0, d .block .written, y .0, length-append hd (b .text), length-append (hd ++ b .text) cl, ap length t);
-      text = o₃ ∙ ap (λ (v : List ℕ). place 0 v out) t;
-      whole = λ hs room.
-          let front : take n out₁ ≡ header = put-all (h .fit .put (omega arith)) in
-          let text : take (f .written) sub ++ take c sub₂ ≡ run 0 (machine startState memory z) s =
-          lines s memory memory′ l sub l₂ sub₂ z z′ c f d w small hs (omega arith) (omega arith) in
-          two at c out₂ sub₂ (postOf at (length out₂ - at) out₂) within (omega arith)
-          ∙ ap (λ (x : List ℕ). x ++ take c sub₂) (two n (f .written) out₁ sub (postOf n (length out₁ - n) out₁) (omega arith) (d .fits))
-          ∙ append-assoc (take n out₁) (take (f .written) sub) (take c sub₂)
-          ∙ ap (λ (x : List ℕ). x ++ (take (f .written) sub ++ take c sub₂)) front
-          ∙ ap (λ (x : List ℕ). header ++ x) text;
-    }
-
--- what the block leaves of memory, rings and tables
-pub ran-lent :
-    {s memory memory′ out out₁ l sub : List ℕ} {z z′ : Rings} {n : ℕ} {st : State} {f : Fed}
-    → st ≡ startState → Written 22 0 header n out out₁ → length out₁ ≡ length out → FeedDone st 0 s memory memory′ z z′ l sub f
-    → l ≡ midOf n (length out₁ - n) out₁ → RanLent (length out) (machine startState memory z) s memory′ z′
-unfolding ranMachine
-ran-lent {s} {memory} {memory′} {out} {out₁} {l} {sub} {z} {z′} {n} {st} {f} e h same d₀ part =
-    let m : Machine = machine startState memory z in
-    let d : FeedDone startState 0 s memory memory′ z z′ l sub f = rw e at d₀ in
-    let hd : List ℕ = ifRoom 22 (length out) header in
-    let x = put-if h in
-    let begins : n ≤ length out = written-fits h (omega arith) in
-    let k : length l ≡ length out - length hd =
-    ap length part ∙ (omega (arith, length-take (length out₁ - n) (drop n out₁), length-drop n out₁, x .0)) in
-    let a : machine (f .state) memory′ z′ ≡ fedOf 0 (length out - length hd) m s .after = d .block .after ∙ ap (λ (j : ℕ). fedOf 0 j m s .after) k in
-    record { memory = ap (λ (v : Machine). v .memory) a; lent = ap (λ (v : Machine). v .lent) a }
+    (d .block .taken) (ap (λ (v : Machine). v .state .ended) (d .block .after)) in (
+      record {
+        fits = omega arith;
+        next = omega (arith, x .0, d .block .written, y .0, length-append hd (b .text), length-append (hd ++ b .text) cl, ap length t);
+        text = o₃ ∙ ap (λ (v : List ℕ). place 0 v out) t;
+        whole = λ hs room.
+            let front : take n out₁ ≡ header = put-all (h .fit .put (omega arith)) in
+            let text : take (f .written) sub ++ take c sub₂ ≡ run 0 (machine startState memory z) s =
+            lines s memory memory′ l sub l₂ sub₂ z z′ c f d w small hs (omega arith) (omega arith) in
+            two at c out₂ sub₂ (postOf at (length out₂ - at) out₂) within (omega arith)
+            ∙ ap (λ (x : List ℕ). x ++ take c sub₂) (two n (f .written) out₁ sub (postOf n (length out₁ - n) out₁) (omega arith) (d .fits))
+            ∙ append-assoc (take n out₁) (take (f .written) sub) (take c sub₂)
+            ∙ ap (λ (x : List ℕ). x ++ (take (f .written) sub ++ take c sub₂)) front
+            ∙ ap (λ (x : List ℕ). header ++ x) text;
+      },
+      ran-lent e h same₁ d₀ part,
+    )

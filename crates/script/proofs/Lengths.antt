@@ -28,7 +28,8 @@ use Rattle.line.specs.Line.{LINE}
 use Rattle.line.proofs.Lengths.{line-most, stop-most}
 use Rattle.delivered.specs.Delivered.{BASE, delivered, settled}
 use Rattle.plain_call.specs.Rings.{Rings, ownRing, ownTable, peerRing, peerTable}
-use Rattle.call.specs.Transfer.{Called, writeAnswerOf, wroteBy, writeCall, readAnswerOf, gotBy, readCall, filled, fillCall}
+use Rattle.fill.specs.Fill.{filled}
+use Rattle.call.specs.Transfer.{Called, writeAnswerOf, wroteBy, writeCall, readAnswerOf, gotBy, readCall, fillCall}
 use Rattle.call.specs.Call.{callOf}
 use Rattle.record.specs.Order.{isMisplaced}
 use Rattle.feed.specs.Machine.{Machine, Move, stay, halt, go, moveBy, moveOf, stepped, calledLine, stepLine}

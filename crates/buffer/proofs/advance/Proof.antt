@@ -36,7 +36,9 @@ add-standing : tie.Need-add-standing
 add-standing c =
     let a = c .before .before .before .before .before .before .before .before .before .before .before .before .before .before .before .before .before .before .before .before .before .before .before .before .before .before .before .before .before .before .before .before .before .before .before .args in
     let h : a .p .offset < 18446744073709551616 = omega (arith, c .before .before .before .before .before .before .before .before .before .before .before .before .before .before .before .before .before .before .before .before .before .before .before .before .before .before .before .before .before .before .before .before .before .before .before .good) in
-    let n : a .p .offset + c .before .before .before .before .before .before .before .before .before .before .before .before .before .before .before .before .before .feed .result .taken < 18446744073709551616 = no-wrap (c .before .before .before .before .before .before .before .before .before .before .before .before .before .before .before .before .before .feed .ensures) h in
+    let f = c .before .before .before .before .before .before .before .before .before .before .before .before .before .before .before .before .before .feed in
+    let n : a .p .offset + f .result .taken < 18446744073709551616 =
+    no-wrap {z = rings (now (a .ring-one)) (now (a .table-one)) (now (a .ring-two)) (now (a .table-two))} {z′ = rings (f .last .1 .1 .1 .1 .0) (f .last .1 .1 .1 .1 .1 .0) (f .last .1 .1 .1 .1 .1 .1 .0) (f .last .1 .1 .1 .1 .1 .1 .1 .0)} (f .ensures) h in
     omega (arith, n)
 
 sub-standing : tie.Need-sub-standing
@@ -52,27 +54,28 @@ same-length-2 : tie.Need-same-length-2
 same-length-2 c = c .before .before .before .before .before .before .before .before .before .before .before .before .before .before .before .before .before .before .feed .kept .1 .1 .1 .0
 
 same-length-3 : tie.Need-same-length-3
-same-length-3 c = search needs
+same-length-3 c = c .before .before .before .before .before .before .before .before .before .before .before .before .before .before .before .before .before .before .feed .kept .1 .1 .1 .1 .0
 
 same-length-4 : tie.Need-same-length-4
-same-length-4 c = search needs
+same-length-4 c = c .before .before .before .before .before .before .before .before .before .before .before .before .before .before .before .before .before .before .feed .kept .1 .1 .1 .1 .1 .0
 
 same-length-5 : tie.Need-same-length-5
-same-length-5 c = search needs
+same-length-5 c = c .before .before .before .before .before .before .before .before .before .before .before .before .before .before .before .before .before .before .feed .kept .1 .1 .1 .1 .1 .1 .0
 
 same-length-6 : tie.Need-same-length-6
-same-length-6 c = search needs
+same-length-6 c = c .before .before .before .before .before .before .before .before .before .before .before .before .before .before .before .before .before .before .feed .kept .1 .1 .1 .1 .1 .1 .1 .0
 
 same-length-7 : tie.Need-same-length-7
-same-length-7 c = search needs
+same-length-7 c = c .before .before .before .before .before .before .before .before .before .before .before .before .before .before .before .before .before .before .feed .kept .1 .1 .1 .1 .1 .1 .1 .1 .0
 
 returns-2 : tie.Need-returns-2
 returns-2 c =
     let a = c .before .before .before .before .before .before .before .before .before .before .before .before .before .before .before .before .before .before .before .before .before .before .before .before .before .before .before .before .before .before .before .before .before .before .before .before .args in
-    advance-done (a .p) _ (now (a .buffer)) _ (now (a .memory)) _ (rings (now (a .ring-one)) (now (a .table-one)) (now (a .ring-two)) (now (a .table-two))) _ (now (a .out)) _ (c .before .before .before .before .before .before .before .before .before .before .before .before .before .before .before .before .before .before .feed .result) (c .standing2 .result)
+    let f = c .before .before .before .before .before .before .before .before .before .before .before .before .before .before .before .before .before .before .feed in
+    advance-done (a .p) _ (now (a .buffer)) _ (now (a .memory)) (f .last .1 .1 .1 .0) (rings (now (a .ring-one)) (now (a .table-one)) (now (a .ring-two)) (now (a .table-two))) (rings (f .last .1 .1 .1 .1 .0) (f .last .1 .1 .1 .1 .1 .0) (f .last .1 .1 .1 .1 .1 .1 .0) (f .last .1 .1 .1 .1 .1 .1 .1 .0)) (now (a .out)) (f .last .1 .1 .1 .1 .1 .1 .1 .1 .0) (f .result) (c .standing2 .result)
     (omega (arith, c .before .before .before .before .before .before .before .before .before .before .before .before .before .before .before .before .before .before .before .before .before .before .before .before .before .before .before .if1 .left))
     (let e : a .p .used - 0 ≡ a .p .used = omega arith in ap (λ (n : ℕ). take n (now (a .buffer))) e)
-    (c .before .before .before .before .before .before .before .before .before .before .before .before .before .before .before .before .before .before .feed .ensures) (c .before .before .before .shift .ensures) (c .standing2 .ensures)
+    (f .ensures) (c .before .before .before .shift .ensures) (c .standing2 .ensures)
 
 pub advance-spec : {M : Type 1} → statement M
 advance-spec =

@@ -1,12 +1,10 @@
-use Prim.Native.Nat.{_-_}
 use borrow.Author.Needs.{needs}
-use denote.Ref.{now}
-use lib.ListN.{length, take, drop, length-drop}
-use lib.Seq.{length-take-le}
 use mathlib.Core.Logic.{⊎-elim}
-use mathlib.Core.Path.{_≡_}
+use mathlib.Core.Path.{refl}
 use native.Mathlib.Omega.{arith}
-use Rattle.call.proofs.Calls.{part-all, fill-body, write-call, read-call, fill-call, plain-call, fill-done, no-call, made, unchanged-done}
+use Rattle.call.proofs.Calls.{write-call, read-call, fill-call, plain-call, fill-done, no-call, made, unchanged-done}
+use Rattle.fill.proofs.Fills.{fill-right}
+use Rattle.plain_call.specs.Rings.{rings}
 use Rattle.pair_outcome.proofs.Steps.{unchanged-is}
 use Rattle.status.proofs.Rules.{via-not, via-not-not}
 use Rattle.call.proofs.call.Statement.{statement}
@@ -33,24 +31,8 @@ transfer-at-requires-2 c κs = search needs
 read-requires : tie.Need-read-requires
 read-requires c κs = search needs
 
-u64-at-requires : tie.Need-u64-at-requires
-u64-at-requires c κs = search needs
-
-sub-fill : tie.Need-sub-fill
-sub-fill c = omega (arith, fill-body (c .before .before .before .before .before .before .before .before .before .before .before .before .args .tag) (length (now (c .before .before .before .before .before .before .before .before .before .before .before .before .args .body))) (c .before .before .if2 .left) (via-not-not (c .before .before .before .before .before .is-body .ensures) (c .before .before .before .before .if1 .left)))
-
-part-fill-start : tie.Need-part-fill-start
-part-fill-start c = omega (arith, fill-body (c .before .before .before .before .before .before .before .before .before .before .before .before .args .tag) (length (now (c .before .before .before .before .before .before .before .before .before .before .before .before .args .body))) (c .before .before .if2 .left) (via-not-not (c .before .before .before .before .before .is-body .ensures) (c .before .before .before .before .if1 .left)))
-
-part-fill-end : tie.Need-part-fill-end
-part-fill-end c = search needs
-
 fill-requires : tie.Need-fill-requires
-fill-requires c κs =
-    let b = now (c .before .before .before .before .before .before .before .before .before .before .before .before .before .args .body) in
-    let n : length (take (length b - 8) (drop 8 b)) ≡ length b - 8 = length-take-le (length b - 8) (drop 8 b) (omega (arith, length-drop 8 b)) in
-    let w = fill-body (c .before .before .before .before .before .before .before .before .before .before .before .before .before .args .tag) (length (now (c .before .before .before .before .before .before .before .before .before .before .before .before .before .args .body))) (c .before .before .before .if2 .left) (via-not-not (c .before .before .before .before .before .before .is-body .ensures) (c .before .before .before .before .before .if1 .left)) in
-    (omega (arith, n, w), omega (arith, n, w))
+fill-requires c κs = search needs
 
 unchanged-requires-2 : tie.Need-unchanged-requires-2
 unchanged-requires-2 c κs = search needs
@@ -59,39 +41,39 @@ plain-requires : tie.Need-plain-requires
 plain-requires c κs = search needs
 
 same-length : tie.Need-same-length
-same-length c = search needs
+same-length c = c .before .before .before .before .before .before .before .before .before .before .write .kept .1 .1 .0
 
 same-length-2 : tie.Need-same-length-2
-same-length-2 c = search needs
+same-length-2 c = c .before .before .before .before .before .before .before .before .before .before .write .kept .1 .1 .1 .0
 
 same-length-3 : tie.Need-same-length-3
-same-length-3 c = search needs
+same-length-3 c = c .before .before .before .before .before .before .before .before .before .before .write .kept .1 .1 .1 .1 .0
 
 same-length-4 : tie.Need-same-length-4
-same-length-4 c = search needs
+same-length-4 c = c .before .before .before .before .before .before .before .before .before .before .write .kept .1 .1 .1 .1 .1 .0
 
 same-length-5 : tie.Need-same-length-5
-same-length-5 c = search needs
+same-length-5 c = c .before .before .before .before .before .before .before .before .before .before .write .kept .1 .1 .1 .1 .1 .1 .0
 
 returns-2 : tie.Need-returns-2
 returns-2 c =
-    made (via-not-not (c .before .before .before .before .before .before .before .before .before .before .before .before .before .before .before .before .before .before .before .is-body .ensures) (c .before .before .before .before .before .before .before .before .before .before .before .before .before .before .before .before .before .before .if1 .left))
+    made {z′ = rings (c .before .before .before .before .before .before .before .before .before .before .write .last .1 .1 .1 .0) (c .before .before .before .before .before .before .before .before .before .before .write .last .1 .1 .1 .1 .0) (c .before .before .before .before .before .before .before .before .before .before .write .last .1 .1 .1 .1 .1 .0) (c .before .before .before .before .before .before .before .before .before .before .write .last .1 .1 .1 .1 .1 .1 .0)} (via-not-not (c .before .before .before .before .before .before .before .before .before .before .before .before .before .before .before .before .before .before .before .is-body .ensures) (c .before .before .before .before .before .before .before .before .before .before .before .before .before .before .before .before .before .before .if1 .left))
     (write-call _ _ _ _ _ _ _ _ (c .before .before .before .before .before .before .before .before .before .before .before .before .before .before .before .before .before .match .keys1) (rw (← c .before .before .before .before .before .before .before .before .before .before .before .before .before .before .before .before .transfer-at .ensures) (c .before .before .before .before .before .before .before .before .before .before .write .ensures)))
 
 same-length-6 : tie.Need-same-length-6
-same-length-6 c = search needs
+same-length-6 c = c .before .before .read .kept .1 .1 .0
 
 same-length-7 : tie.Need-same-length-7
-same-length-7 c = search needs
+same-length-7 c = refl
 
 same-length-8 : tie.Need-same-length-8
-same-length-8 c = search needs
+same-length-8 c = refl
 
 same-length-9 : tie.Need-same-length-9
-same-length-9 c = search needs
+same-length-9 c = refl
 
 same-length-10 : tie.Need-same-length-10
-same-length-10 c = search needs
+same-length-10 c = refl
 
 returns-3 : tie.Need-returns-3
 returns-3 c =
@@ -99,30 +81,28 @@ returns-3 c =
     (read-call _ _ _ _ _ _ _ _ (c .before .before .before .before .before .before .before .before .before .match .keys2) (rw (← c .before .before .before .before .before .before .before .before .transfer-at2 .ensures) (c .before .before .read .ensures)))
 
 same-length-11 : tie.Need-same-length-11
-same-length-11 c = search needs
+same-length-11 c = c .before .before .before .fill .kept .0
 
 returns-4 : tie.Need-returns-4
 returns-4 c =
-    let a = c .before .before .before .before .before .before .before .before .before .before .before .before .before .before .before .before .before .args in
-    let b = now (a .body) in
-    let right = via-not-not (c .before .before .before .before .before .before .before .before .before .before .is-body .ensures) (c .before .before .before .before .before .before .before .before .before .if1 .left) in
-    let w = fill-body (a .tag) (length b) (c .before .before .before .before .before .before .before .if2 .left) right in
+    let right = via-not-not (c .before .before .before .before .before .before .before .before .is-body .ensures) (c .before .before .before .before .before .before .before .if1 .left) in
+    let late = c .before .before .before .before .before .if2 .left in
     made right
-    (fill-call _ _ _ _ _ _ _ _ (c .before .before .before .before .before .before .before .if2 .left)
+    (fill-call _ _ _ _ _ _ _ _ late
     (unchanged-done _ _ _ _ _ _ (c .unchanged2 .ensures)
-    (rw (← c .before .before .before .before .before .before .u64-at .ensures, ← part-all 8 b (omega (arith, w))) (fill-done _ _ _ _ _ _ _ (c .before .before .before .fill .ensures)))))
+    (fill-done _ _ _ _ _ _ _ (c .before .before .before .fill .ensures .made (fill-right _ _ late right)))))
 
 same-length-12 : tie.Need-same-length-12
-same-length-12 c = search needs
+same-length-12 c = refl
 
 same-length-13 : tie.Need-same-length-13
-same-length-13 c = search needs
+same-length-13 c = refl
 
 same-length-14 : tie.Need-same-length-14
-same-length-14 c = search needs
+same-length-14 c = refl
 
 same-length-15 : tie.Need-same-length-15
-same-length-15 c = search needs
+same-length-15 c = refl
 
 returns-5 : tie.Need-returns-5
 returns-5 c = made (via-not-not (c .before .before .before .before .before .before .before .is-body .ensures) (c .before .before .before .before .before .before .if1 .left)) (⊎-elim (λ w. plain-call _ _ _ (c .before .before .before .before .before .before .before .before .before .before .before .before .before .before .args .tag) _ _ (λ e. omega arith) (λ e. omega arith) (omega arith) (c .plain .ensures)) (λ w. plain-call _ _ _ (c .before .before .before .before .before .before .before .before .before .before .before .before .before .before .args .tag) _ _ (λ e. omega arith) (λ e. omega arith) (omega arith) (c .plain .ensures)) (c .before .before .before .before .before .match .came))
@@ -138,10 +118,6 @@ call-spec =
     write-requires
     transfer-at-requires-2
     read-requires
-    u64-at-requires
-    sub-fill
-    part-fill-start
-    part-fill-end
     fill-requires
     unchanged-requires-2
     plain-requires

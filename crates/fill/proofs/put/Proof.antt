@@ -1,9 +1,9 @@
 use borrow.Author.Needs.{needs}
 use denote.Ref.{now}
 use mathlib.Core.Path.{_∙_}
-use Rattle.call.proofs.Calls.{fits-no, fits-not, fits-yes, fill-no, fill-yes}
-use Rattle.call.proofs.fill.Statement.{statement}
-use Rattle.call.proofs.fill.Tie as tie
+use Rattle.fill.proofs.Fills.{fits-no, fits-not, fits-yes, fill-no, fill-yes}
+use Rattle.fill.proofs.put.Statement.{statement}
+use Rattle.fill.proofs.put.Tie as tie
 
 returns : tie.Need-returns
 returns c = fill-no (c .before .before .before .args .address) (now (c .before .before .before .args .bytes)) (now (c .before .before .before .args .memory)) (fits-no _ _ _ (c .before .before .before .pre .0) (c .if1 .taken))
@@ -29,7 +29,7 @@ returns-2 c =
 returns-3 : tie.Need-returns-3
 returns-3 c = fill-no (c .before .before .before .before .before .args .address) (now (c .before .before .before .before .before .args .bytes)) (now (c .before .before .before .before .before .args .memory)) (fits-not _ _ _ (c .before .before .before .before .before .pre .0) (c .before .before .if1 .left) (c .before .has-room .ensures .no (c .if2 .left)))
 
-pub fill-spec : {M : Type 1} → statement M
-fill-spec =
+pub put-spec : {M : Type 1} → statement M
+put-spec =
     tie.close
     (tie.spec returns has-room-requires copy-requires cast-t14 same-length returns-2 returns-3)

@@ -1,0 +1,2 @@
+-- Fills: what a fill says is what its definition says
+pub mod Fills
