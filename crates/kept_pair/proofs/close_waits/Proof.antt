@@ -48,6 +48,7 @@ use Rattle.socket.proofs.Pair as T
 use Rattle.socket.proofs.Pair.Laws as T′
 use Rattle.ends.proofs.Outcome as K
 use Rattle.ends.proofs.Outcome.Laws as K′
+use Rattle.kept_pair.proofs.Walk.{standing}
 use Rattle.kept_pair.proofs.Callees.{outcome-word-contract, to-outcome-word, goes-outcome-word, outcome-word-told, fires-contract, to-fires, goes-fires, fires-told, by-value-close-waits-contract, to-by-value-close-waits, goes-by-value-close-waits, by-value-close-waits-told}
 use Rattle.socket.specs.Pair.{isOne, own}
 use Rattle.socket.specs.Deferred.{visitedAll, withoutWaits, closedWaits}
@@ -114,12 +115,12 @@ module _ {M : Type 1} (𝓤 : URA M) (H : Heap 𝓤) (A : Atoms 𝓤) (W : Given
         use1 W (later (some (λ (y₆ : Pair). (‵ ftrue ⊛ ‵ (T.the-row .own y₆ (v₆ ∷ []))) ⊛ raw (ensured 𝓤 H A by-value-close-waits.ended (by-value-close-waits.clauses 𝓤 H A at-mem run) tt (h, (x₁, (r, tt))) tt y₆)))) (id⊢ 𝓤 _) $ await ! tt $ pick ! (λ y₆. split ! $ move ! (1 ∷ []) $ use1 W (raw (fact 𝓤 (y₆ ≡ visitedAll r (withoutWaits (isOne x₁) h)))) (by-value-close-waits-told 𝓤 H A at-mem run h x₁ r y₆) $ heard ! (y₆ ≡ visitedAll r (withoutWaits (isOne x₁) h)) (λ e₆. split ! $ drop ! $
         peeks ! T.the-row (Is T.the-row) (shows 𝓤 H A T.the-row) y₆ (v₆ ∷ []) (λ i₆. land ! (from ! (stop !)) (init ! 8 refl (LL.lawful T.the-type T′.the-laws 𝓤 H A W .typed y₆ _ i₆ .0)) $ rewrite ! 8 (λ (u : Val). ‵ (fat fullShare T′.mir l₆ 0 u)) (ap only (LL.tells T.the-type T′.the-laws y₆ (v₆ ∷ []) i₆)) refl $ rewrite ! 0 (λ (us : List Val). ‵ (T.the-row .own y₆ us)) (LL.tells T.the-type T′.the-laws y₆ (v₆ ∷ []) i₆) refl $ peeks ! T.the-row (Is T.the-row) (shows 𝓤 H A T.the-row) y₆ ((LL.vals T.the-type T′.the-laws) y₆) (λ s₆. drop ! $
         assigns-last ! (of-opd ! (load ! (from ! (stop !)) (look ! 7 refl))) (from ! (hop ! (look ! 17 refl) (stop !))) (store-raw ! 0 refl (LL.lawful T.the-type T′.the-laws 𝓤 H A W .typed y₆ _ s₆ .0)) $
-        exec ! C Λ _ code.Mir.t-4 (atRet _ Post) $ assigns ! (of-opd ! (load ! (from ! (stop !)) (look ! 11 refl))) (from ! (stop !)) (init ! 19 refl (sint-lawful 𝓤 H A W w64 .typed y₄ _ i₄ .0)) $
+        exec ! C Λ (standing code.Mir.locals (l₀ ∷ l₁ ∷ l₂ ∷ l₃ ∷ l₄ ∷ l₅ ∷ l₆ ∷ l₇ ∷ [])) code.Mir.t-4 (atRet (standing code.Mir.locals (l₀ ∷ l₁ ∷ l₂ ∷ l₃ ∷ l₄ ∷ l₅ ∷ l₆ ∷ l₇ ∷ [])) Post) $ assigns ! (of-opd ! (load ! (from ! (stop !)) (look ! 11 refl))) (from ! (stop !)) (init ! 19 refl (sint-lawful 𝓤 H A W w64 .typed y₄ _ i₄ .0)) $
         owned ! T.the-row (Is T.the-row) ((LL.makes T.the-type T′.the-plain) 𝓤 H A) y₆ _ s₆ $ move ! (1 ∷ 0 ∷ 2 ∷ 3 ∷ 4 ∷ []) $ closes ! tt T.the-row y₆ (LL.vals T.the-type T′.the-laws y₆) b o $
         returns ! (look ! 18 refl) $ forget ! 4 refl $ forget ! 6 refl $ forget ! 8 refl $ forget ! 10 refl $ forget ! 12 refl $ forget ! 14 refl $ forget ! 16 refl $ forget ! 18 refl $
         move ! (18 ∷ 19 ∷ []) $ free1 ! $ move ! (16 ∷ 17 ∷ []) $ free1 ! $ move ! (14 ∷ 15 ∷ []) $ free1 ! $ move ! (12 ∷ 13 ∷ []) $ free1 ! $ move ! (10 ∷ 11 ∷ []) $ free1 ! $ move ! (8 ∷ 9 ∷ []) $ free1 ! $ move ! (6 ∷ 7 ∷ []) $ free1 ! $ move ! (4 ∷ 5 ∷ []) $ free1 ! $ free0 ! $
         keep ! (0 ∷ 1 ∷ 2 ∷ 7 ∷ 3 ∷ []) $ by ! (exits y₆ y₄ v₄ (e₄, dropped-on x₁ r h y₆ y₅ e₅ on₅ e₆))))))))))
-        (λ off₅. skips ! $ exec ! C Λ _ code.Mir.t-4 (atRet _ Post) $ assigns ! (of-opd ! (load ! (from ! (stop !)) (look ! 7 refl))) (from ! (stop !)) (init ! 15 refl (sint-lawful 𝓤 H A W w64 .typed y₄ _ i₄ .0)) $
+        (λ off₅. skips ! $ exec ! C Λ (standing code.Mir.locals (l₀ ∷ l₁ ∷ l₂ ∷ l₃ ∷ l₄ ∷ l₅ ∷ l₆ ∷ l₇ ∷ [])) code.Mir.t-4 (atRet (standing code.Mir.locals (l₀ ∷ l₁ ∷ l₂ ∷ l₃ ∷ l₄ ∷ l₅ ∷ l₆ ∷ l₇ ∷ [])) Post) $ assigns ! (of-opd ! (load ! (from ! (stop !)) (look ! 7 refl))) (from ! (stop !)) (init ! 15 refl (sint-lawful 𝓤 H A W w64 .typed y₄ _ i₄ .0)) $
         returns ! (look ! 15 refl) $ forget ! 5 refl $ forget ! 7 refl $ forget ! 9 refl $ forget ! 11 refl $ forget ! 13 refl $ forget ! 15 refl $
         move ! (15 ∷ 16 ∷ []) $ free1 ! $ move ! (13 ∷ 14 ∷ []) $ free1 ! $ move ! (11 ∷ 12 ∷ []) $ free1 ! $ move ! (9 ∷ 10 ∷ []) $ free1 ! $ move ! (7 ∷ 8 ∷ []) $ free1 ! $ move ! (5 ∷ 6 ∷ []) $ free1 ! $ move ! (3 ∷ 4 ∷ []) $ free1 ! $ move ! (1 ∷ 2 ∷ []) $ free1 ! $ free0 ! $
         keep ! (1 ∷ 2 ∷ 6 ∷ 7 ∷ 0 ∷ []) $ by ! (exits h y₄ v₄ (e₄, dropped-off x₁ r h y₅ e₅ off₅)))))))))))))))))))))

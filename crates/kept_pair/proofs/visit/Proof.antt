@@ -49,6 +49,7 @@ use Rattle.socket.proofs.Pair as T
 use Rattle.socket.proofs.Pair.Laws as T′
 use Rattle.ends.proofs.Outcome as K
 use Rattle.ends.proofs.Outcome.Laws as K′
+use Rattle.kept_pair.proofs.Walk.{standing}
 use Rattle.kept_pair.proofs.Callees.{outcome-word-contract, to-outcome-word, goes-outcome-word, outcome-word-told, needs-visit-contract, to-needs-visit, goes-needs-visit, needs-visit-told, has-only-wait-contract, to-has-only-wait, goes-has-only-wait, has-only-wait-told, visit-only-contract, to-visit-only, goes-visit-only, visit-only-told, visit-each-contract, to-visit-each, goes-visit-each, visit-each-told}
 use Rattle.places.specs.Table.{onlyWait}
 use Rattle.socket.specs.Pair.{own}
@@ -132,7 +133,7 @@ module _ {M : Type 1} (𝓤 : URA M) (H : Heap 𝓤) (A : Atoms 𝓤) (W : Given
         use1 W (later (some (λ (y₈ : Pair). (‵ ftrue ⊛ ‵ (T.the-row .own y₈ (v₈ ∷ []))) ⊛ raw (ensured 𝓤 H A visit-only.ended (visit-only.clauses 𝓤 H A at-mem run) tt (h, (r, tt)) tt y₈)))) (id⊢ 𝓤 _) $ await ! tt $ pick ! (λ y₈. split ! $ move ! (1 ∷ []) $ use1 W (raw (fact 𝓤 (y₈ ≡ choose (onlyWait (h .places)) (visitedAll r h) h))) (visit-only-told 𝓤 H A at-mem run h r y₈) $ heard ! (y₈ ≡ choose (onlyWait (h .places)) (visitedAll r h) h) (λ e₈. split ! $ drop ! $
         peeks ! T.the-row (Is T.the-row) (shows 𝓤 H A T.the-row) y₈ (v₈ ∷ []) (λ i₈. land ! (from ! (stop !)) (init ! 12 refl (LL.lawful T.the-type T′.the-laws 𝓤 H A W .typed y₈ _ i₈ .0)) $ rewrite ! 12 (λ (u : Val). ‵ (fat fullShare T′.mir l₈ 0 u)) (ap only (LL.tells T.the-type T′.the-laws y₈ (v₈ ∷ []) i₈)) refl $ rewrite ! 0 (λ (us : List Val). ‵ (T.the-row .own y₈ us)) (LL.tells T.the-type T′.the-laws y₈ (v₈ ∷ []) i₈) refl $ peeks ! T.the-row (Is T.the-row) (shows 𝓤 H A T.the-row) y₈ ((LL.vals T.the-type T′.the-laws) y₈) (λ s₈. drop ! $
         assigns-last ! (of-opd ! (load ! (from ! (stop !)) (look ! 11 refl))) (from ! (hop ! (look ! 25 refl) (stop !))) (store-raw ! 0 refl (LL.lawful T.the-type T′.the-laws 𝓤 H A W .typed y₈ _ s₈ .0)) $
-        exec ! C Λ _ code.Mir.t-5 (atRet _ Post) $ assigns ! (of-opd ! (load ! (from ! (stop !)) (look ! 21 refl))) (from ! (stop !)) (init ! 27 refl (sint-lawful 𝓤 H A W w64 .typed y₃ _ i₃ .0)) $
+        exec ! C Λ (standing code.Mir.locals (l₀ ∷ l₁ ∷ l₂ ∷ l₃ ∷ l₄ ∷ l₅ ∷ l₆ ∷ l₇ ∷ l₈ ∷ l₉ ∷ l₁₀ ∷ l₁₁ ∷ [])) code.Mir.t-5 (atRet (standing code.Mir.locals (l₀ ∷ l₁ ∷ l₂ ∷ l₃ ∷ l₄ ∷ l₅ ∷ l₆ ∷ l₇ ∷ l₈ ∷ l₉ ∷ l₁₀ ∷ l₁₁ ∷ [])) Post) $ assigns ! (of-opd ! (load ! (from ! (stop !)) (look ! 21 refl))) (from ! (stop !)) (init ! 27 refl (sint-lawful 𝓤 H A W w64 .typed y₃ _ i₃ .0)) $
         owned ! T.the-row (Is T.the-row) ((LL.makes T.the-type T′.the-plain) 𝓤 H A) y₈ _ s₈ $ move ! (1 ∷ 0 ∷ 2 ∷ 3 ∷ 4 ∷ []) $ closes ! tt T.the-row y₈ (LL.vals T.the-type T′.the-laws y₈) b o $
         returns ! (look ! 26 refl) $ forget ! 8 refl $ forget ! 10 refl $ forget ! 12 refl $ forget ! 14 refl $ forget ! 16 refl $ forget ! 18 refl $ forget ! 20 refl $ forget ! 22 refl $ forget ! 24 refl $ forget ! 26 refl $
         move ! (26 ∷ 27 ∷ []) $ free1 ! $ move ! (24 ∷ 25 ∷ []) $ free1 ! $ move ! (22 ∷ 23 ∷ []) $ free1 ! $ move ! (20 ∷ 21 ∷ []) $ free1 ! $ move ! (18 ∷ 19 ∷ []) $ free1 ! $ move ! (16 ∷ 17 ∷ []) $ free1 ! $ move ! (14 ∷ 15 ∷ []) $ free1 ! $ move ! (12 ∷ 13 ∷ []) $ free1 ! $ move ! (10 ∷ 11 ∷ []) $ free1 ! $ move ! (8 ∷ 9 ∷ []) $ free1 ! $ move ! (6 ∷ 7 ∷ []) $ free1 ! $ move ! (4 ∷ 5 ∷ []) $ free1 ! $ free0 ! $
@@ -143,12 +144,12 @@ module _ {M : Type 1} (𝓤 : URA M) (H : Heap 𝓤) (A : Atoms 𝓤) (W : Given
         use1 W (later (some (λ (y₁₀ : Pair). (‵ ftrue ⊛ ‵ (T.the-row .own y₁₀ (v₁₀ ∷ []))) ⊛ raw (ensured 𝓤 H A visit-each.ended (visit-each.clauses 𝓤 H A at-mem run) tt (h, (r, tt)) tt y₁₀)))) (id⊢ 𝓤 _) $ await ! tt $ pick ! (λ y₁₀. split ! $ move ! (1 ∷ []) $ use1 W (raw (fact 𝓤 (y₁₀ ≡ visitedAll r h))) (visit-each-told 𝓤 H A at-mem run h r y₁₀) $ heard ! (y₁₀ ≡ visitedAll r h) (λ e₁₀. split ! $ drop ! $
         peeks ! T.the-row (Is T.the-row) (shows 𝓤 H A T.the-row) y₁₀ (v₁₀ ∷ []) (λ i₁₀. land ! (from ! (stop !)) (init ! 8 refl (LL.lawful T.the-type T′.the-laws 𝓤 H A W .typed y₁₀ _ i₁₀ .0)) $ rewrite ! 8 (λ (u : Val). ‵ (fat fullShare T′.mir l₁₀ 0 u)) (ap only (LL.tells T.the-type T′.the-laws y₁₀ (v₁₀ ∷ []) i₁₀)) refl $ rewrite ! 0 (λ (us : List Val). ‵ (T.the-row .own y₁₀ us)) (LL.tells T.the-type T′.the-laws y₁₀ (v₁₀ ∷ []) i₁₀) refl $ peeks ! T.the-row (Is T.the-row) (shows 𝓤 H A T.the-row) y₁₀ ((LL.vals T.the-type T′.the-laws) y₁₀) (λ s₁₀. drop ! $
         assigns-last ! (of-opd ! (load ! (from ! (stop !)) (look ! 7 refl))) (from ! (hop ! (look ! 25 refl) (stop !))) (store-raw ! 0 refl (LL.lawful T.the-type T′.the-laws 𝓤 H A W .typed y₁₀ _ s₁₀ .0)) $
-        exec ! C Λ _ code.Mir.t-5 (atRet _ Post) $ assigns ! (of-opd ! (load ! (from ! (stop !)) (look ! 21 refl))) (from ! (stop !)) (init ! 27 refl (sint-lawful 𝓤 H A W w64 .typed y₃ _ i₃ .0)) $
+        exec ! C Λ (standing code.Mir.locals (l₀ ∷ l₁ ∷ l₂ ∷ l₃ ∷ l₄ ∷ l₅ ∷ l₆ ∷ l₇ ∷ l₈ ∷ l₉ ∷ l₁₀ ∷ l₁₁ ∷ [])) code.Mir.t-5 (atRet (standing code.Mir.locals (l₀ ∷ l₁ ∷ l₂ ∷ l₃ ∷ l₄ ∷ l₅ ∷ l₆ ∷ l₇ ∷ l₈ ∷ l₉ ∷ l₁₀ ∷ l₁₁ ∷ [])) Post) $ assigns ! (of-opd ! (load ! (from ! (stop !)) (look ! 21 refl))) (from ! (stop !)) (init ! 27 refl (sint-lawful 𝓤 H A W w64 .typed y₃ _ i₃ .0)) $
         owned ! T.the-row (Is T.the-row) ((LL.makes T.the-type T′.the-plain) 𝓤 H A) y₁₀ _ s₁₀ $ move ! (1 ∷ 0 ∷ 2 ∷ 3 ∷ 4 ∷ []) $ closes ! tt T.the-row y₁₀ (LL.vals T.the-type T′.the-laws y₁₀) b o $
         returns ! (look ! 26 refl) $ forget ! 4 refl $ forget ! 6 refl $ forget ! 12 refl $ forget ! 14 refl $ forget ! 16 refl $ forget ! 18 refl $ forget ! 20 refl $ forget ! 22 refl $ forget ! 24 refl $ forget ! 26 refl $
         move ! (26 ∷ 27 ∷ []) $ free1 ! $ move ! (24 ∷ 25 ∷ []) $ free1 ! $ move ! (22 ∷ 23 ∷ []) $ free1 ! $ move ! (20 ∷ 21 ∷ []) $ free1 ! $ move ! (18 ∷ 19 ∷ []) $ free1 ! $ move ! (16 ∷ 17 ∷ []) $ free1 ! $ move ! (14 ∷ 15 ∷ []) $ free1 ! $ move ! (12 ∷ 13 ∷ []) $ free1 ! $ move ! (10 ∷ 11 ∷ []) $ free1 ! $ move ! (8 ∷ 9 ∷ []) $ free1 ! $ move ! (6 ∷ 7 ∷ []) $ free1 ! $ move ! (4 ∷ 5 ∷ []) $ free1 ! $ free0 ! $
         keep ! (0 ∷ 1 ∷ 2 ∷ 6 ∷ 3 ∷ []) $ by ! (exits y₁₀ y₃ v₃ (e₃, each-visited r h y₁₀ y₄ (places-128 h _ was) e₄ on₄ e₁₀)))))))))))))
-        (λ off₄. skips ! $ exec ! C Λ _ code.Mir.t-5 (atRet _ Post) $ assigns ! (of-opd ! (load ! (from ! (stop !)) (look ! 21 refl))) (from ! (stop !)) (init ! 27 refl (sint-lawful 𝓤 H A W w64 .typed y₃ _ i₃ .0)) $
+        (λ off₄. skips ! $ exec ! C Λ (standing code.Mir.locals (l₀ ∷ l₁ ∷ l₂ ∷ l₃ ∷ l₄ ∷ l₅ ∷ l₆ ∷ l₇ ∷ l₈ ∷ l₉ ∷ l₁₀ ∷ l₁₁ ∷ [])) code.Mir.t-5 (atRet (standing code.Mir.locals (l₀ ∷ l₁ ∷ l₂ ∷ l₃ ∷ l₄ ∷ l₅ ∷ l₆ ∷ l₇ ∷ l₈ ∷ l₉ ∷ l₁₀ ∷ l₁₁ ∷ [])) Post) $ assigns ! (of-opd ! (load ! (from ! (stop !)) (look ! 21 refl))) (from ! (stop !)) (init ! 27 refl (sint-lawful 𝓤 H A W w64 .typed y₃ _ i₃ .0)) $
         owned ! T.the-row (Is T.the-row) ((LL.makes T.the-type T′.the-plain) 𝓤 H A) h _ was $ move ! (1 ∷ 0 ∷ 2 ∷ 3 ∷ 4 ∷ []) $ closes ! tt T.the-row h (LL.vals T.the-type T′.the-laws h) b o $
         returns ! (look ! 26 refl) $ forget ! 16 refl $ forget ! 18 refl $ forget ! 20 refl $ forget ! 22 refl $ forget ! 24 refl $ forget ! 26 refl $
         move ! (26 ∷ 27 ∷ []) $ free1 ! $ move ! (24 ∷ 25 ∷ []) $ free1 ! $ move ! (22 ∷ 23 ∷ []) $ free1 ! $ move ! (20 ∷ 21 ∷ []) $ free1 ! $ move ! (18 ∷ 19 ∷ []) $ free1 ! $ move ! (16 ∷ 17 ∷ []) $ free1 ! $ move ! (14 ∷ 15 ∷ []) $ free1 ! $ move ! (12 ∷ 13 ∷ []) $ free1 ! $ move ! (10 ∷ 11 ∷ []) $ free1 ! $ move ! (8 ∷ 9 ∷ []) $ free1 ! $ move ! (6 ∷ 7 ∷ []) $ free1 ! $ move ! (4 ∷ 5 ∷ []) $ free1 ! $ free0 ! $
