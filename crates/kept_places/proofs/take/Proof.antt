@@ -50,6 +50,7 @@ use Rattle.socket.proofs.Pair as T
 use Rattle.socket.proofs.Pair.Laws as T′
 use Rattle.status.proofs.Answer as N
 use Rattle.status.proofs.Answer.Laws as N′
+use Rattle.kept_places.proofs.Walk.{standing}
 use Rattle.kept_places.proofs.Callees.{word-contract, to-word, goes-word, word-told, has-only-packet-contract, to-has-only-packet, goes-has-only-packet, has-only-packet-told, taken-only-contract, to-taken-only, goes-taken-only, taken-only-told, taken-contract, to-taken, goes-taken, taken-told}
 use Rattle.places.specs.Table.{onlyPacket}
 use Rattle.socket.specs.Pair.{own}
@@ -122,7 +123,7 @@ module _ {M : Type 1} (𝓤 : URA M) (H : Heap 𝓤) (A : Atoms 𝓤) (W : Given
         use1 W (later (some (λ (y₆ : Pair). (‵ ftrue ⊛ ‵ (T.the-row .own y₆ (v₆ ∷ []))) ⊛ raw (ensured 𝓤 H A taken-only.ended (taken-only.clauses 𝓤 H A at-mem run) tt (h, (a, tt)) tt y₆)))) (id⊢ 𝓤 _) $ await ! tt $ pick ! (λ y₆. split ! $ move ! (1 ∷ []) $ use1 W (raw (fact 𝓤 (y₆ ≡ choose (onlyPacket (h .places)) (takenPair (isDone a) h) h))) (taken-only-told 𝓤 H A at-mem run h a y₆) $ heard ! (y₆ ≡ choose (onlyPacket (h .places)) (takenPair (isDone a) h) h) (λ e₆. split ! $ drop ! $
         peeks ! T.the-row (Is T.the-row) (shows 𝓤 H A T.the-row) y₆ (v₆ ∷ []) (λ i₆. land ! (from ! (stop !)) (init ! 12 refl (LL.lawful T.the-type T′.the-laws 𝓤 H A W .typed y₆ _ i₆ .0)) $ rewrite ! 12 (λ (u : Val). ‵ (fat fullShare T′.mir l₆ 0 u)) (ap only (LL.tells T.the-type T′.the-laws y₆ (v₆ ∷ []) i₆)) refl $ rewrite ! 0 (λ (us : List Val). ‵ (T.the-row .own y₆ us)) (LL.tells T.the-type T′.the-laws y₆ (v₆ ∷ []) i₆) refl $ peeks ! T.the-row (Is T.the-row) (shows 𝓤 H A T.the-row) y₆ ((LL.vals T.the-type T′.the-laws) y₆) (λ s₆. drop ! $
         assigns-last ! (of-opd ! (load ! (from ! (stop !)) (look ! 11 refl))) (from ! (hop ! (look ! 21 refl) (stop !))) (store-raw ! 0 refl (LL.lawful T.the-type T′.the-laws 𝓤 H A W .typed y₆ _ s₆ .0)) $
-        exec ! C Λ _ code.Mir.t-5 (atRet _ Post) $ assigns ! (of-opd ! (load ! (from ! (stop !)) (look ! 17 refl))) (from ! (stop !)) (init ! 23 refl (sint-lawful 𝓤 H A W w64 .typed y₃ _ i₃ .0)) $
+        exec ! C Λ (standing code.Mir.locals (l₀ ∷ l₁ ∷ l₂ ∷ l₃ ∷ l₄ ∷ l₅ ∷ l₆ ∷ l₇ ∷ l₈ ∷ l₉ ∷ [])) code.Mir.t-5 (atRet (standing code.Mir.locals (l₀ ∷ l₁ ∷ l₂ ∷ l₃ ∷ l₄ ∷ l₅ ∷ l₆ ∷ l₇ ∷ l₈ ∷ l₉ ∷ [])) Post) $ assigns ! (of-opd ! (load ! (from ! (stop !)) (look ! 17 refl))) (from ! (stop !)) (init ! 23 refl (sint-lawful 𝓤 H A W w64 .typed y₃ _ i₃ .0)) $
         owned ! T.the-row (Is T.the-row) ((LL.makes T.the-type T′.the-plain) 𝓤 H A) y₆ _ s₆ $ move ! (1 ∷ 0 ∷ 2 ∷ 3 ∷ 4 ∷ []) $ closes ! tt T.the-row y₆ (LL.vals T.the-type T′.the-laws y₆) b o $
         returns ! (look ! 22 refl) $ forget ! 8 refl $ forget ! 10 refl $ forget ! 12 refl $ forget ! 14 refl $ forget ! 16 refl $ forget ! 18 refl $ forget ! 20 refl $ forget ! 22 refl $
         move ! (22 ∷ 23 ∷ []) $ free1 ! $ move ! (20 ∷ 21 ∷ []) $ free1 ! $ move ! (18 ∷ 19 ∷ []) $ free1 ! $ move ! (16 ∷ 17 ∷ []) $ free1 ! $ move ! (14 ∷ 15 ∷ []) $ free1 ! $ move ! (12 ∷ 13 ∷ []) $ free1 ! $ move ! (10 ∷ 11 ∷ []) $ free1 ! $ move ! (8 ∷ 9 ∷ []) $ free1 ! $ move ! (6 ∷ 7 ∷ []) $ free1 ! $ move ! (4 ∷ 5 ∷ []) $ free1 ! $ free0 ! $
@@ -133,7 +134,7 @@ module _ {M : Type 1} (𝓤 : URA M) (H : Heap 𝓤) (A : Atoms 𝓤) (W : Given
         use1 W (later (some (λ (y₈ : Pair). (‵ ftrue ⊛ ‵ (T.the-row .own y₈ (v₈ ∷ []))) ⊛ raw (ensured 𝓤 H A taken.ended (taken.clauses 𝓤 H A at-mem run) tt (h, (a, tt)) tt y₈)))) (id⊢ 𝓤 _) $ await ! tt $ pick ! (λ y₈. split ! $ move ! (1 ∷ []) $ use1 W (raw (fact 𝓤 (y₈ ≡ takenPair (isDone a) h))) (taken-told 𝓤 H A at-mem run h a y₈) $ heard ! (y₈ ≡ takenPair (isDone a) h) (λ e₈. split ! $ drop ! $
         peeks ! T.the-row (Is T.the-row) (shows 𝓤 H A T.the-row) y₈ (v₈ ∷ []) (λ i₈. land ! (from ! (stop !)) (init ! 8 refl (LL.lawful T.the-type T′.the-laws 𝓤 H A W .typed y₈ _ i₈ .0)) $ rewrite ! 8 (λ (u : Val). ‵ (fat fullShare T′.mir l₈ 0 u)) (ap only (LL.tells T.the-type T′.the-laws y₈ (v₈ ∷ []) i₈)) refl $ rewrite ! 0 (λ (us : List Val). ‵ (T.the-row .own y₈ us)) (LL.tells T.the-type T′.the-laws y₈ (v₈ ∷ []) i₈) refl $ peeks ! T.the-row (Is T.the-row) (shows 𝓤 H A T.the-row) y₈ ((LL.vals T.the-type T′.the-laws) y₈) (λ s₈. drop ! $
         assigns-last ! (of-opd ! (load ! (from ! (stop !)) (look ! 7 refl))) (from ! (hop ! (look ! 21 refl) (stop !))) (store-raw ! 0 refl (LL.lawful T.the-type T′.the-laws 𝓤 H A W .typed y₈ _ s₈ .0)) $
-        exec ! C Λ _ code.Mir.t-5 (atRet _ Post) $ assigns ! (of-opd ! (load ! (from ! (stop !)) (look ! 17 refl))) (from ! (stop !)) (init ! 23 refl (sint-lawful 𝓤 H A W w64 .typed y₃ _ i₃ .0)) $
+        exec ! C Λ (standing code.Mir.locals (l₀ ∷ l₁ ∷ l₂ ∷ l₃ ∷ l₄ ∷ l₅ ∷ l₆ ∷ l₇ ∷ l₈ ∷ l₉ ∷ [])) code.Mir.t-5 (atRet (standing code.Mir.locals (l₀ ∷ l₁ ∷ l₂ ∷ l₃ ∷ l₄ ∷ l₅ ∷ l₆ ∷ l₇ ∷ l₈ ∷ l₉ ∷ [])) Post) $ assigns ! (of-opd ! (load ! (from ! (stop !)) (look ! 17 refl))) (from ! (stop !)) (init ! 23 refl (sint-lawful 𝓤 H A W w64 .typed y₃ _ i₃ .0)) $
         owned ! T.the-row (Is T.the-row) ((LL.makes T.the-type T′.the-plain) 𝓤 H A) y₈ _ s₈ $ move ! (1 ∷ 0 ∷ 2 ∷ 3 ∷ 4 ∷ []) $ closes ! tt T.the-row y₈ (LL.vals T.the-type T′.the-laws y₈) b o $
         returns ! (look ! 22 refl) $ forget ! 4 refl $ forget ! 6 refl $ forget ! 12 refl $ forget ! 14 refl $ forget ! 16 refl $ forget ! 18 refl $ forget ! 20 refl $ forget ! 22 refl $
         move ! (22 ∷ 23 ∷ []) $ free1 ! $ move ! (20 ∷ 21 ∷ []) $ free1 ! $ move ! (18 ∷ 19 ∷ []) $ free1 ! $ move ! (16 ∷ 17 ∷ []) $ free1 ! $ move ! (14 ∷ 15 ∷ []) $ free1 ! $ move ! (12 ∷ 13 ∷ []) $ free1 ! $ move ! (10 ∷ 11 ∷ []) $ free1 ! $ move ! (8 ∷ 9 ∷ []) $ free1 ! $ move ! (6 ∷ 7 ∷ []) $ free1 ! $ move ! (4 ∷ 5 ∷ []) $ free1 ! $ free0 ! $

@@ -50,6 +50,7 @@ use Rattle.socket.proofs.Pair as T
 use Rattle.socket.proofs.Pair.Laws as T′
 use Rattle.status.proofs.Answer as N
 use Rattle.status.proofs.Answer.Laws as N′
+use Rattle.kept_places.proofs.Walk.{standing}
 use Rattle.kept_places.proofs.Callees.{word-contract, to-word, goes-word, word-told, is-unused-contract, to-is-unused, goes-is-unused, is-unused-told, registered-first-contract, to-registered-first, goes-registered-first, registered-first-told, registered-contract, to-registered, goes-registered, registered-told}
 use Rattle.places.specs.Table.{unused}
 use Rattle.socket.specs.Pair.{isOne, own}
@@ -122,7 +123,7 @@ module _ {M : Type 1} (𝓤 : URA M) (H : Heap 𝓤) (A : Atoms 𝓤) (W : Given
         use1 W (later (some (λ (y₁₀ : Pair). (‵ ftrue ⊛ ‵ (T.the-row .own y₁₀ (v₁₀ ∷ []))) ⊛ raw (ensured 𝓤 H A registered-first.ended (registered-first.clauses 𝓤 H A at-mem run) tt (h, (a, (x₂, (x₃, (x₄, (x₅, tt)))))) tt y₁₀)))) (id⊢ 𝓤 _) $ await ! tt $ pick ! (λ y₁₀. split ! $ move ! (1 ∷ []) $ use1 W (raw (fact 𝓤 (y₁₀ ≡ choose (unused (h .places)) (registeredPair (isDone a) (isOne x₂) x₃ x₄ x₅ h) h))) (registered-first-told 𝓤 H A at-mem run h a x₂ x₃ x₄ x₅ y₁₀) $ heard ! (y₁₀ ≡ choose (unused (h .places)) (registeredPair (isDone a) (isOne x₂) x₃ x₄ x₅ h) h) (λ e₁₀. split ! $ drop ! $
         peeks ! T.the-row (Is T.the-row) (shows 𝓤 H A T.the-row) y₁₀ (v₁₀ ∷ []) (λ i₁₀. land ! (from ! (stop !)) (init ! 12 refl (LL.lawful T.the-type T′.the-laws 𝓤 H A W .typed y₁₀ _ i₁₀ .0)) $ rewrite ! 12 (λ (u : Val). ‵ (fat fullShare T′.mir l₁₀ 0 u)) (ap only (LL.tells T.the-type T′.the-laws y₁₀ (v₁₀ ∷ []) i₁₀)) refl $ rewrite ! 0 (λ (us : List Val). ‵ (T.the-row .own y₁₀ us)) (LL.tells T.the-type T′.the-laws y₁₀ (v₁₀ ∷ []) i₁₀) refl $ peeks ! T.the-row (Is T.the-row) (shows 𝓤 H A T.the-row) y₁₀ ((LL.vals T.the-type T′.the-laws) y₁₀) (λ s₁₀. drop ! $
         assigns-last ! (of-opd ! (load ! (from ! (stop !)) (look ! 11 refl))) (from ! (hop ! (look ! 29 refl) (stop !))) (store-raw ! 0 refl (LL.lawful T.the-type T′.the-laws 𝓤 H A W .typed y₁₀ _ s₁₀ .0)) $
-        exec ! C Λ _ code.Mir.t-5 (atRet _ Post) $ assigns ! (of-opd ! (load ! (from ! (stop !)) (look ! 17 refl))) (from ! (stop !)) (init ! 31 refl (sint-lawful 𝓤 H A W w64 .typed y₇ _ i₇ .0)) $
+        exec ! C Λ (standing code.Mir.locals (l₀ ∷ l₁ ∷ l₂ ∷ l₃ ∷ l₄ ∷ l₅ ∷ l₆ ∷ l₇ ∷ l₈ ∷ l₉ ∷ l₁₀ ∷ l₁₁ ∷ l₁₂ ∷ l₁₃ ∷ [])) code.Mir.t-5 (atRet (standing code.Mir.locals (l₀ ∷ l₁ ∷ l₂ ∷ l₃ ∷ l₄ ∷ l₅ ∷ l₆ ∷ l₇ ∷ l₈ ∷ l₉ ∷ l₁₀ ∷ l₁₁ ∷ l₁₂ ∷ l₁₃ ∷ [])) Post) $ assigns ! (of-opd ! (load ! (from ! (stop !)) (look ! 17 refl))) (from ! (stop !)) (init ! 31 refl (sint-lawful 𝓤 H A W w64 .typed y₇ _ i₇ .0)) $
         owned ! T.the-row (Is T.the-row) ((LL.makes T.the-type T′.the-plain) 𝓤 H A) y₁₀ _ s₁₀ $ move ! (1 ∷ 0 ∷ 2 ∷ 3 ∷ 4 ∷ []) $ closes ! tt T.the-row y₁₀ (LL.vals T.the-type T′.the-laws y₁₀) b o $
         returns ! (look ! 30 refl) $ forget ! 8 refl $ forget ! 10 refl $ forget ! 12 refl $ forget ! 14 refl $ forget ! 16 refl $ forget ! 18 refl $ forget ! 20 refl $ forget ! 22 refl $ forget ! 24 refl $ forget ! 26 refl $ forget ! 28 refl $ forget ! 30 refl $
         move ! (30 ∷ 31 ∷ []) $ free1 ! $ move ! (28 ∷ 29 ∷ []) $ free1 ! $ move ! (26 ∷ 27 ∷ []) $ free1 ! $ move ! (24 ∷ 25 ∷ []) $ free1 ! $ move ! (22 ∷ 23 ∷ []) $ free1 ! $ move ! (20 ∷ 21 ∷ []) $ free1 ! $ move ! (18 ∷ 19 ∷ []) $ free1 ! $ move ! (16 ∷ 17 ∷ []) $ free1 ! $ move ! (14 ∷ 15 ∷ []) $ free1 ! $ move ! (12 ∷ 13 ∷ []) $ free1 ! $ move ! (10 ∷ 11 ∷ []) $ free1 ! $ move ! (8 ∷ 9 ∷ []) $ free1 ! $ move ! (6 ∷ 7 ∷ []) $ free1 ! $ move ! (4 ∷ 5 ∷ []) $ free1 ! $ free0 ! $
@@ -133,7 +134,7 @@ module _ {M : Type 1} (𝓤 : URA M) (H : Heap 𝓤) (A : Atoms 𝓤) (W : Given
         use1 W (later (some (λ (y₁₂ : Pair). (‵ ftrue ⊛ ‵ (T.the-row .own y₁₂ (v₁₂ ∷ []))) ⊛ raw (ensured 𝓤 H A registered.ended (registered.clauses 𝓤 H A at-mem run) tt (h, (a, (x₂, (x₃, (x₄, (x₅, tt)))))) tt y₁₂)))) (id⊢ 𝓤 _) $ await ! tt $ pick ! (λ y₁₂. split ! $ move ! (1 ∷ []) $ use1 W (raw (fact 𝓤 (y₁₂ ≡ registeredPair (isDone a) (isOne x₂) x₃ x₄ x₅ h))) (registered-told 𝓤 H A at-mem run h a x₂ x₃ x₄ x₅ y₁₂) $ heard ! (y₁₂ ≡ registeredPair (isDone a) (isOne x₂) x₃ x₄ x₅ h) (λ e₁₂. split ! $ drop ! $
         peeks ! T.the-row (Is T.the-row) (shows 𝓤 H A T.the-row) y₁₂ (v₁₂ ∷ []) (λ i₁₂. land ! (from ! (stop !)) (init ! 8 refl (LL.lawful T.the-type T′.the-laws 𝓤 H A W .typed y₁₂ _ i₁₂ .0)) $ rewrite ! 8 (λ (u : Val). ‵ (fat fullShare T′.mir l₁₂ 0 u)) (ap only (LL.tells T.the-type T′.the-laws y₁₂ (v₁₂ ∷ []) i₁₂)) refl $ rewrite ! 0 (λ (us : List Val). ‵ (T.the-row .own y₁₂ us)) (LL.tells T.the-type T′.the-laws y₁₂ (v₁₂ ∷ []) i₁₂) refl $ peeks ! T.the-row (Is T.the-row) (shows 𝓤 H A T.the-row) y₁₂ ((LL.vals T.the-type T′.the-laws) y₁₂) (λ s₁₂. drop ! $
         assigns-last ! (of-opd ! (load ! (from ! (stop !)) (look ! 7 refl))) (from ! (hop ! (look ! 29 refl) (stop !))) (store-raw ! 0 refl (LL.lawful T.the-type T′.the-laws 𝓤 H A W .typed y₁₂ _ s₁₂ .0)) $
-        exec ! C Λ _ code.Mir.t-5 (atRet _ Post) $ assigns ! (of-opd ! (load ! (from ! (stop !)) (look ! 17 refl))) (from ! (stop !)) (init ! 31 refl (sint-lawful 𝓤 H A W w64 .typed y₇ _ i₇ .0)) $
+        exec ! C Λ (standing code.Mir.locals (l₀ ∷ l₁ ∷ l₂ ∷ l₃ ∷ l₄ ∷ l₅ ∷ l₆ ∷ l₇ ∷ l₈ ∷ l₉ ∷ l₁₀ ∷ l₁₁ ∷ l₁₂ ∷ l₁₃ ∷ [])) code.Mir.t-5 (atRet (standing code.Mir.locals (l₀ ∷ l₁ ∷ l₂ ∷ l₃ ∷ l₄ ∷ l₅ ∷ l₆ ∷ l₇ ∷ l₈ ∷ l₉ ∷ l₁₀ ∷ l₁₁ ∷ l₁₂ ∷ l₁₃ ∷ [])) Post) $ assigns ! (of-opd ! (load ! (from ! (stop !)) (look ! 17 refl))) (from ! (stop !)) (init ! 31 refl (sint-lawful 𝓤 H A W w64 .typed y₇ _ i₇ .0)) $
         owned ! T.the-row (Is T.the-row) ((LL.makes T.the-type T′.the-plain) 𝓤 H A) y₁₂ _ s₁₂ $ move ! (1 ∷ 0 ∷ 2 ∷ 3 ∷ 4 ∷ []) $ closes ! tt T.the-row y₁₂ (LL.vals T.the-type T′.the-laws y₁₂) b o $
         returns ! (look ! 30 refl) $ forget ! 4 refl $ forget ! 6 refl $ forget ! 12 refl $ forget ! 14 refl $ forget ! 16 refl $ forget ! 18 refl $ forget ! 20 refl $ forget ! 22 refl $ forget ! 24 refl $ forget ! 26 refl $ forget ! 28 refl $ forget ! 30 refl $
         move ! (30 ∷ 31 ∷ []) $ free1 ! $ move ! (28 ∷ 29 ∷ []) $ free1 ! $ move ! (26 ∷ 27 ∷ []) $ free1 ! $ move ! (24 ∷ 25 ∷ []) $ free1 ! $ move ! (22 ∷ 23 ∷ []) $ free1 ! $ move ! (20 ∷ 21 ∷ []) $ free1 ! $ move ! (18 ∷ 19 ∷ []) $ free1 ! $ move ! (16 ∷ 17 ∷ []) $ free1 ! $ move ! (14 ∷ 15 ∷ []) $ free1 ! $ move ! (12 ∷ 13 ∷ []) $ free1 ! $ move ! (10 ∷ 11 ∷ []) $ free1 ! $ move ! (8 ∷ 9 ∷ []) $ free1 ! $ move ! (6 ∷ 7 ∷ []) $ free1 ! $ move ! (4 ∷ 5 ∷ []) $ free1 ! $ free0 ! $

@@ -51,6 +51,7 @@ use Rattle.transfer.specs.declared.Transfer.{Transfer}
 use Rattle.transfer_read.specs.Transfer.{readBy}
 use Rattle.transfer.proofs.Transfer as X
 use Rattle.transfer.proofs.Transfer.Laws as X′
+use Rattle.kept_pair.proofs.Walk.{standing}
 use Rattle.kept_transfer.proofs.Callees.{transfer-word-contract, to-transfer-word, goes-transfer-word, transfer-word-told, is-read-without-visit-contract, to-is-read-without-visit, goes-is-read-without-visit, is-read-without-visit-told, with-read-contract, to-with-read, goes-with-read, with-read-told, read-outcome-contract, to-read-outcome, goes-read-outcome, read-outcome-told, outcome-contract, to-outcome, goes-outcome}
 use Rattle.socket.specs.Pair.{isOne, endsOf}
 use Rattle.socket.specs.Deferred.{settled}
@@ -135,7 +136,7 @@ module _ {M : Type 1} (𝓤 : URA M) (H : Heap 𝓤) (A : Atoms 𝓤) (W : Given
         use1 W (later (some (λ (y₈ : Pair). (‵ ftrue ⊛ ‵ (T.the-row .own y₈ (v₈ ∷ []))) ⊛ raw (ensured 𝓤 H A with-read.ended (with-read.clauses 𝓤 H A at-mem run) tt (h, (x₁, (t, tt))) tt y₈)))) (id⊢ 𝓤 _) $ await ! tt $ pick ! (λ y₈. split ! $ move ! (1 ∷ []) $ use1 W (raw (fact 𝓤 (y₈ ≡ transferredPair (isOne x₁) (isOne x₁) t h))) (with-read-told 𝓤 H A at-mem run h x₁ t y₈) $ heard ! (y₈ ≡ transferredPair (isOne x₁) (isOne x₁) t h) (λ e₈. split ! $ drop ! $
         peeks ! T.the-row (Is T.the-row) (shows 𝓤 H A T.the-row) y₈ (v₈ ∷ []) (λ i₈. land ! (from ! (stop !)) (init ! 14 refl (LL.lawful T.the-type T′.the-laws 𝓤 H A W .typed y₈ _ i₈ .0)) $ rewrite ! 14 (λ (u : Val). ‵ (fat fullShare T′.mir l₈ 0 u)) (ap only (LL.tells T.the-type T′.the-laws y₈ (v₈ ∷ []) i₈)) refl $ rewrite ! 0 (λ (us : List Val). ‵ (T.the-row .own y₈ us)) (LL.tells T.the-type T′.the-laws y₈ (v₈ ∷ []) i₈) refl $ peeks ! T.the-row (Is T.the-row) (shows 𝓤 H A T.the-row) y₈ ((LL.vals T.the-type T′.the-laws) y₈) (λ s₈. drop ! $
         assigns-last ! (of-opd ! (load ! (from ! (stop !)) (look ! 13 refl))) (from ! (hop ! (look ! 27 refl) (stop !))) (store-raw ! 0 refl (LL.lawful T.the-type T′.the-laws 𝓤 H A W .typed y₈ _ s₈ .0)) $
-        exec ! C Λ _ code.Mir.t-5 (atRet _ Post) $ assigns ! (of-opd ! (load ! (from ! (stop !)) (look ! 21 refl))) (from ! (stop !)) (init ! 29 refl (sint-lawful 𝓤 H A W w64 .typed y₄ _ i₄ .0)) $
+        exec ! C Λ (standing code.Mir.locals (l₀ ∷ l₁ ∷ l₂ ∷ l₃ ∷ l₄ ∷ l₅ ∷ l₆ ∷ l₇ ∷ l₈ ∷ l₉ ∷ l₁₀ ∷ l₁₁ ∷ l₁₂ ∷ [])) code.Mir.t-5 (atRet (standing code.Mir.locals (l₀ ∷ l₁ ∷ l₂ ∷ l₃ ∷ l₄ ∷ l₅ ∷ l₆ ∷ l₇ ∷ l₈ ∷ l₉ ∷ l₁₀ ∷ l₁₁ ∷ l₁₂ ∷ [])) Post) $ assigns ! (of-opd ! (load ! (from ! (stop !)) (look ! 21 refl))) (from ! (stop !)) (init ! 29 refl (sint-lawful 𝓤 H A W w64 .typed y₄ _ i₄ .0)) $
         owned ! T.the-row (Is T.the-row) ((LL.makes T.the-type T′.the-plain) 𝓤 H A) y₈ _ s₈ $ move ! (1 ∷ 0 ∷ 2 ∷ 3 ∷ 4 ∷ []) $ closes ! tt T.the-row y₈ (LL.vals T.the-type T′.the-laws y₈) b o $
         returns ! (look ! 28 refl) $ forget ! 10 refl $ forget ! 12 refl $ forget ! 14 refl $ forget ! 16 refl $ forget ! 20 refl $ forget ! 22 refl $ forget ! 24 refl $ forget ! 26 refl $ forget ! 28 refl $
         move ! (28 ∷ 29 ∷ []) $ free1 ! $ move ! (26 ∷ 27 ∷ []) $ free1 ! $ move ! (24 ∷ 25 ∷ []) $ free1 ! $ move ! (22 ∷ 23 ∷ []) $ free1 ! $ move ! (20 ∷ 21 ∷ []) $ free1 ! $ move ! (18 ∷ 19 ∷ []) $ free1 ! $ move ! (16 ∷ 17 ∷ []) $ free1 ! $ move ! (14 ∷ 15 ∷ []) $ free1 ! $ move ! (12 ∷ 13 ∷ []) $ free1 ! $ move ! (10 ∷ 11 ∷ []) $ free1 ! $ move ! (8 ∷ 9 ∷ []) $ free1 ! $ move ! (6 ∷ 7 ∷ []) $ free1 ! $ move ! (4 ∷ 5 ∷ []) $ free1 ! $ free0 ! $
@@ -150,7 +151,7 @@ module _ {M : Type 1} (𝓤 : URA M) (H : Heap 𝓤) (A : Atoms 𝓤) (W : Given
         calls-at-last ! fm (outcome-contract 𝓤 H A at-mem run) known-outcome (to-outcome 𝓤 H A at-mem run κ q b o γ h y₅) (and-then ! (load ! (from ! (stop !)) (look ! 2 refl)) (and-then ! (load ! (from ! (stop !)) (look ! 16 refl)) (no-more !))) (λ v₁₁.
         use1 W (later (some (λ (z₀ : ℤ). ((‵ (flft κ q) ⊛ ‵ ftrue) ⊛ ‵ (i64 .own z₀ (v₁₁ ∷ []))) ⊛ raw (ensured 𝓤 H A outcome.ended (outcome.clauses 𝓤 H A at-mem run) (κ, tt) (record { ptr = (b, o); name = γ; now = h }, (y₅, tt)) tt z₀)))) (id⊢ 𝓤 _) $ await ! tt $ pick ! (λ z₀. split ! $ move ! (1 ∷ []) $ use1 W (some (λ (ws : (Pair × (Unit {0} × Unit {0}))). ‵ (lasts outcome.ended (κ, tt) (record { ptr = (b, o); name = γ; now = h }, (y₅, tt)) ws) ⊛ raw (fact 𝓤 ((z₀ ≡ answerWord (y₅ .answer)) × (ws .0 ≡ settled y₅ h .pair))))) (id⊢ 𝓤 _) $ pick ! (λ ws. split ! $ move ! (1 ∷ []) $ heard ! ((z₀ ≡ answerWord (y₅ .answer)) × (ws .0 ≡ settled y₅ h .pair)) (λ e₀. fsplit ! $
         move ! (2 ∷ []) $ split ! $ move ! (1 ∷ []) $ peeks ! i64 (Is i64) (shows 𝓤 H A i64) z₀ (v₁₁ ∷ []) (λ i₀. land-last ! (from ! (stop !)) (init ! 7 refl (sint-lawful 𝓤 H A W w64 .typed z₀ _ i₀ .0)) $
-        exec ! C Λ _ code.Mir.t-5 (atRet _ Post) $ assigns ! (of-opd ! (load ! (from ! (stop !)) (look ! 21 refl))) (from ! (stop !)) (init ! 29 refl (sint-lawful 𝓤 H A W w64 .typed y₄ _ i₄ .0)) $
+        exec ! C Λ (standing code.Mir.locals (l₀ ∷ l₁ ∷ l₂ ∷ l₃ ∷ l₄ ∷ l₅ ∷ l₆ ∷ l₇ ∷ l₈ ∷ l₉ ∷ l₁₀ ∷ l₁₁ ∷ l₁₂ ∷ [])) code.Mir.t-5 (atRet (standing code.Mir.locals (l₀ ∷ l₁ ∷ l₂ ∷ l₃ ∷ l₄ ∷ l₅ ∷ l₆ ∷ l₇ ∷ l₈ ∷ l₉ ∷ l₁₀ ∷ l₁₁ ∷ l₁₂ ∷ [])) Post) $ assigns ! (of-opd ! (load ! (from ! (stop !)) (look ! 21 refl))) (from ! (stop !)) (init ! 29 refl (sint-lawful 𝓤 H A W w64 .typed y₄ _ i₄ .0)) $
         returns ! (look ! 29 refl) $ forget ! 5 refl $ forget ! 7 refl $ forget ! 9 refl $ forget ! 15 refl $ forget ! 17 refl $ forget ! 19 refl $ forget ! 21 refl $ forget ! 23 refl $ forget ! 25 refl $ forget ! 27 refl $ forget ! 29 refl $
         move ! (29 ∷ 30 ∷ []) $ free1 ! $ move ! (27 ∷ 28 ∷ []) $ free1 ! $ move ! (25 ∷ 26 ∷ []) $ free1 ! $ move ! (23 ∷ 24 ∷ []) $ free1 ! $ move ! (21 ∷ 22 ∷ []) $ free1 ! $ move ! (19 ∷ 20 ∷ []) $ free1 ! $ move ! (17 ∷ 18 ∷ []) $ free1 ! $ move ! (15 ∷ 16 ∷ []) $ free1 ! $ move ! (13 ∷ 14 ∷ []) $ free1 ! $ move ! (11 ∷ 12 ∷ []) $ free1 ! $ move ! (9 ∷ 10 ∷ []) $ free1 ! $ move ! (7 ∷ 8 ∷ []) $ free1 ! $ move ! (5 ∷ 6 ∷ []) $ free1 ! $ free0 ! $
         keep ! (2 ∷ 1 ∷ 8 ∷ 4 ∷ []) $ by ! (exits (ws .0) y₄ v₄ (e₄, passed-on (readBy (endsOf h) x₁ t) y₅ h (ws .0) e₅ (e₀ .1)))))))))))))))))))))))))))))))))))))))
