@@ -13,7 +13,7 @@ use Rattle.socket.specs.Pair.{withPlaces}
 use Rattle.socket.specs.Deferred.{needsVisit, visitedPair, visitedAll, withEnds, withOutcome, settled}
 
 -- the visits of all changes are those of the table
-pub each-all : (r : Outcome) (p : Pair) → withPlaces (visitedEach r (p .places)) p ≡ visitedAll r p
+each-all : (r : Outcome) (p : Pair) → withPlaces (visitedEach r (p .places)) p ≡ visitedAll r p
 unfolding visitedAll visitedPair visitedEach withPlaces
 each-all r p = refl
 

@@ -34,7 +34,11 @@ pub fn needs_visit(p: Pair, r: Outcome) -> bool
 pub fn visit_each(p: Pair, r: Outcome) -> Pair
     ensures { λ q. ⌜ q ≡ visitedAll r p ⌝ }
 {
-    let t = visits::visited_each(p.places, r);
+    let mut t = p.places;
+    t = visits::visited(t, r.visits.first);
+    t = visits::visited(t, r.visits.second);
+    t = visits::visited(t, r.more.first);
+    t = visits::visited(t, r.more.second);
     parts::with_places(p, t)
 }
 
@@ -98,6 +102,11 @@ pub fn without_waits(p: Pair, handle: u32) -> Pair
 pub fn close_waits(p: Pair, handle: u32, r: Outcome) -> Pair
     ensures { λ q. ⌜ q ≡ visitedAll r (withoutWaits (isOne handle) p) ⌝ }
 {
-    let t = visits::close_waits(p.places, handle == 1, r);
+    let n = port::drop_waits(p.places, handle == 1);
+    let mut t = n.places;
+    t = visits::visited(t, r.visits.first);
+    t = visits::visited(t, r.visits.second);
+    t = visits::visited(t, r.more.first);
+    t = visits::visited(t, r.more.second);
     parts::with_places(p, t)
 }

@@ -8,7 +8,6 @@ ghost use Prim.Native.Nat.{_<_};
 ghost use lib.ListN.{getD};
 ghost use Rattle.status.specs.Choice.{pick};
 ghost use Rattle.places.specs.Table.{onlyWait};
-ghost use Rattle.port.specs.Port.{dropOf};
 ghost use Rattle.ends.specs.Outcome.{noVisit};
 ghost use Rattle.visits.specs.Visits.{changesOf, due, anyDue, visited, visitedEach};
 
@@ -58,38 +57,13 @@ pub fn any_due(t: Places, r: Outcome) -> bool
     false
 }
 
-fn visited(t: Places, a: Pending) -> Places
+// Visits the waits of one change.
+pub fn visited(t: Places, a: Pending) -> Places
     ensures { λ r. ⌜ r ≡ visited a t ⌝ }
 {
     let c = signal_change::change(t, a.one, a.word, a.clear, a.set);
     let places = c.places;
     places
-}
-
-// Visits the waits of all changes of a call.
-pub fn visited_each(t: Places, r: Outcome) -> Places
-    ensures { λ u. ⌜ u ≡ visitedEach r t ⌝ }
-{
-    let mut u = t;
-    u = visited(u, r.visits.first);
-    u = visited(u, r.visits.second);
-    u = visited(u, r.more.first);
-    u = visited(u, r.more.second);
-    u
-}
-
-// The table without the waits of an end, once those of all changes of a call are visited. The four visits stand here again, since the compiler
-// inlines a function that is called in one place.
-pub fn close_waits(t: Places, one: bool, r: Outcome) -> Places
-    ensures { λ u. ⌜ u ≡ visitedEach r (dropOf one t .places) ⌝ }
-{
-    let n = port::drop_waits(t, one);
-    let mut u = n.places;
-    u = visited(u, r.visits.first);
-    u = visited(u, r.visits.second);
-    u = visited(u, r.more.first);
-    u = visited(u, r.more.second);
-    u
 }
 
 fn visited_only(t: Places, a: Pending) -> Places
@@ -98,7 +72,7 @@ fn visited_only(t: Places, a: Pending) -> Places
     signal_change::only_visited(t, a.one, a.word, a.clear, a.set)
 }
 
-// The same for a table whose only place used is a wait. Any other table stays as it is.
+// Visits the waits of all changes of a call, in a table whose only place used is a wait. Any other table stays as it is.
 pub fn visited_alone(t: Places, r: Outcome) -> Places
     ensures { λ u. ⌜ u ≡ pick (onlyWait t) (visitedEach r t) t ⌝ }
 {
