@@ -12,7 +12,7 @@ use Rattle.status.specs.Choice.{pick, _and_}
 use Rattle.places.proofs.Lists.{either}
 use Rattle.text.proofs.Place.{place-none}
 use Rattle.plain_call.specs.Rings.{Rings}
-use Rattle.feed.specs.declared.State.{State}
+use Rattle.script_state.specs.declared.State.{State}
 use Rattle.feed.specs.declared.Fed.{Fed}
 use Rattle.buffer.specs.declared.Progress.{Progress}
 use Rattle.feed.specs.Machine.{machine}

@@ -15,7 +15,7 @@ use Rattle.status.specs.Choice.{pick, _and_}
 use Rattle.places.proofs.Lists.{either}
 use Rattle.text.specs.Put.{place, Put, Written}
 use Rattle.text.proofs.Place.{place-front, place-none, place-place}
-use Rattle.feed.specs.declared.State.{State}
+use Rattle.script_state.specs.declared.State.{State}
 use Rattle.feed.specs.declared.Fed.{Fed}
 use Rattle.line.specs.Line.{LINE}
 use Rattle.feed.specs.Turn.{LIMIT}
