@@ -17,7 +17,8 @@ use Rattle.feed.specs.declared.Fed.{Fed}
 use Rattle.buffer.specs.declared.Progress.{Progress}
 use Rattle.feed.specs.Machine.{machine}
 use Rattle.feed.specs.Feed.{isReady, Block, fedOf, FeedDone}
-use Rattle.buffer.specs.Buffer.{moved, shifted, frontOf, Advanced}
+use Rattle.shift.specs.Shift.{moved, shifted}
+use Rattle.buffer.specs.Buffer.{frontOf, Advanced}
 use Rattle.feed.proofs.Blocks.{fed-unready}
 use Rattle.feed.proofs.Feeding.{ready}
 
