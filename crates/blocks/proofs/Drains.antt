@@ -14,7 +14,8 @@ use Rattle.buffer.specs.declared.Progress.{Progress}
 use Rattle.feed.specs.Machine.{Machine, machine, stay, moveOf}
 use Rattle.feed.specs.Turn.{LIMIT}
 use Rattle.feed.specs.Feed.{Block, fedFrom, fedOf, allOf}
-use Rattle.buffer.specs.Buffer.{shifted, frontOf, Advanced}
+use Rattle.shift.specs.Shift.{shifted}
+use Rattle.buffer.specs.Buffer.{frontOf, Advanced}
 use Rattle.feed.proofs.Blocks.{fed-ready}
 use Rattle.script.proofs.Tells.{tells}
 use Rattle.script.proofs.Alls.{all-stay, splits, fed-idle}

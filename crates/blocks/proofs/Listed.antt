@@ -18,7 +18,8 @@ use Rattle.feed.specs.Feed.{Block, noBlock, fedOf, allOf}
 use Rattle.script.specs.Listing.{run, closing, header, listing}
 use Rattle.script.proofs.Runs.{run-stay}
 use Rattle.script.proofs.Tells.{tells, passes, shown}
-use Rattle.buffer.specs.Buffer.{shifted, frontOf}
+use Rattle.shift.specs.Shift.{shifted}
+use Rattle.buffer.specs.Buffer.{frontOf}
 use Rattle.buffer.proofs.Fronts.{front-left}
 use Rattle.blocks.specs.Drain.{Held, held, machineOf, inUse, Advance, Advances, Drained, callText, advancesText, drainText}
 use Rattle.blocks.specs.Drain.{none as no-other, more as another}

@@ -12,12 +12,13 @@ use Rattle.status.specs.Choice.{pick, _and_}
 use Rattle.places.proofs.Lists.{either}
 use Rattle.text.proofs.Place.{place-none}
 use Rattle.plain_call.specs.Rings.{Rings}
-use Rattle.feed.specs.declared.State.{State}
+use Rattle.script_state.specs.declared.State.{State}
 use Rattle.feed.specs.declared.Fed.{Fed}
 use Rattle.buffer.specs.declared.Progress.{Progress}
 use Rattle.feed.specs.Machine.{machine}
 use Rattle.feed.specs.Feed.{isReady, Block, fedOf, FeedDone}
-use Rattle.buffer.specs.Buffer.{moved, shifted, frontOf, Advanced}
+use Rattle.shift.specs.Shift.{moved, shifted}
+use Rattle.buffer.specs.Buffer.{frontOf, Advanced}
 use Rattle.feed.proofs.Blocks.{fed-unready}
 use Rattle.feed.proofs.Feeding.{ready}
 

@@ -1,3 +1,2 @@
--- Shifts, Fronts: what the functions say of the bytes that are left, and of the front of a buffer
-pub mod Shifts
+-- Fronts: what the functions say of the front of a buffer
 pub mod Fronts

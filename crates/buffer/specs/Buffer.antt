@@ -1,23 +1,16 @@
 -- What the functions say that feed a script from a buffer. 01 "Script program".
 use Prim.Native.Nat.{ℕ, _+_, _-_, _≤_}
 use mathlib.Core.Path.{_≡_}
-use mathlib.Core.List.{List, _++_}
-use lib.ListN.{length, take, drop}
+use mathlib.Core.List.{List}
+use lib.ListN.{length, take}
 use lib.Dec.{leb}
-use Rattle.status.specs.Choice.{pick, _and_}
+use Rattle.status.specs.Choice.{pick}
 use Rattle.text.specs.Put.{place}
 use Rattle.plain_call.specs.Rings.{Rings}
+use Rattle.shift.specs.Shift.{shifted}
 use Rattle.feed.specs.Machine.{machine}
 use Rattle.feed.specs.Feed.{Block, noBlock, fedOf}
 use Rattle.buffer.specs.declared.Progress.{Progress}
-
--- n bytes from a place on go to the front
-unfoldable pub moved : (from n : ℕ) → (buffer : List ℕ) → List ℕ
-moved from n buffer = take n (drop from buffer) ++ drop n buffer
-
--- those from one place to another, where both lie in the list in this order
-unfoldable pub shifted : (from to : ℕ) → (buffer : List ℕ) → List ℕ
-shifted from to buffer = pick (leb from to and leb to (length buffer)) (moved from (to - from) buffer) buffer
 
 -- what the bytes in use do that stand at the front of a buffer; a buffer that is shorter does nothing
 unfoldable pub frontOf : Progress → (room : ℕ) → (buffer memory : List ℕ) → Rings → Block

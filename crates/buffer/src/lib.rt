@@ -1,11 +1,10 @@
 // A script is read into a buffer and fed from its front.
 use feed::State;
-ghost use Prim.Native.Nat.{_+_, _-_, _≤_, _<_};
 ghost use mathlib.Core.Path.{_≡_};
 ghost use lib.ListN.{length};
 ghost use Rattle.plain_call.specs.Rings.{rings};
 ghost use Rattle.feed.specs.Machine.{startState};
-ghost use Rattle.buffer.specs.Buffer.{moved, shifted, frontOf, Advanced};
+ghost use Rattle.buffer.specs.Buffer.{frontOf, Advanced};
 
 // Where a script stands that is read into a buffer: the state, how many bytes came before the buffer, how many at its front are in use, and how many of
 // the output are written.
@@ -14,30 +13,6 @@ pub struct Progress {
     pub offset: u64,
     pub used: usize,
     pub written: usize,
-}
-
-fn move_front(buffer: &mut [u8], from: usize, n: usize)
-    requires { ⌜ from + n ≤ length (now buffer) ⌝ }
-    ensures { λ _. ⌜ now (buffer .exit) ≡ moved from n (now (buffer .entry)) ⌝ }
-{
-    let mut i = 0;
-    while i < n {
-        buffer[i] = buffer[from + i];
-        i += 1;
-    }
-}
-
-// Moves the bytes from one place to another to the front.
-pub fn shift(buffer: &mut [u8], from: usize, to: usize)
-    ensures { λ _. ⌜ now (buffer .exit) ≡ shifted from to (now (buffer .entry)) ⌝ }
-{
-    if to < from {
-        return;
-    }
-    if buffer.len() < to {
-        return;
-    }
-    move_front(buffer, from, to - from);
 }
 
 fn standing(state: State, offset: u64, used: usize, written: usize) -> Progress
@@ -91,6 +66,6 @@ pub fn advance(
     );
     let taken = f.taken;
     let next = f.state;
-    shift(buffer, taken, used);
+    shift::shift(buffer, taken, used);
     standing(next, offset + taken as u64, used - taken, f.written)
 }

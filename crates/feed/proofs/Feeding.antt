@@ -11,14 +11,15 @@ use Rattle.status.specs.Choice.{pick, _and_}
 use Rattle.text.specs.Answer.{stopOf}
 use Rattle.text.specs.Put.{place}
 use Rattle.text.proofs.Place.{place-none, place-length, place-front, place-behind}
-use Rattle.feed.specs.declared.State.{State}
-use Rattle.feed.specs.declared.turn.StateChange.{StateChange}
+use Rattle.script_state.specs.declared.State.{State}
+use Rattle.script_state.specs.declared.StateChange.{StateChange}
 use Rattle.feed.specs.declared.turn.Turned.{Turned}
 use Rattle.pair_outcome.specs.PairOutcome.{rebuildsTable, nextPair}
 use Rattle.line.specs.Line.{LINE}
 use Rattle.plain_call.specs.Rings.{Rings}
 use Rattle.feed.specs.Machine.{Machine, machine, Move, stay, halt, go, moveOf}
-use Rattle.feed.specs.Turn.{LIMIT, changedState, withEndsState, withTableState, machineAfter, textOf, takenBy, goesOn, TurnDone}
+use Rattle.script_state.specs.Change.{changedState, withEndsState, withTableState}
+use Rattle.feed.specs.Turn.{LIMIT, machineAfter, textOf, takenBy, goesOn, TurnDone}
 use Rattle.feed.specs.Feed.{isReady, Block, noBlock, behind, fedFrom, fedOf, FeedDone}
 use Rattle.feed.proofs.Moves.{goes}
 use Rattle.feed.proofs.Blocks.{block, fed-full, fed-stay, fed-halt, fed-go, fed-ready, fed-unready, stopped-number, stopped-stays}

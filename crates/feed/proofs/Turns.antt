@@ -11,31 +11,33 @@ use Rattle.status.specs.Choice.{pick, _or_}
 use Rattle.endpoint.specs.declared.SignalWord.{SignalWord}
 use Rattle.endpoint.specs.Endpoint.{shown}
 use Rattle.text.proofs.Place.{nothing, upTo, same}
-use Rattle.text.specs.Put.{Fit}
 use Rattle.socket.specs.declared.Pair.{Pair}
 use Rattle.socket.specs.declared.Step.{Step}
 use Rattle.socket.specs.Pair.{isHandle, shownBy}
 use Rattle.pair_outcome.specs.declared.PairOutcome.{PairOutcome}
-use Rattle.pair_outcome.specs.PairOutcome.{unchangedPair, nextPair, outcomeStep}
-use Rattle.pair_outcome.proofs.Steps.{unchanged-step, next-one, next-two}
+use Rattle.pair_outcome.specs.PairOutcome.{nextPair, outcomeStep}
+use Rattle.pair_outcome.proofs.Steps.{next-one, next-two}
 use Rattle.fill.proofs.Fills.{part-all}
-use Rattle.feed.specs.declared.State.{State}
-use Rattle.feed.specs.declared.turn.StateChange.{StateChange}
+use Rattle.script_state.specs.declared.State.{State}
+use Rattle.script_state.specs.declared.StateChange.{StateChange}
 use Rattle.feed.specs.declared.turn.Stepped.{Stepped}
 use Rattle.feed.specs.declared.turn.Turned.{Turned}
 use Rattle.record.specs.declared.Decoded.{Decoded}
 use Rattle.record.specs.declared.Decoded.the-variants.{Whole, Bad, Cut}
 use Rattle.record.specs.Record.{isBody, recordOf}
 use Rattle.record.proofs.Records.{cases, Full, full}
-use Rattle.line.specs.Line.{LINE, lineOf}
+use Rattle.line.specs.Line.{LINE, lineOf, LineDone}
 use Rattle.plain_call.specs.Rings.{Rings, rings}
 use Rattle.delivered.specs.Delivered.{delivered, settled}
 use Rattle.call.specs.Call.{callOf}
 use Rattle.call.specs.Transfer.{CallDone}
 use Rattle.record.specs.Order.{isMisplaced, isLast}
 use Rattle.feed.specs.Machine.{Machine, machine, Move, stay, halt, go, moveOf, steppedState, stepped, calledLine, stepLine}
+use Rattle.call_line.proofs.Lines.{delivered-small}
+use Rattle.script_state.proofs.States.{mkState}
 use Rattle.feed.proofs.Moves.{move-ended, move-cut, move-bad, move-misplaced, move-step}
-use Rattle.feed.specs.Turn.{changedState, placed, nextOf, machineAfter, textOf, takenBy, goesOn, StepDone, StopDone, TurnDone}
+use Rattle.script_state.specs.Change.{changedState}
+use Rattle.feed.specs.Turn.{placed, nextOf, machineAfter, textOf, takenBy, goesOn, StepDone, StopDone, TurnDone}
 
 -- ---- what the bytes begin with
 
@@ -160,21 +162,6 @@ module _ (m : Machine) (mv : Move) (offset from at : ℕ) (out : List ℕ) where
 
 -- ---- one step
 
-abbrev pub mkState : Pair → ℕ → Bool → State
-mkState p number ended = record { pair = p; number = number; ended = ended }
-
-unchanged-pair : (p : Pair) (a : Answer) → nextPair (unchangedPair p a) p ≡ p
-unfolding outcomeStep
-unchanged-pair p a = ap (λ (k : Step). k .pair) (unchanged-step p a)
-
--- no record is run
-pub no-record-state : (st : State) (a : Answer) (d : PairOutcome) (ended : Bool) → d ≡ unchangedPair (st .pair) a
-    → changedState st (record { pair = d; number = st .number; ended = ended }) ≡ mkState (st .pair) (st .number) ended
-unfolding changedState
-no-record-state st a d ended e =
-    ap (λ (k : PairOutcome). mkState (nextPair k (st .pair)) (st .number) ended) e
-    ∙ ap (λ (p : Pair). mkState p (st .number) ended) (unchanged-pair (st .pair) a)
-
 -- the words that both ends show
 pub shown-one : (d : PairOutcome) (p : Pair) → shown (d .outcome .one) ≡ shownBy (nextPair d p) 1
 unfolding shownBy isHandle pick _or_
@@ -186,7 +173,8 @@ shown-two d p = ap shown (sym (next-two d p))
 
 module _ (st : State) (tag at to : ℕ) (b memory memory₁ memory₂ out out′ : List ℕ) (z z₁ : Rings) (d : PairOutcome) (last : Bool)
     (w : CallDone (callOf memory z (st .pair) tag b) memory₁ z₁ (outcomeStep d (st .pair)))
-    (f : Fit LINE at (lineOf (st .number) (d .outcome .answer) (shown (d .outcome .one)) (shown (d .outcome .two)) (delivered tag b (d .outcome .answer) memory₁)) to out out′)
+    (small : length memory ≤ 4096) (kept : length memory₁ ≡ length memory)
+    (f : LineDone (st .number) (d .outcome .answer) (shown (d .outcome .one)) (shown (d .outcome .two)) (delivered tag b (d .outcome .answer) memory₁) at to out out′)
     (l : memory₂ ≡ settled tag b (d .outcome .answer) memory₁) (i : last ≡ isLast tag (d .outcome .answer)) where
   -- the answer and the pair are those of the call
   answer-is : d .outcome .answer ≡ callOf memory z (st .pair) tag b .step .answer
@@ -226,4 +214,4 @@ module _ (st : State) (tag at to : ℕ) (b memory memory₁ memory₂ out out′
   pub step-done : StepDone (machine st memory z) tag b at memory₂ z₁ out out′
       (record { change = record { pair = d; number = st .number + 1; ended = last }; at = to })
   unfolding stepped stepLine
-  step-done = record { state = step-state; memory = step-memory; lent = w .lent; text = same _ step-text f }
+  step-done = record { state = step-state; memory = step-memory; lent = w .lent; text = same _ step-text (f .put (delivered-small tag b (d .outcome .answer) memory₁ (omega arith)) .fit) }

@@ -8,7 +8,7 @@ use lib.Dec.{leb}
 use Rattle.status.specs.Choice.{pick, _and_}
 use Rattle.text.specs.Answer.{stopOf}
 use Rattle.text.specs.Put.{place}
-use Rattle.feed.specs.declared.State.{State}
+use Rattle.script_state.specs.declared.State.{State}
 use Rattle.feed.specs.declared.Fed.{Fed}
 use Rattle.line.specs.Line.{LINE}
 use Rattle.plain_call.specs.Rings.{Rings}

@@ -7,7 +7,7 @@ use Rattle.status.specs.Choice.{pick}
 use Rattle.socket.specs.Pair.{noPair, shownBy}
 use Rattle.record.specs.declared.Decoded.{Decoded}
 use Rattle.record.specs.declared.Decoded.the-variants.{Whole, Bad, Cut}
-use Rattle.feed.specs.declared.State.{State}
+use Rattle.script_state.specs.declared.State.{State}
 use Rattle.record.specs.Record.{recordOf}
 use Rattle.record.specs.Order.{isMisplaced, isLast}
 use Rattle.line.specs.Line.{lineOf}

@@ -7,15 +7,13 @@ use lib.ListN.{length}
 use Rattle.status.specs.Choice.{pick}
 use Rattle.text.specs.Put.{Fit}
 use Rattle.text.specs.Answer.{stopOf}
-use Rattle.feed.specs.declared.State.{State}
-use Rattle.feed.specs.declared.turn.StateChange.{StateChange}
+use Rattle.script_state.specs.declared.State.{State}
+use Rattle.script_state.specs.Change.{changedState}
 use Rattle.feed.specs.declared.turn.Stepped.{Stepped}
 use Rattle.feed.specs.declared.turn.Turned.{Turned}
 use Rattle.record.specs.declared.Decoded.{Decoded}
 use Rattle.record.specs.declared.Decoded.the-variants.{Whole, Bad, Cut}
 use Rattle.record.specs.Record.{isBody, recordOf}
-use Rattle.socket.specs.Deferred.{withOutcome}
-use Rattle.pair_outcome.specs.PairOutcome.{withTable, nextPair}
 use Rattle.line.specs.Line.{LINE}
 use Rattle.plain_call.specs.Rings.{Rings}
 use Rattle.record.specs.Order.{isMisplaced}
@@ -24,20 +22,6 @@ use Rattle.feed.specs.Machine.{Machine, machine, stepped, stepLine, stop
 -- the numbers that a block may begin with are a quarter of what 64 bits count, so that sums of two of them fit
 abbrev pub LIMIT : ℕ
 LIMIT = 4611686018427387904
-
--- ---- what a move leaves of the state
-
--- the state after it
-unfoldable pub changedState : State → StateChange → State
-changedState st a = record { pair = nextPair (a .pair) (st .pair); number = a .number; ended = a .ended }
-
--- once both ends are replaced, before the table is rebuilt
-unfoldable pub withEndsState : State → StateChange → State
-withEndsState st a = record { pair = withOutcome (a .pair .outcome) (st .pair); number = a .number; ended = a .ended }
-
--- once the table is rebuilt
-unfoldable pub withTableState : State → StateChange → State
-withTableState st a = record { pair = withTable (a .pair) (st .pair); number = st .number; ended = st .ended }
 
 -- ---- what the functions say
 

@@ -1,6 +1,4 @@
 // One block of a script is fed to the machine that it drives: the pair, memory, rings and tables.
-use socket::Pair;
-ghost use Prim.Native.Nat.{_-_, _<_};
 ghost use mathlib.Core.Path.{_≡_};
 ghost use mathlib.Core.Bool.{true};
 ghost use lib.ListN.{length};
@@ -9,12 +7,7 @@ ghost use Rattle.feed.specs.Feed.{isReady, FeedDone};
 
 mod turn;
 
-// Where a script stands: the pair, how many records have been run, and whether the script has ended.
-pub struct State {
-    pub pair: Pair,
-    pub number: u64,
-    pub ended: bool,
-}
+pub use script_state::State;
 
 // After a block: the state, how many bytes of the input are done with, and how many of the output are written.
 pub struct Fed {
@@ -72,9 +65,9 @@ fn feed_ready(
             at,
         );
         let a = t.change;
-        s = turn::with_ends(s, a);
-        if turn::rebuilds_table(s, a) {
-            s = turn::with_table(s, a);
+        s = script_state::with_ends(s, a);
+        if script_state::rebuilds_table(s, a) {
+            s = script_state::with_table(s, a);
         }
         from = t.from;
         at = t.at;

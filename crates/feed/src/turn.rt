@@ -1,30 +1,13 @@
 // One move of the machine that a script drives: a record is run and its line put out, or the script stops.
-use crate::State;
-use ends::Outcome;
-use pair_outcome::PairOutcome;
-use pair_outcome::unchanged;
 use record::Decoded;
-use record::fields;
-use status::Answer;
-use status::Status;
+use script_state::State;
+use script_state::StateChange;
 ghost use Prim.Native.Nat.{_+_, _≤_};
 ghost use mathlib.Core.Path.{_≡_};
 ghost use lib.ListN.{length, drop};
-ghost use Rattle.text.specs.Put.{Fit};
-ghost use Rattle.endpoint.specs.Endpoint.{shown};
-ghost use Rattle.pair_outcome.specs.PairOutcome.{rebuildsTable};
-ghost use Rattle.line.specs.Line.{LINE, lineOf};
 ghost use Rattle.plain_call.specs.Rings.{rings};
-ghost use Rattle.delivered.specs.Delivered.{delivered};
 ghost use Rattle.feed.specs.Machine.{machine, moveOf};
-ghost use Rattle.feed.specs.Turn.{LIMIT, changedState, withEndsState, withTableState, nextOf, StepMay, StepDone, StopDone, TurnMay, TurnDone};
-
-// What a move leaves of the state: what its call leaves of the pair, how many records have been run, and whether the script has ended.
-pub struct StateChange {
-    pub pair: PairOutcome,
-    pub number: u64,
-    pub ended: bool,
-}
+ghost use Rattle.feed.specs.Turn.{LIMIT, nextOf, StepMay, StepDone, StopDone, TurnMay, TurnDone};
 
 // After a step: what it leaves of the state, and the place in the output.
 pub struct Stepped {
@@ -38,30 +21,6 @@ pub struct Turned {
     pub from: usize,
     pub at: usize,
     pub more: bool,
-}
-
-// The line of a call, before the count of a read lands.
-fn print(
-    out: &mut [u8],
-    at: usize,
-    number: u64,
-    tag: u8,
-    body: &[u8],
-    r: Outcome,
-    memory: &[u8],
-) -> usize
-    requires { ⌜ length (now memory) ≤ 4096 ⌝ }
-    ensures { λ n. ⌜ Fit LINE at (lineOf number (r .answer) (shown (r .one)) (shown (r .two)) (delivered tag (now (body .entry)) (r .answer) (now (memory .entry)))) n (now (out .entry)) (now (out .exit)) ⌝ }
-{
-    let a = r.answer;
-    let e = r.one;
-    let one = e.shown();
-    let f = r.two;
-    let two = f.shown();
-    let from = delivered::place_of(fields::u64_at(body, 8));
-    let n = delivered::count(tag, a);
-    let bytes = delivered::part(memory, from, n);
-    line::line(out, at, number, a, one, two, bytes)
 }
 
 // Runs a record and puts out its line.
@@ -93,7 +52,7 @@ fn step(
     );
     let r = d.outcome;
     let a = r.answer;
-    let to = print(out, at, st.number, tag, body, r, memory);
+    let to = call_line::print(out, at, st.number, tag, body, r, memory);
     delivered::settle(tag, body, a, memory);
     Stepped {
         change: StateChange {
@@ -105,18 +64,6 @@ fn step(
     }
 }
 
-// No record is run: the pair stays. The answer in it is not looked at.
-fn no_record(st: State, ended: bool) -> StateChange
-    ensures { λ r. ⌜ changedState st r ≡ record { pair = st .pair; number = st .number; ended = ended } ⌝ }
-{
-    let p = st.pair;
-    StateChange {
-        pair: unchanged(p, Answer::Refused(Status::ShouldWait)),
-        number: st.number,
-        ended,
-    }
-}
-
 // The line that stops the script.
 fn stop(st: State, offset: u64, from: usize, out: &mut [u8], at: usize) -> Turned
     requires { ⌜ (offset ≤ LIMIT) × (from ≤ LIMIT) ⌝ }
@@ -124,7 +71,7 @@ fn stop(st: State, offset: u64, from: usize, out: &mut [u8], at: usize) -> Turne
 {
     let to = text::stop(out, at, offset + from as u64);
     Turned {
-        change: no_record(st, true),
+        change: script_state::no_record(st, true),
         from,
         at: to,
         more: false,
@@ -171,7 +118,7 @@ pub(crate) fn turn(
 {
     match next(st.ended, st.number, input, from) {
         Decoded::Cut => Turned {
-            change: no_record(st, st.ended),
+            change: script_state::no_record(st, st.ended),
             from,
             at,
             more: false,
@@ -201,40 +148,5 @@ pub(crate) fn turn(
                 more: true,
             }
         }
-    }
-}
-
-// The state with both ends replaced.
-pub(crate) fn with_ends(st: State, a: StateChange) -> State
-    ensures { λ r. ⌜ r ≡ withEndsState st a ⌝ }
-{
-    let p = st.pair;
-    let d = a.pair;
-    State {
-        pair: pair_outcome::with_ends(p, d),
-        number: a.number,
-        ended: a.ended,
-    }
-}
-
-// Whether the table is rebuilt.
-pub(crate) fn rebuilds_table(st: State, a: StateChange) -> bool
-    ensures { λ r. ⌜ r ≡ rebuildsTable (a .pair) (st .pair) ⌝ }
-{
-    let p = st.pair;
-    let d = a.pair;
-    pair_outcome::rebuilds_table(p, d)
-}
-
-// The state with its table rebuilt.
-pub(crate) fn with_table(st: State, a: StateChange) -> State
-    ensures { λ r. ⌜ r ≡ withTableState st a ⌝ }
-{
-    let p = st.pair;
-    let d = a.pair;
-    State {
-        pair: pair_outcome::with_table(p, d),
-        number: st.number,
-        ended: st.ended,
     }
 }

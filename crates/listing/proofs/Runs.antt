@@ -15,7 +15,7 @@ use Rattle.status.specs.Choice.{pick, _and_}
 use Rattle.places.proofs.Lists.{either}
 use Rattle.text.specs.Put.{place, Put, Written}
 use Rattle.text.proofs.Place.{place-front, place-none, place-place}
-use Rattle.feed.specs.declared.State.{State}
+use Rattle.script_state.specs.declared.State.{State}
 use Rattle.feed.specs.declared.Fed.{Fed}
 use Rattle.line.specs.Line.{LINE}
 use Rattle.feed.specs.Turn.{LIMIT}
@@ -28,7 +28,7 @@ use Rattle.script.proofs.Tells.{fed-rest, fed-stuck}
 use Rattle.listing.specs.Ran.{ifRoom, linesText, ranText, ranMachine, RanLent, Ran}
 
 -- what a writer gives back lies in the list
-pub written-fits : {k at r : ℕ} {xs l l′ : List ℕ} → Written k at xs r l l′ → at ≤ length l → r ≤ length l
+written-fits : {k at r : ℕ} {xs l l′ : List ℕ} → Written k at xs r l l′ → at ≤ length l → r ≤ length l
 written-fits {k} {at} {r} {xs} {l} {l′} w h =
     ⊎-elim
     (λ (e : leb (at + k) (length l) ≡ true). w .fit .put (leb-true (at + k) (length l) e) .fits)
@@ -59,6 +59,36 @@ pub out-length : (n w : ℕ) (out out₁ sub sub₂ : List ℕ) → length out�
     → length sub₂ ≡ length (midOf (n + w) (length (behind n out₁ sub) - (n + w)) (behind n out₁ sub)) → length (behind (n + w) (behind n out₁ sub) sub₂) ≡ length out
 out-length n w out out₁ sub sub₂ same₁ same same₂ =
     same-len-mid (n + w) (length (behind n out₁ sub) - (n + w)) (behind n out₁ sub) sub₂ same₂ ∙ same-len-mid n (length out₁ - n) out₁ sub same ∙ same₁
+
+-- the header lies in the output, and so do the lines behind it
+pub header-fits : (n : ℕ) (out out₁ : List ℕ) → Written 22 0 header n out out₁ → length out₁ ≡ length out → n ≤ length out₁
+header-fits n out out₁ h same₁ = omega (arith, written-fits h (let z : 0 ≤ length out = omega arith in z))
+
+pub lines-fit : (n w : ℕ) (out out₁ sub : List ℕ) → Written 22 0 header n out out₁ → length out₁ ≡ length out → length sub ≡ length (midOf n (length out₁ - n) out₁)
+    → w ≤ length sub → n + w ≤ length out
+lines-fit n w out out₁ sub h same₁ same fits =
+    omega (arith, header-fits n out out₁ h same₁, length-take (length out₁ - n) (drop n out₁), length-drop n out₁)
+
+pub lines-within : (n w : ℕ) (out out₁ sub : List ℕ) → Written 22 0 header n out out₁ → length out₁ ≡ length out → length sub ≡ length (midOf n (length out₁ - n) out₁)
+    → w ≤ length sub → n + w ≤ length (behind n out₁ sub)
+lines-within n w out out₁ sub h same₁ same fits =
+    omega (arith, lines-fit n w out out₁ sub h same₁ same fits, same-len-mid n (length out₁ - n) out₁ sub same)
+
+-- the end of the input lies in the part behind the lines
+pub closing-fits : (n w c : ℕ) (out out₁ sub text sub₂ : List ℕ) → Written 22 0 header n out out₁ → length out₁ ≡ length out
+    → length sub ≡ length (midOf n (length out₁ - n) out₁) → w ≤ length sub
+    → Written 26 0 text c (midOf (n + w) (length (behind n out₁ sub) - (n + w)) (behind n out₁ sub)) sub₂ → n + w + c ≤ length out
+closing-fits n w c out out₁ sub text sub₂ h same₁ same fits d =
+    let out₂ : List ℕ = behind n out₁ sub in
+    let part : List ℕ = midOf (n + w) (length out₂ - (n + w)) out₂ in
+    omega (
+      arith,
+      lines-within n w out out₁ sub h same₁ same fits,
+      same-len-mid n (length out₁ - n) out₁ sub same,
+      written-fits d (let z : 0 ≤ length part = omega arith in z),
+      length-take (length out₂ - (n + w)) (drop (n + w) out₂),
+      length-drop (n + w) out₂,
+    )
 
 module _ (s memory memory′ l sub l₂ sub₂ : List ℕ) (z z′ : Rings) (c : ℕ) (f : Fed)
     (d : FeedDone startState 0 s memory memory′ z z′ l sub f)

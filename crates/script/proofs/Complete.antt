@@ -14,7 +14,7 @@ use Rattle.text.specs.Put.{place, Written}
 use Rattle.text.proofs.Place.{place-length, had-room}
 use Rattle.line.proofs.Lengths.{stop-most}
 use Rattle.line.specs.Line.{LINE}
-use Rattle.feed.specs.declared.State.{State}
+use Rattle.script_state.specs.declared.State.{State}
 use Rattle.feed.specs.declared.Fed.{Fed}
 use Rattle.feed.specs.Machine.{Machine, start, startState, stay, moveOf}
 use Rattle.script.specs.Listing.{closing}

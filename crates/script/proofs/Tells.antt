@@ -13,7 +13,7 @@ use Rattle.text.specs.Answer.{stopOf}
 use Rattle.text.specs.Put.{place}
 use Rattle.text.proofs.Place.{place-front}
 use Rattle.line.specs.Line.{LINE}
-use Rattle.feed.specs.declared.State.{State}
+use Rattle.script_state.specs.declared.State.{State}
 use Rattle.feed.specs.declared.Fed.{Fed}
 use Rattle.plain_call.specs.Rings.{Rings}
 use Rattle.feed.specs.Machine.{Machine, machine, Move, stay, halt, go, moveOf}

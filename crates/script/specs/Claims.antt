@@ -6,7 +6,7 @@ use lib.ListN.{length, take, drop}
 use Rattle.text.specs.Put.{Written}
 use Rattle.line.specs.Line.{LINE}
 use Rattle.plain_call.specs.Rings.{Rings}
-use Rattle.feed.specs.declared.State.{State}
+use Rattle.script_state.specs.declared.State.{State}
 use Rattle.feed.specs.declared.Fed.{Fed}
 use Rattle.feed.specs.Machine.{Machine, machine, start, stay, moveOf}
 use Rattle.feed.specs.Turn.{LIMIT}

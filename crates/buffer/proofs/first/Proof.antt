@@ -1,6 +1,6 @@
 use borrow.Author.Needs.{needs}
 use mathlib.Core.Path.{ap, _∙_}
-use Rattle.feed.specs.declared.State.{State}
+use Rattle.script_state.specs.declared.State.{State}
 use Rattle.buffer.specs.declared.Progress.{Progress}
 use Rattle.buffer.proofs.first.Statement.{statement}
 use Rattle.buffer.proofs.first.Tie as tie

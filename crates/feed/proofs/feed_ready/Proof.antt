@@ -56,7 +56,7 @@ loop-less c =
     let a = c .before .before .before .before .before .before .before .before .before .before .before .before .before .before .before .before .before .before .before .before .before .before .before .before .before .before .before .before .before .before .before .before .before .before .args in
     let k = c .before .before .before .before .before .before .before .before .before .before .before .before .before .before .before .before .before .turn in
     subst (λ (b : Bool). left (now (a .input)) (k .result .from) (k .result .more) < left (now (a .input)) (l .from) b) (sym (c .before .before .before .before .before .before .before .before .before .before .before .before .before .before .before .before .before .before .before .before .before .before .before .before .before .loop-test .taken))
-    (falls (machine (l .s) (l .memory) (rings (l .ring-one) (l .table-one) (l .ring-two) (l .table-two))) (a .offset) (now (a .input)) (l .from) (l .at) _ _ (l .out) _ (k .result) (l .inv .0 .within) (k .ensures))
+    (falls (machine (l .s) (l .memory) (rings (l .ring-one) (l .table-one) (l .ring-two) (l .table-two))) (a .offset) (now (a .input)) (l .from) (l .at) (k .last .1 .1 .1 .1 .0) (rings (k .last .1 .1 .1 .1 .1 .0) (k .last .1 .1 .1 .1 .1 .1 .0) (k .last .1 .1 .1 .1 .1 .1 .1 .0) (k .last .1 .1 .1 .1 .1 .1 .1 .1 .0)) (l .out) (k .last .1 .1 .1 .1 .1 .1 .1 .1 .1 .0) (k .result) (l .inv .0 .within) (k .ensures))
 
 loop-again : tie.Need-loop-again Inv-loop μ-loop
 loop-again c =
@@ -66,7 +66,7 @@ loop-again c =
     let m = (machine (l .s) (l .memory) (rings (l .ring-one) (l .table-one) (l .ring-two) (l .table-two))) in
     let i = subst (λ (b : Bool). SoFar (machine (a .st) (now (a .memory)) (rings (now (a .ring-one)) (now (a .table-one)) (now (a .ring-two)) (now (a .table-two)))) (a .offset) (now (a .input)) (now (a .out)) m (l .out) (l .from) (l .at) b) (c .before .before .before .before .before .before .before .before .before .before .before .before .before .before .before .before .before .before .before .before .before .before .before .before .before .loop-test .taken) (l .inv .0) in
     let room : l .at + LINE ≤ length (l .out) = omega (arith, leb-true 8254 (length (l .out) - l .at) (c .before .before .before .before .before .before .before .before .before .before .before .before .before .before .before .before .before .before .before .before .before .before .before .before .if1 .taken), i .fits) in (
-      next (machine (a .st) (now (a .memory)) (rings (now (a .ring-one)) (now (a .table-one)) (now (a .ring-two)) (now (a .table-two)))) m (a .offset) (now (a .input)) (now (a .out)) (l .out) (l .from) (l .at) i _ _ _ (k .result) _ (k .ensures) (changed-table (l .s) (c .before .before .before .with-ends .result) _ (k .result .change) (c .before .before .rebuilds-table .result) (c .before .before .before .with-ends .ensures) (c .before .before .rebuilds-table .ensures) (c .before .if2 .taken) (c .with-table .ensures)) room,
+      next (machine (a .st) (now (a .memory)) (rings (now (a .ring-one)) (now (a .table-one)) (now (a .ring-two)) (now (a .table-two)))) m (a .offset) (now (a .input)) (now (a .out)) (l .out) (l .from) (l .at) i (k .last .1 .1 .1 .1 .0) (rings (k .last .1 .1 .1 .1 .1 .0) (k .last .1 .1 .1 .1 .1 .1 .0) (k .last .1 .1 .1 .1 .1 .1 .1 .0) (k .last .1 .1 .1 .1 .1 .1 .1 .1 .0)) (k .last .1 .1 .1 .1 .1 .1 .1 .1 .1 .0) (k .result) (c .with-table .result) (k .ensures) (changed-table (l .s) (c .before .before .before .with-ends .result) (c .with-table .result) (k .result .change) (c .before .before .rebuilds-table .result) (c .before .before .before .with-ends .ensures) (c .before .before .rebuilds-table .ensures) (c .before .if2 .taken) (c .with-table .ensures)) room,
       l .inv .1,
       k .kept .1 .1 .1 .1 .0 ∙ l .inv .2,
       k .kept .1 .1 .1 .1 .1 .0 ∙ l .inv .3,
@@ -82,7 +82,7 @@ loop-less-2 c =
     let a = c .before .before .before .before .before .before .before .before .before .before .before .before .before .before .before .before .before .before .before .before .before .before .before .before .before .before .before .before .before .before .before .before .before .args in
     let k = c .before .before .before .before .before .before .before .before .before .before .before .before .before .before .before .before .turn in
     subst (λ (b : Bool). left (now (a .input)) (k .result .from) (k .result .more) < left (now (a .input)) (l .from) b) (sym (c .before .before .before .before .before .before .before .before .before .before .before .before .before .before .before .before .before .before .before .before .before .before .before .before .loop-test .taken))
-    (falls (machine (l .s) (l .memory) (rings (l .ring-one) (l .table-one) (l .ring-two) (l .table-two))) (a .offset) (now (a .input)) (l .from) (l .at) _ _ (l .out) _ (k .result) (l .inv .0 .within) (k .ensures))
+    (falls (machine (l .s) (l .memory) (rings (l .ring-one) (l .table-one) (l .ring-two) (l .table-two))) (a .offset) (now (a .input)) (l .from) (l .at) (k .last .1 .1 .1 .1 .0) (rings (k .last .1 .1 .1 .1 .1 .0) (k .last .1 .1 .1 .1 .1 .1 .0) (k .last .1 .1 .1 .1 .1 .1 .1 .0) (k .last .1 .1 .1 .1 .1 .1 .1 .1 .0)) (l .out) (k .last .1 .1 .1 .1 .1 .1 .1 .1 .1 .0) (k .result) (l .inv .0 .within) (k .ensures))
 
 loop-again-2 : tie.Need-loop-again-2 Inv-loop μ-loop
 loop-again-2 c =
@@ -92,7 +92,7 @@ loop-again-2 c =
     let m = (machine (l .s) (l .memory) (rings (l .ring-one) (l .table-one) (l .ring-two) (l .table-two))) in
     let i = subst (λ (b : Bool). SoFar (machine (a .st) (now (a .memory)) (rings (now (a .ring-one)) (now (a .table-one)) (now (a .ring-two)) (now (a .table-two)))) (a .offset) (now (a .input)) (now (a .out)) m (l .out) (l .from) (l .at) b) (c .before .before .before .before .before .before .before .before .before .before .before .before .before .before .before .before .before .before .before .before .before .before .before .before .loop-test .taken) (l .inv .0) in
     let room : l .at + LINE ≤ length (l .out) = omega (arith, leb-true 8254 (length (l .out) - l .at) (c .before .before .before .before .before .before .before .before .before .before .before .before .before .before .before .before .before .before .before .before .before .before .before .if1 .taken), i .fits) in (
-      next (machine (a .st) (now (a .memory)) (rings (now (a .ring-one)) (now (a .table-one)) (now (a .ring-two)) (now (a .table-two)))) m (a .offset) (now (a .input)) (now (a .out)) (l .out) (l .from) (l .at) i _ _ _ (k .result) _ (k .ensures) (changed-ends (l .s) (c .before .before .with-ends .result) (k .result .change) (c .before .rebuilds-table .result) (c .before .before .with-ends .ensures) (c .before .rebuilds-table .ensures) (c .if2 .left)) room,
+      next (machine (a .st) (now (a .memory)) (rings (now (a .ring-one)) (now (a .table-one)) (now (a .ring-two)) (now (a .table-two)))) m (a .offset) (now (a .input)) (now (a .out)) (l .out) (l .from) (l .at) i (k .last .1 .1 .1 .1 .0) (rings (k .last .1 .1 .1 .1 .1 .0) (k .last .1 .1 .1 .1 .1 .1 .0) (k .last .1 .1 .1 .1 .1 .1 .1 .0) (k .last .1 .1 .1 .1 .1 .1 .1 .1 .0)) (k .last .1 .1 .1 .1 .1 .1 .1 .1 .1 .0) (k .result) (c .before .before .with-ends .result) (k .ensures) (changed-ends (l .s) (c .before .before .with-ends .result) (k .result .change) (c .before .rebuilds-table .result) (c .before .before .with-ends .ensures) (c .before .rebuilds-table .ensures) (c .if2 .left)) room,
       l .inv .1,
       k .kept .1 .1 .1 .1 .0 ∙ l .inv .2,
       k .kept .1 .1 .1 .1 .1 .0 ∙ l .inv .3,

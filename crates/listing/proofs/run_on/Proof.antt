@@ -1,7 +1,7 @@
 -- `run_on` meets its contract: each part of the output that is lent begins within it, and `ran` puts the three texts together.
 use native.Mathlib.Omega.{arith}
 use mathlib.Core.Path.{refl}
-use Rattle.listing.proofs.Runs.{written-fits, out-length, ran}
+use Rattle.listing.proofs.Runs.{header-fits, lines-fit, lines-within, closing-fits, out-length, ran}
 use denote.Ref.{now}
 use Rattle.plain_call.specs.Rings.{rings}
 use borrow.Author.Needs.{needs}
@@ -15,16 +15,10 @@ start-requires : tie.Need-start-requires
 start-requires c κs = search needs
 
 sub-feed : tie.Need-sub-feed
-sub-feed c =
-    let begins = written-fits (c .before .before .before .before .before .before .before .before .header .ensures) (omega arith) in
-    let kept = c .before .before .before .before .before .before .before .before .header .kept .0 in
-    omega (arith, begins, kept)
+sub-feed c = header-fits _ _ _ (c .before .before .before .before .before .before .before .before .header .ensures) (c .before .before .before .before .before .before .before .before .header .kept .0)
 
 part-feed-start : tie.Need-part-feed-start
-part-feed-start c =
-    let begins = written-fits (c .before .before .before .before .before .before .before .before .header .ensures) (omega arith) in
-    let kept = c .before .before .before .before .before .before .before .before .header .kept .0 in
-    omega (arith, begins, kept)
+part-feed-start c = header-fits _ _ _ (c .before .before .before .before .before .before .before .before .header .ensures) (c .before .before .before .before .before .before .before .before .header .kept .0)
 
 part-feed-end : tie.Need-part-feed-end
 part-feed-end c = search needs
@@ -34,11 +28,9 @@ feed-requires c κs = search needs
 
 add-at : tie.Need-add-at
 add-at c =
-    let begins = written-fits (c .before .before .before .before .before .before .before .before .before .before .before .before .before .before .before .before .before .before .before .before .before .before .before .header .ensures) (omega arith) in
-    let kept = c .before .before .before .before .before .before .before .before .before .before .before .before .before .before .before .before .before .before .before .before .before .before .before .header .kept .0 in
-    let within = c .before .before .before .before .before .before .before .before .before .before .before .before .before .feed .ensures .fits in
-    let lines = c .before .before .before .before .before .before .before .before .before .before .before .before .before .feed .kept .1 .1 .1 .1 .1 .1 .1 .1 .0 in
-    omega (arith, begins, kept, within, lines, c .before .before .before .before .before .before .before .before .before .before .before .before .before .before .before .before .before .before .before .before .before .before .before .before .before .before .before .before .before .before .before .before .good)
+    let h = c .before .before .before .before .before .before .before .before .before .before .before .before .before .before .before .before .before .before .before .before .before .before .before .header in
+    let f = c .before .before .before .before .before .before .before .before .before .before .before .before .before .feed in
+    omega (arith, lines-fit (h .result) (f .result .written) (now (c .before .before .before .before .before .before .before .before .before .before .before .before .before .before .before .before .before .before .before .before .before .before .before .before .before .before .before .before .before .before .before .before .args .out)) (h .last .0) (f .last .1 .1 .1 .1 .1 .1 .1 .1 .0) (h .ensures) (h .kept .0) (f .kept .1 .1 .1 .1 .1 .1 .1 .1 .0) (f .ensures .fits), c .before .before .before .before .before .before .before .before .before .before .before .before .before .before .before .before .before .before .before .before .before .before .before .before .before .before .before .before .before .before .before .before .good)
 
 sub-finish : tie.Need-sub-finish
 sub-finish c = search needs
@@ -51,19 +43,15 @@ part-finish-end c = search needs
 
 sub-finish-2 : tie.Need-sub-finish-2
 sub-finish-2 c =
-    let begins = written-fits (c .before .before .before .before .before .before .before .before .before .before .before .before .before .before .before .before .before .before .before .before .before .before .before .before .header .ensures) (omega arith) in
-    let kept = c .before .before .before .before .before .before .before .before .before .before .before .before .before .before .before .before .before .before .before .before .before .before .before .before .header .kept .0 in
-    let within = c .before .before .before .before .before .before .before .before .before .before .before .before .before .before .feed .ensures .fits in
-    let lines = c .before .before .before .before .before .before .before .before .before .before .before .before .before .before .feed .kept .1 .1 .1 .1 .1 .1 .1 .1 .0 in
-    omega (arith, begins, kept, within, lines)
+    let h = c .before .before .before .before .before .before .before .before .before .before .before .before .before .before .before .before .before .before .before .before .before .before .before .before .header in
+    let f = c .before .before .before .before .before .before .before .before .before .before .before .before .before .before .feed in
+    lines-within (h .result) (f .result .written) (now (c .before .before .before .before .before .before .before .before .before .before .before .before .before .before .before .before .before .before .before .before .before .before .before .before .before .before .before .before .before .before .before .before .before .args .out)) (h .last .0) (f .last .1 .1 .1 .1 .1 .1 .1 .1 .0) (h .ensures) (h .kept .0) (f .kept .1 .1 .1 .1 .1 .1 .1 .1 .0) (f .ensures .fits)
 
 part-finish-start-2 : tie.Need-part-finish-start-2
 part-finish-start-2 c =
-    let begins = written-fits (c .before .before .before .before .before .before .before .before .before .before .before .before .before .before .before .before .before .before .before .before .before .before .before .before .header .ensures) (omega arith) in
-    let kept = c .before .before .before .before .before .before .before .before .before .before .before .before .before .before .before .before .before .before .before .before .before .before .before .before .header .kept .0 in
-    let within = c .before .before .before .before .before .before .before .before .before .before .before .before .before .before .feed .ensures .fits in
-    let lines = c .before .before .before .before .before .before .before .before .before .before .before .before .before .before .feed .kept .1 .1 .1 .1 .1 .1 .1 .1 .0 in
-    omega (arith, begins, kept, within, lines)
+    let h = c .before .before .before .before .before .before .before .before .before .before .before .before .before .before .before .before .before .before .before .before .before .before .before .before .header in
+    let f = c .before .before .before .before .before .before .before .before .before .before .before .before .before .before .feed in
+    lines-within (h .result) (f .result .written) (now (c .before .before .before .before .before .before .before .before .before .before .before .before .before .before .before .before .before .before .before .before .before .before .before .before .before .before .before .before .before .before .before .before .before .args .out)) (h .last .0) (f .last .1 .1 .1 .1 .1 .1 .1 .1 .0) (h .ensures) (h .kept .0) (f .kept .1 .1 .1 .1 .1 .1 .1 .1 .0) (f .ensures .fits)
 
 part-finish-end-2 : tie.Need-part-finish-end-2
 part-finish-end-2 c = search needs
@@ -73,13 +61,10 @@ finish-requires c κs = search needs
 
 add-result : tie.Need-add-result
 add-result c =
-    let begins = written-fits (c .before .before .before .before .before .before .before .before .before .before .before .before .before .before .before .before .before .before .before .before .before .before .before .before .before .before .before .before .header .ensures) (omega arith) in
-    let kept = c .before .before .before .before .before .before .before .before .before .before .before .before .before .before .before .before .before .before .before .before .before .before .before .before .before .before .before .before .header .kept .0 in
-    let within = c .before .before .before .before .before .before .before .before .before .before .before .before .before .before .before .before .before .before .feed .ensures .fits in
-    let lines = c .before .before .before .before .before .before .before .before .before .before .before .before .before .before .before .before .before .before .feed .kept .1 .1 .1 .1 .1 .1 .1 .1 .0 in
-    let rests = written-fits (c .before .before .finish .ensures) (omega arith) in
-    let last = c .before .before .finish .kept .1 .1 .1 .0 in
-    omega (arith, begins, kept, within, lines, rests, last, c .before .before .before .before .before .before .before .before .before .before .before .before .before .before .before .before .before .before .before .before .before .before .before .before .before .before .before .before .before .before .before .before .before .before .before .before .before .good)
+    let h = c .before .before .before .before .before .before .before .before .before .before .before .before .before .before .before .before .before .before .before .before .before .before .before .before .before .before .before .before .header in
+    let f = c .before .before .before .before .before .before .before .before .before .before .before .before .before .before .before .before .before .before .feed in
+    let e = c .before .before .finish in
+    omega (arith, closing-fits (h .result) (f .result .written) (e .result) (now (c .before .before .before .before .before .before .before .before .before .before .before .before .before .before .before .before .before .before .before .before .before .before .before .before .before .before .before .before .before .before .before .before .before .before .before .before .before .args .out)) (h .last .0) (f .last .1 .1 .1 .1 .1 .1 .1 .1 .0) _ (e .last .1 .1 .1 .0) (h .ensures) (h .kept .0) (f .kept .1 .1 .1 .1 .1 .1 .1 .1 .0) (f .ensures .fits) (e .ensures), c .before .before .before .before .before .before .before .before .before .before .before .before .before .before .before .before .before .before .before .before .before .before .before .before .before .before .before .before .before .before .before .before .before .before .before .before .before .good)
 
 same-length : tie.Need-same-length
 same-length c = c .before .before .before .before .before .before .before .before .before .before .before .before .before .before .before .before .before .before .feed .kept .1 .1 .1 .0

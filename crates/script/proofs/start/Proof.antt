@@ -5,7 +5,7 @@ use Rattle.status.specs.Answer.{isDone, refuseIf, _then_}
 use Rattle.status.specs.Choice.{pick}
 use Rattle.create_answer.specs.Create.{numbersAnswer, createAnswer}
 use Rattle.socket.specs.declared.Pair.{Pair}
-use Rattle.feed.proofs.Turns.{mkState}
+use Rattle.script_state.proofs.States.{mkState}
 use Rattle.feed.specs.Machine.{startState}
 use Rattle.script.proofs.start.Statement.{statement}
 use Rattle.script.proofs.start.Tie as tie

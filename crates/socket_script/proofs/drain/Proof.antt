@@ -49,7 +49,7 @@ loop-again c =
     let l = c .before .before .before .before .before .before .before .before .before .before .before .before .before .before .before .before .before .before .before .before .before .before .before .before .before .before .loop in
     let k = c .before .before .before .before .before .before .before .before .before .before .before .before .before .before .before .before .before .before .advance in
     let a = c .before .before .before .before .before .before .before .before .before .before .before .before .before .before .before .before .before .before .before .before .before .before .before .before .before .before .before .before .before .before .before .before .before .before .args in (
-      onwards (a .p) (machine (a .p .state) (now (a .memory)) (rings (now (a .ring-one)) (now (a .table-one)) (now (a .ring-two)) (now (a .table-two)))) (take (a .p .used) (now (a .buffer))) (l .q) (l .buffer) _ (l .memory) _ (rings (l .ring-one) (l .table-one) (l .ring-two) (l .table-two)) _ (l .out) _ (k .result) (l .inv .0) (k .ensures) (omega (arith, l .inv .0 .within, l .inv .1 .used, l .inv .2)) (l .inv .1 .total) (omega (arith, l .inv .1 .size, l .inv .3)),
+      onwards (a .p) (machine (a .p .state) (now (a .memory)) (rings (now (a .ring-one)) (now (a .table-one)) (now (a .ring-two)) (now (a .table-two)))) (take (a .p .used) (now (a .buffer))) (l .q) (l .buffer) (k .last .1 .0) (l .memory) (k .last .1 .1 .0) (rings (l .ring-one) (l .table-one) (l .ring-two) (l .table-two)) (rings (k .last .1 .1 .1 .0) (k .last .1 .1 .1 .1 .0) (k .last .1 .1 .1 .1 .1 .0) (k .last .1 .1 .1 .1 .1 .1 .0)) (l .out) (k .last .1 .1 .1 .1 .1 .1 .1 .0) (k .result) (l .inv .0) (k .ensures) (omega (arith, l .inv .0 .within, l .inv .1 .used, l .inv .2)) (l .inv .1 .total) (omega (arith, l .inv .1 .size, l .inv .3)),
       l .inv .1,
       k .kept .1 .0 ∙ l .inv .2,
       k .kept .1 .1 .0 ∙ l .inv .3,
@@ -58,7 +58,7 @@ loop-again c =
       k .kept .1 .1 .1 .1 .1 .0 ∙ l .inv .6,
       k .kept .1 .1 .1 .1 .1 .1 .0 ∙ l .inv .7,
       k .kept .1 .1 .1 .1 .1 .1 .1 .0 ∙ l .inv .8,
-      more (l .inv .9) (k .ensures) (c .if1 .left),
+      more {z = held (k .result) (k .last .1 .0) (k .last .1 .1 .0) (rings (k .last .1 .1 .1 .0) (k .last .1 .1 .1 .1 .0) (k .last .1 .1 .1 .1 .1 .0) (k .last .1 .1 .1 .1 .1 .1 .0)) (k .last .1 .1 .1 .1 .1 .1 .1 .0)} (l .inv .9) (k .ensures) (c .if1 .left),
     )
 
 same-length : tie.Need-same-length Inv-loop μ-loop
@@ -87,8 +87,8 @@ returns c =
     let l = c .before .before .before .before .before .before .before .before .before .before .before .before .before .before .before .before .before .before .before .before .before .before .before .before .before .before .loop in
     let k = c .before .before .before .before .before .before .before .before .before .before .before .before .before .before .before .before .before .before .advance in
     let a = c .before .before .before .before .before .before .before .before .before .before .before .before .before .before .before .before .before .before .before .before .before .before .before .before .before .before .before .before .before .before .before .before .before .before .args in
-    drained _ _ (held (l .q) (l .buffer) (l .memory) (rings (l .ring-one) (l .table-one) (l .ring-two) (l .table-two)) (l .out), l .inv .9, k .ensures, c .if1 .taken) (onwards (a .p) (machine (a .p .state) (now (a .memory)) (rings (now (a .ring-one)) (now (a .table-one)) (now (a .ring-two)) (now (a .table-two)))) (take (a .p .used) (now (a .buffer))) (l .q) (l .buffer) _ (l .memory) _ (rings (l .ring-one) (l .table-one) (l .ring-two) (l .table-two)) _ (l .out) _ (k .result) (l .inv .0) (k .ensures) (omega (arith, l .inv .0 .within, l .inv .1 .used, l .inv .2)) (l .inv .1 .total) (omega (arith, l .inv .1 .size, l .inv .3)))
-    (ends (a .p) (machine (a .p .state) (now (a .memory)) (rings (now (a .ring-one)) (now (a .table-one)) (now (a .ring-two)) (now (a .table-two)))) (take (a .p .used) (now (a .buffer))) (l .q) (l .buffer) _ (l .memory) _ (rings (l .ring-one) (l .table-one) (l .ring-two) (l .table-two)) _ (l .out) _ (k .result) (l .inv .0) (k .ensures) (omega (arith, l .inv .0 .within, l .inv .1 .used, l .inv .2)) (l .inv .1 .total) (omega (arith, l .inv .1 .size, l .inv .3)) (omega (arith, l .inv .1 .room, l .inv .8)) (c .if1 .taken))
+    drained (held (a .p) (now (a .buffer)) (now (a .memory)) (rings (now (a .ring-one)) (now (a .table-one)) (now (a .ring-two)) (now (a .table-two))) (now (a .out))) (held (k .result) (k .last .1 .0) (k .last .1 .1 .0) (rings (k .last .1 .1 .1 .0) (k .last .1 .1 .1 .1 .0) (k .last .1 .1 .1 .1 .1 .0) (k .last .1 .1 .1 .1 .1 .1 .0)) (k .last .1 .1 .1 .1 .1 .1 .1 .0)) (held (l .q) (l .buffer) (l .memory) (rings (l .ring-one) (l .table-one) (l .ring-two) (l .table-two)) (l .out), l .inv .9, k .ensures, c .if1 .taken) (onwards (a .p) (machine (a .p .state) (now (a .memory)) (rings (now (a .ring-one)) (now (a .table-one)) (now (a .ring-two)) (now (a .table-two)))) (take (a .p .used) (now (a .buffer))) (l .q) (l .buffer) (k .last .1 .0) (l .memory) (k .last .1 .1 .0) (rings (l .ring-one) (l .table-one) (l .ring-two) (l .table-two)) (rings (k .last .1 .1 .1 .0) (k .last .1 .1 .1 .1 .0) (k .last .1 .1 .1 .1 .1 .0) (k .last .1 .1 .1 .1 .1 .1 .0)) (l .out) (k .last .1 .1 .1 .1 .1 .1 .1 .0) (k .result) (l .inv .0) (k .ensures) (omega (arith, l .inv .0 .within, l .inv .1 .used, l .inv .2)) (l .inv .1 .total) (omega (arith, l .inv .1 .size, l .inv .3)))
+    (ends (a .p) (machine (a .p .state) (now (a .memory)) (rings (now (a .ring-one)) (now (a .table-one)) (now (a .ring-two)) (now (a .table-two)))) (take (a .p .used) (now (a .buffer))) (l .q) (l .buffer) (k .last .1 .0) (l .memory) (k .last .1 .1 .0) (rings (l .ring-one) (l .table-one) (l .ring-two) (l .table-two)) (rings (k .last .1 .1 .1 .0) (k .last .1 .1 .1 .1 .0) (k .last .1 .1 .1 .1 .1 .0) (k .last .1 .1 .1 .1 .1 .1 .0)) (l .out) (k .last .1 .1 .1 .1 .1 .1 .1 .0) (k .result) (l .inv .0) (k .ensures) (omega (arith, l .inv .0 .within, l .inv .1 .used, l .inv .2)) (l .inv .1 .total) (omega (arith, l .inv .1 .size, l .inv .3)) (omega (arith, l .inv .1 .room, l .inv .8)) (c .if1 .taken))
 
 pub drain-spec : {M : Type 1} → statement M
 drain-spec =

@@ -11,7 +11,7 @@ call-requires : tie.Need-call-requires
 call-requires c κs = search needs
 
 print-requires : tie.Need-print-requires
-print-requires c κs = omega (arith, c .before .before .before .before .before .before .before .before .before .before .before .before .before .call .kept .1 .1 .1 .0, c .before .before .before .before .before .before .before .before .before .before .before .before .before .before .before .before .before .before .before .before .before .before .before .before .before .before .before .pre .size)
+print-requires c κs = search needs
 
 settle-requires : tie.Need-settle-requires
 settle-requires c κs = search needs
@@ -32,21 +32,25 @@ same-length-3 : tie.Need-same-length-3
 same-length-3 c = c .before .before .before .before .before .before .before .before .before .before .before .before .before .before .before .before .before .before .before .before .before .before .call .kept .1 .1 .1 .1 .1 .0
 
 same-length-4 : tie.Need-same-length-4
-same-length-4 c = search needs
+same-length-4 c = c .before .before .before .before .before .before .before .before .before .before .before .before .before .before .before .before .before .before .before .before .before .before .call .kept .1 .1 .1 .1 .1 .1 .0
 
 same-length-5 : tie.Need-same-length-5
-same-length-5 c = search needs
+same-length-5 c = c .before .before .before .before .before .before .before .before .before .before .before .before .before .before .before .before .before .before .before .before .before .before .call .kept .1 .1 .1 .1 .1 .1 .1 .0
 
 same-length-6 : tie.Need-same-length-6
-same-length-6 c = search needs
+same-length-6 c = c .before .before .before .before .before .before .before .before .print .kept .0
 
 returns : tie.Need-returns
 returns c =
     let a = c .before .before .before .before .before .before .before .before .before .before .before .before .before .before .before .before .before .before .before .before .before .before .before .before .before .before .before .before .before .before .before .before .before .before .before .before .args in
-    step-done (a .st) (a .tag) (a .at) _ (now (a .body)) (now (a .memory)) _ _ (now (a .out)) _
-    (rings (now (a .ring-one)) (now (a .table-one)) (now (a .ring-two)) (now (a .table-two))) _ (c .before .before .before .before .before .before .before .before .before .before .before .before .before .before .before .before .before .before .before .before .before .before .call .result) _
-    (c .before .before .before .before .before .before .before .before .before .before .before .before .before .before .before .before .before .before .before .before .before .before .call .ensures .made (c .before .before .before .before .before .before .before .before .before .before .before .before .before .before .before .before .before .before .before .before .before .before .before .before .before .before .before .before .before .before .before .before .before .before .before .before .pre .body))
-    (c .before .before .before .before .before .before .before .before .print .ensures) (c .before .before .before .before .settle .ensures) (c .is-last .ensures)
+    let may = c .before .before .before .before .before .before .before .before .before .before .before .before .before .before .before .before .before .before .before .before .before .before .before .before .before .before .before .before .before .before .before .before .before .before .before .before .pre in
+    let d = c .before .before .before .before .before .before .before .before .before .before .before .before .before .before .before .before .before .before .before .before .before .before .call in
+    let printed = c .before .before .before .before .before .before .before .before .print in
+    let settled = c .before .before .before .before .settle in
+    step-done (a .st) (a .tag) (a .at) (printed .result) (now (a .body)) (now (a .memory)) (d .last .1 .1 .1 .0) (settled .last .1 .1 .1 .0) (now (a .out)) (printed .last .0)
+    (rings (now (a .ring-one)) (now (a .table-one)) (now (a .ring-two)) (now (a .table-two)))
+    (rings (d .last .1 .1 .1 .1 .0) (d .last .1 .1 .1 .1 .1 .0) (d .last .1 .1 .1 .1 .1 .1 .0) (d .last .1 .1 .1 .1 .1 .1 .1 .0)) (d .result) (c .is-last .result)
+    (d .ensures .made (may .body)) (may .size) (d .kept .1 .1 .1 .0) (printed .ensures) (settled .ensures) (c .is-last .ensures)
 
 pub step-spec : {M : Type 1} → statement M
 step-spec =

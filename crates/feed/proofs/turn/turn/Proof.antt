@@ -71,22 +71,22 @@ returns-2 c =
     turn-stop m (moveOf m s) (a .offset) (a .from) (a .at) (now (a .out)) _ _ (next-bad m s (c .before .before .before .before .before .before .next .result) (c .before .before .before .before .before .before .next .ensures) (c .before .before .before .before .enum-told2 .given .1)) (c .before .before .stop .ensures)
 
 same-length-2 : tie.Need-same-length-2
-same-length-2 c = search needs
+same-length-2 c = c .before .before .before .before .before .before .before .before .before .before .before .before .before .step .kept .1 .1 .1 .0
 
 same-length-3 : tie.Need-same-length-3
-same-length-3 c = search needs
+same-length-3 c = c .before .before .before .before .before .before .before .before .before .before .before .before .before .step .kept .1 .1 .1 .1 .0
 
 same-length-4 : tie.Need-same-length-4
-same-length-4 c = search needs
+same-length-4 c = c .before .before .before .before .before .before .before .before .before .before .before .before .before .step .kept .1 .1 .1 .1 .1 .0
 
 same-length-5 : tie.Need-same-length-5
-same-length-5 c = search needs
+same-length-5 c = c .before .before .before .before .before .before .before .before .before .before .before .before .before .step .kept .1 .1 .1 .1 .1 .1 .0
 
 same-length-6 : tie.Need-same-length-6
-same-length-6 c = search needs
+same-length-6 c = c .before .before .before .before .before .before .before .before .before .before .before .before .before .step .kept .1 .1 .1 .1 .1 .1 .1 .0
 
 same-length-7 : tie.Need-same-length-7
-same-length-7 c = search needs
+same-length-7 c = c .before .before .before .before .before .before .before .before .before .before .before .before .before .step .kept .1 .1 .1 .1 .1 .1 .1 .1 .0
 
 returns-3 : tie.Need-returns-3
 returns-3 c =
@@ -94,8 +94,9 @@ returns-3 c =
     let m = machine (a .st) (now (a .memory)) (rings (now (a .ring-one)) (now (a .table-one)) (now (a .ring-two)) (now (a .table-two))) in
     let s = drop (a .from) (now (a .input)) in
     let g = c .before .before .before .before .before .before .before .before .before .before .before .before .before .before .before .before .before .before .before .before .before .before .tag .given in
-    turn-step m (moveOf m s) (a .offset) (a .from) (a .at) (now (a .out)) (g .0 .0) (g .0 .1 .0) _ (take (g .0 .1 .0) (drop 3 s)) _ _ _ (c .before .before .before .before .before .before .before .before .before .before .before .before .before .step .result)
-    (next-whole m s (c .before .before .before .before .before .before .before .before .before .before .before .before .before .before .before .before .before .before .before .before .before .before .before .before .next .result) (c .before .before .before .before .before .before .before .before .before .before .before .before .before .before .before .before .before .before .before .before .before .before .before .before .next .ensures) (g .0 .0) (g .0 .1 .0) (g .1) .1) (body-at (a .from) (g .0 .1 .0) (now (a .input))) (c .before .before .before .before .before .before .before .before .before .before .before .before .before .step .ensures)
+    let k = c .before .before .before .before .before .before .before .before .before .before .before .before .before .step in
+    turn-step m (moveOf m s) (a .offset) (a .from) (a .at) (now (a .out)) (g .0 .0) (g .0 .1 .0) _ (take (g .0 .1 .0) (drop 3 s)) (k .last .1 .1 .1 .0) (rings (k .last .1 .1 .1 .1 .0) (k .last .1 .1 .1 .1 .1 .0) (k .last .1 .1 .1 .1 .1 .1 .0) (k .last .1 .1 .1 .1 .1 .1 .1 .0)) (k .last .1 .1 .1 .1 .1 .1 .1 .1 .0) (k .result)
+    (next-whole m s (c .before .before .before .before .before .before .before .before .before .before .before .before .before .before .before .before .before .before .before .before .before .before .before .before .next .result) (c .before .before .before .before .before .before .before .before .before .before .before .before .before .before .before .before .before .before .before .before .before .before .before .before .next .ensures) (g .0 .0) (g .0 .1 .0) (g .1) .1) (body-at (a .from) (g .0 .1 .0) (now (a .input))) (k .ensures)
 
 pub turn-spec : {M : Type 1} → statement M
 turn-spec =

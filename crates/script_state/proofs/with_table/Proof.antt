@@ -1,8 +1,8 @@
 use mathlib.Core.Path.{refl}
-use Rattle.feed.specs.Turn.{withTableState}
+use Rattle.script_state.specs.Change.{withTableState}
 use borrow.Author.Needs.{needs}
-use Rattle.feed.proofs.turn.with_table.Statement.{statement}
-use Rattle.feed.proofs.turn.with_table.Tie as tie
+use Rattle.script_state.proofs.with_table.Statement.{statement}
+use Rattle.script_state.proofs.with_table.Tie as tie
 
 with-table-requires : tie.Need-with-table-requires
 with-table-requires c κs = search needs

@@ -4,9 +4,9 @@ use denote.Ref.{now}
 use lib.ListN.{length, take, drop, getD}
 use mathlib.Core.Path.{_≡_}
 use native.Mathlib.Omega.{arith}
-use Rattle.buffer.proofs.Shifts.{shift-take, shift-drop, shift-all}
-use Rattle.buffer.proofs.move_front.Statement.{statement}
-use Rattle.buffer.proofs.move_front.Tie as tie
+use Rattle.shift.proofs.Shifts.{shift-take, shift-drop, shift-all}
+use Rattle.shift.proofs.move_front.Statement.{statement}
+use Rattle.shift.proofs.move_front.Tie as tie
 
 abbrev Inv-loop : tie.InvT-loop
 Inv-loop buffer₀ from n i₀ buffer i = (i ≤ n) × (length buffer ≡ length buffer₀) × (from + n ≤ length buffer₀) × (take i buffer ≡ take i (drop from buffer₀)) × (drop i buffer ≡ drop i buffer₀)

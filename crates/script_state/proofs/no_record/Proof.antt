@@ -1,7 +1,7 @@
-use Rattle.feed.proofs.Turns.{no-record-state}
+use Rattle.script_state.proofs.States.{no-record-state}
 use borrow.Author.Needs.{needs}
-use Rattle.feed.proofs.turn.no_record.Statement.{statement}
-use Rattle.feed.proofs.turn.no_record.Tie as tie
+use Rattle.script_state.proofs.no_record.Statement.{statement}
+use Rattle.script_state.proofs.no_record.Tie as tie
 
 unchanged-requires : tie.Need-unchanged-requires
 unchanged-requires c κs = search needs

@@ -1,8 +1,8 @@
 use mathlib.Core.Path.{refl}
-use Rattle.feed.specs.Turn.{withEndsState}
+use Rattle.script_state.specs.Change.{withEndsState}
 use borrow.Author.Needs.{needs}
-use Rattle.feed.proofs.turn.with_ends.Statement.{statement}
-use Rattle.feed.proofs.turn.with_ends.Tie as tie
+use Rattle.script_state.proofs.with_ends.Statement.{statement}
+use Rattle.script_state.proofs.with_ends.Tie as tie
 
 with-ends-requires : tie.Need-with-ends-requires
 with-ends-requires c κs = search needs

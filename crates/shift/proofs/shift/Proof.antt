@@ -1,9 +1,9 @@
 use borrow.Author.Needs.{needs}
 use borrow.Author.Tests.{le-leb, lt-leb}
-use Rattle.buffer.specs.Buffer.{shifted}
+use Rattle.shift.specs.Shift.{shifted}
 use Rattle.status.specs.Choice.{pick, _and_}
-use Rattle.buffer.proofs.shift.Statement.{statement}
-use Rattle.buffer.proofs.shift.Tie as tie
+use Rattle.shift.proofs.shift.Statement.{statement}
+use Rattle.shift.proofs.shift.Tie as tie
 
 returns : tie.Need-returns
 unfolding shifted pick _and_

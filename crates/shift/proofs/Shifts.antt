@@ -6,7 +6,7 @@ use mathlib.Core.Path.{_≡_, sym, ap, _∙_}
 use mathlib.Core.List.{List, [], _∷_, _++_}
 use lib.ListN.{length, take, drop, getD, set, length-drop, take-append-drop}
 use lib.Seq.{take-suc, take-suc-set, drop-set-lt, drop-drop, getD-drop}
-use Rattle.buffer.specs.Buffer.{moved}
+use Rattle.shift.specs.Shift.{moved}
 
 -- a turn of the loop that moves bytes to the front
 pub shift-take : (buf₀ buf : List ℕ) (from i : ℕ) → from + i < length buf₀ → length buf ≡ length buf₀ → take i buf ≡ take i (drop from buf₀)

@@ -1,0 +1,2 @@
+-- Lines: the line of a call
+pub mod Lines

@@ -1,0 +1,2 @@
+-- States: the state where no record is run
+pub mod States

@@ -1,0 +1,4 @@
+-- 01 "Script program": the pair, the record's number and whether the script has ended are the record State. What a record does to them stands
+-- in the crate feed, Machine.
+--   Change: the state after a move, and on the way to it
+pub mod Change
