@@ -2,7 +2,7 @@ use Prim.Native.Nat.{ℕ}
 use borrow.Author.Needs.{needs}
 use denote.Ref.{now}
 use lib.ListN.{take}
-use mathlib.Core.Path.{ap, _∙_}
+use mathlib.Core.Path.{_≡_, subst}
 use native.Mathlib.Nat.{sub-zero}
 use native.Mathlib.Omega.{arith}
 use Rattle.text.specs.Put.{place}
@@ -31,8 +31,8 @@ same-length c = search needs
 returns : tie.Need-returns
 returns c =
     let a = c .before .before .before .before .before .before .before .before .before .before .args in
-    c .before .before .before .before .finish .ensures .fit .put (c .before .before .before .before .before .before .before .before .before .before .pre .1) .out
-    ∙ ap (λ (n : ℕ). place 0 (closing (a .p .offset) (a .p .state .ended) (take n (now (a .buffer)))) (now (a .out))) (sub-zero (a .p .used))
+    let put = c .before .before .before .before .finish .ensures .fit .put (c .before .before .before .before .before .before .before .before .before .before .pre .1) in
+    subst (λ (n : ℕ). c .before .before .before .before .finish .last .1 .1 .1 .0 ≡ place 0 (closing (a .p .offset) (a .p .state .ended) (take n (now (a .buffer)))) (now (a .out))) (sub-zero (a .p .used)) (put .out)
 
 pub finish-spec : {M : Type 1} → statement M
 finish-spec =

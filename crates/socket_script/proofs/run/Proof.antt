@@ -191,7 +191,7 @@ returns c =
       blocks = b;
       stops = s;
       user = refl;
-      lent = refl;
+      lent = refl {a = rings (l .ring-one) (l .table-one) (l .ring-two) (l .table-two)};
       text = c .before .before .finish .ensures;
       listed = listed b s (l .inv .1 .starts);
     }
