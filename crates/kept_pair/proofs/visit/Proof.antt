@@ -17,14 +17,14 @@ use contract.Monad.{Fun}
 use contract.Running.{givenOf, tables, tablesOf}
 use contract.Lifetimes.{Lfts}
 use types.Kit.{Given, ‵, _⊛_, ⋆, _$_, _∵_, !, qed, by, move, keep, drop, split, join, fsplit, fsplit3, fjoin, fjoin3, feqI, suffices, frame, done, atRet}
-use types.Run.{look, look-raw, store-raw, init, stop, hop, from, load, of-opd, and-then, no-more, land, assigns, assigns-last, first, branches, skips, exec, returns, enter, alloc1, alloc0, params1, pass1, pass0, free1, free0}
+use types.Run.{look, look-raw, init, stop, hop, from, load, of-opd, and-then, no-more, land, assigns, assigns-last, first, branches, skips, exec, returns, enter, alloc1, alloc0, params1, pass1, pass0, free1, free0}
 use types.SemTy.{Body}
 use sound.WpLaws.{FmC, fmOf, WpFn-mono}
 use denote.RattleType.{owns}
 use denote.Laws.{Is, shows}
 use denote.Memory.{mem}
-use denote.Plain.{bool-lawful}
-use denote.Signed.{sint-vals, sint-makes, sint-lawful}
+use denote.Plain.{bool-lawful, bool-vals, bool-tells}
+use denote.Signed.{sint-makes, sint-lawful}
 use denote.Builtin.{i64}
 use denote.Exit.{yes}
 use denote.Ref.{RefT, MutRef, ptr-vals, mut-tells}
@@ -44,8 +44,8 @@ use Rattle.socket.proofs.Pair as T
 use Rattle.socket.proofs.Pair.Laws as T′
 use Rattle.ends.proofs.Outcome as K
 use Rattle.ends.proofs.Outcome.Laws as K′
-use Rattle.kept_pair.proofs.Walk.{asks, opened, put-back, frees-cell, standing}
-use Rattle.kept_pair.proofs.Callees.{outcome-word-contract, ask-outcome-word, needs-visit-contract, ask-needs-visit, has-only-wait-contract, ask-has-only-wait, visit-only-contract, ask-visit-only, visit-each-contract, ask-visit-each}
+use Rattle.kept_pair.proofs.Walk.{asks, tests, opened, put-back, fills, overwrites, frees-cell, standing}
+use Rattle.kept_pair.proofs.Callees.{pair-lawful, outcome-lawful, pair-one, outcome-word-contract, ask-outcome-word, needs-visit-contract, ask-needs-visit, has-only-wait-contract, ask-has-only-wait, visit-only-contract, ask-visit-only, visit-each-contract, ask-visit-each}
 use Rattle.socket.specs.Pair.{own}
 use Rattle.socket.specs.Deferred.{visitedAll}
 use Rattle.socket.proofs.Visiting.{places-128}
@@ -78,12 +78,12 @@ use Rattle.kept_pair.proofs.visit.Code as code
 abbrev stayed : Stays (f.ended .signature .params) (f.ended .kept)
 stayed = (stay-ref (0 ∷ []) tt (plain (λ _. T.the-row)), (stay-dropped (plain (λ _. K.the-row)) yes, tt))
 
-module _ {M : Type 1} (𝓤 : URA M) (H : Heap 𝓤) (A : Atoms 𝓤) (W : Given 𝓤 H A) (at-mem : Memory → SProp 𝓤) (run : Routine → Fun 𝓤) (κ : Lft) (q : Share) (b o : ℕ) (γ : GName) (h : Pair) (r : Outcome) where
+module _ {M : Type 1} (𝓤 : URA M) (H : Heap 𝓤) (A : Atoms 𝓤) (W : Given 𝓤 H A) (at-mem : Memory → SProp 𝓤) (run : Routine → Fun 𝓤) (κ : Lft) (q : Share) (b o : ℕ) (γ : GName) (h : Pair) (r : Outcome) (vr : Val) where
   abbrev x : (RefT Pair × (Outcome × Unit {0}))
   x = (record { ptr = (b, o); name = γ; now = h }, (r, tt))
 
   abbrev at : (List Val × (List Val × Unit {0}))
-  at = (vptr b o ∷ [], ((LL.vals K.the-type K′.the-laws) r, tt))
+  at = (vptr b o ∷ [], (vr ∷ [], tt))
 
   abbrev bound : Lfts 1
   bound = (κ, tt)
@@ -99,47 +99,47 @@ module _ {M : Type 1} (𝓤 : URA M) (H : Heap 𝓤) (A : Atoms 𝓤) (W : Given
       says ! ens $ move ! (2 ∷ 3 ∷ []) $ join ! $ frame ! $ feqI ! (List Val) (vptr b o ∷ []) (vptr b o ∷ []) refl $ fjoin3 ! $ nothing ! $ nothing ! $ fjoin ! $ move ! (1 ∷ 0 ∷ []) $ fjoin ! $ done !
 
   module _ (C : Calls 𝓤 H) (Λ : Loops 𝓤 H) (fm : FmC 𝓤 H (W .laws) C) (known-outcome-word : Triple 𝓤 (C #outcome-word) (outcome-word-contract 𝓤 H A at-mem run)) (known-needs-visit : Triple 𝓤 (C #needs-visit) (needs-visit-contract 𝓤 H A at-mem run)) (known-has-only-wait : Triple 𝓤 (C #has-only-wait) (has-only-wait-contract 𝓤 H A at-mem run)) (known-visit-only : Triple 𝓤 (C #visit-only) (visit-only-contract 𝓤 H A at-mem run)) (known-visit-each : Triple 𝓤 (C #visit-each) (visit-each-contract 𝓤 H A at-mem run)) where
-    walk : ent 𝓤 (onEntry 𝓤 H A f.signature bound (q, tt) x at) (WpFn 𝓤 H C Λ code.function (vptr b o ∷ (only (LL.vals K.the-type K′.the-laws r)) ∷ []) Post)
+    walk : ent 𝓤 (onEntry 𝓤 H A f.signature bound (q, tt) x at) (WpFn 𝓤 H C Λ code.function (vptr b o ∷ vr ∷ []) Post)
     walk =
-        qed W ((‵ (flft κ q) ⊛ ‵ ftrue) ∷ ‵ (owns (MutRef (named 0) κ T.the-row ∷ K.the-row ∷ []) x at) ∷ []) ∵ split ! $ move ! (2 ∷ []) $ fsplit ! $ move ! (1 ∷ []) $ fsplit ! $ peeks ! K.the-row (Is K.the-row) (shows 𝓤 H A K.the-row) r ((LL.vals K.the-type K′.the-laws) r) (λ g₁. move ! (2 ∷ []) $ fsplit3 ! $ drop ! $
-        enter ! C Λ code.function (vptr b o ∷ (only (LL.vals K.the-type K′.the-laws r)) ∷ []) _ $ alloc1 ! (λ l₀. alloc1 ! (λ l₁. alloc1 ! (λ l₂. alloc1 ! (λ l₃. alloc1 ! (λ l₄. alloc1 ! (λ l₅. alloc1 ! (λ l₆. alloc1 ! (λ l₇. alloc1 ! (λ l₈. alloc1 ! (λ l₉. alloc1 ! (λ l₁₀. alloc1 ! (λ l₁₁. alloc0 ! $ params1 ! $
-        pass1 ! (init ! 20 refl (tt, tt)) $ pass1 ! (init ! 18 refl (LL.lawful K.the-type K′.the-laws 𝓤 H A W .typed r _ g₁ .0)) $ pass0 ! $
-        asks ! fm (ask-outcome-word 𝓤 H A at-mem run W r g₁) known-outcome-word (and-then ! (load ! (from ! (stop !)) (look ! 19 refl)) (no-more !)) (λ y₃ e₃ i₃.
+        qed W ((‵ (flft κ q) ⊛ ‵ ftrue) ∷ ‵ (owns (MutRef (named 0) κ T.the-row ∷ K.the-row ∷ []) x at) ∷ []) ∵ split ! $ move ! (2 ∷ []) $ fsplit ! $ move ! (1 ∷ []) $ fsplit ! $ peeks ! K.the-row (Is K.the-row) (shows 𝓤 H A K.the-row) r (vr ∷ []) (λ g₁. move ! (2 ∷ []) $ fsplit3 ! $ drop ! $
+        enter ! C Λ code.function (vptr b o ∷ vr ∷ []) _ $ alloc1 ! (λ l₀. alloc1 ! (λ l₁. alloc1 ! (λ l₂. alloc1 ! (λ l₃. alloc1 ! (λ l₄. alloc1 ! (λ l₅. alloc1 ! (λ l₆. alloc1 ! (λ l₇. alloc1 ! (λ l₈. alloc1 ! (λ l₉. alloc1 ! (λ l₁₀. alloc1 ! (λ l₁₁. alloc0 ! $ params1 ! $
+        pass1 ! (init ! 20 refl (tt, tt)) $ pass1 ! (fills ! 18 K.the-row (outcome-lawful 𝓤 H A at-mem run W) r vr g₁ refl refl) $ pass0 ! $
+        asks ! fm (ask-outcome-word 𝓤 H A at-mem run W r vr g₁) known-outcome-word (and-then ! (load ! (from ! (stop !)) (look ! 19 refl)) (no-more !)) (λ v₃ y₃ e₃ i₃.
         land ! (from ! (stop !)) (init ! 16 refl (sint-lawful 𝓤 H A W w64 .typed y₃ _ i₃ .0)) $ owned ! i64 (Is i64) (sint-makes 𝓤 H A W w64) y₃ _ i₃ $
-        move ! (25 ∷ 26 ∷ 29 ∷ []) $ opened ! tt T.the-row (LL.vals T.the-type T′.the-laws) (LL.tells T.the-type T′.the-laws) h b o (λ was.
-        assigns ! (of-opd ! (load ! (from ! (hop ! (look ! 25 refl) (stop !))) (look-raw ! 0 refl))) (from ! (stop !)) (init ! 17 refl (LL.lawful T.the-type T′.the-laws 𝓤 H A W .typed h _ was .0)) $
-        asks ! fm (ask-needs-visit 𝓤 H A at-mem run W h r was g₁) known-needs-visit (and-then ! (load ! (from ! (stop !)) (look ! 18 refl)) (and-then ! (load ! (from ! (stop !)) (look ! 24 refl)) (no-more !))) (λ y₄ e₄ i₄.
+        move ! (25 ∷ 26 ∷ 29 ∷ []) $ opened ! tt T.the-row pair-one h b o (λ vh was.
+        assigns ! (of-opd ! (load ! (from ! (hop ! (look ! 25 refl) (stop !))) (look-raw ! 0 refl))) (from ! (stop !)) (fills ! 17 T.the-row (pair-lawful 𝓤 H A at-mem run W) h vh was refl refl) $
+        tests ! fm (ask-needs-visit 𝓤 H A at-mem run W h r vh vr was g₁) bool-vals bool-tells known-needs-visit (and-then ! (load ! (from ! (stop !)) (look ! 18 refl)) (and-then ! (load ! (from ! (stop !)) (look ! 24 refl)) (no-more !))) (λ y₄ e₄ i₄.
         land ! (from ! (stop !)) (init ! 19 refl (bool-lawful 𝓤 H A W .typed y₄ _ i₄ .0)) $
         first ! $ branches ! (load ! (from ! (stop !)) (look ! 19 refl))
-        (λ on₄. assigns ! (of-opd ! (load ! (from ! (hop ! (look ! 25 refl) (stop !))) (look-raw ! 0 refl))) (from ! (stop !)) (init ! 13 refl (LL.lawful T.the-type T′.the-laws 𝓤 H A W .typed h _ was .0)) $
-        asks ! fm (ask-has-only-wait 𝓤 H A at-mem run W h was) known-has-only-wait (and-then ! (load ! (from ! (stop !)) (look ! 14 refl)) (no-more !)) (λ y₆ e₆ i₆.
+        (λ on₄. assigns ! (of-opd ! (load ! (from ! (hop ! (look ! 25 refl) (stop !))) (look-raw ! 0 refl))) (from ! (stop !)) (fills ! 13 T.the-row (pair-lawful 𝓤 H A at-mem run W) h vh was refl refl) $
+        tests ! fm (ask-has-only-wait 𝓤 H A at-mem run W h vh was) bool-vals bool-tells known-has-only-wait (and-then ! (load ! (from ! (stop !)) (look ! 14 refl)) (no-more !)) (λ y₆ e₆ i₆.
         land ! (from ! (stop !)) (init ! 15 refl (bool-lawful 𝓤 H A W .typed y₆ _ i₆ .0)) $
         branches ! (load ! (from ! (stop !)) (look ! 15 refl))
-        (λ on₆. assigns ! (of-opd ! (load ! (from ! (hop ! (look ! 25 refl) (stop !))) (look-raw ! 0 refl))) (from ! (stop !)) (init ! 9 refl (LL.lawful T.the-type T′.the-laws 𝓤 H A W .typed h _ was .0)) $
-        asks ! fm (ask-visit-only 𝓤 H A at-mem run W h r was g₁) known-visit-only (and-then ! (load ! (from ! (stop !)) (look ! 10 refl)) (and-then ! (load ! (from ! (stop !)) (look ! 24 refl)) (no-more !))) (λ y₈ e₈ s₈.
-        land ! (from ! (stop !)) (init ! 11 refl (LL.lawful T.the-type T′.the-laws 𝓤 H A W .typed y₈ _ s₈ .0)) $
-        assigns-last ! (of-opd ! (load ! (from ! (stop !)) (look ! 11 refl))) (from ! (hop ! (look ! 25 refl) (stop !))) (store-raw ! 0 refl (LL.lawful T.the-type T′.the-laws 𝓤 H A W .typed y₈ _ s₈ .0)) $
+        (λ on₆. assigns ! (of-opd ! (load ! (from ! (hop ! (look ! 25 refl) (stop !))) (look-raw ! 0 refl))) (from ! (stop !)) (fills ! 9 T.the-row (pair-lawful 𝓤 H A at-mem run W) h vh was refl refl) $
+        asks ! fm (ask-visit-only 𝓤 H A at-mem run W h r vh vr was g₁) known-visit-only (and-then ! (load ! (from ! (stop !)) (look ! 10 refl)) (and-then ! (load ! (from ! (stop !)) (look ! 24 refl)) (no-more !))) (λ v₈ y₈ e₈ s₈.
+        land ! (from ! (stop !)) (fills ! 11 T.the-row (pair-lawful 𝓤 H A at-mem run W) y₈ v₈ s₈ refl refl) $
+        assigns-last ! (of-opd ! (load ! (from ! (stop !)) (look ! 11 refl))) (from ! (hop ! (look ! 25 refl) (stop !))) (overwrites ! 0 T.the-row (pair-lawful 𝓤 H A at-mem run W) y₈ v₈ s₈ refl refl) $
         exec ! C Λ (standing code.Mir.locals (l₀ ∷ l₁ ∷ l₂ ∷ l₃ ∷ l₄ ∷ l₅ ∷ l₆ ∷ l₇ ∷ l₈ ∷ l₉ ∷ l₁₀ ∷ l₁₁ ∷ [])) code.Mir.t-5 (atRet (standing code.Mir.locals (l₀ ∷ l₁ ∷ l₂ ∷ l₃ ∷ l₄ ∷ l₅ ∷ l₆ ∷ l₇ ∷ l₈ ∷ l₉ ∷ l₁₀ ∷ l₁₁ ∷ [])) Post) $ assigns ! (of-opd ! (load ! (from ! (stop !)) (look ! 21 refl))) (from ! (stop !)) (init ! 27 refl (sint-lawful 𝓤 H A W w64 .typed y₃ _ i₃ .0)) $
-        put-back ! tt T.the-row (LL.vals T.the-type T′.the-laws) (LL.makes T.the-type T′.the-plain 𝓤 H A) y₈ s₈ b o $
+        put-back ! tt T.the-row (LL.makes T.the-type T′.the-plain 𝓤 H A) y₈ v₈ s₈ b o $
         returns ! (look ! 26 refl) $ keep ! (26 ∷ 27 ∷ 24 ∷ 25 ∷ 22 ∷ 23 ∷ 20 ∷ 21 ∷ 18 ∷ 19 ∷ 16 ∷ 17 ∷ 14 ∷ 15 ∷ 12 ∷ 13 ∷ 10 ∷ 11 ∷ 8 ∷ 9 ∷ 6 ∷ 7 ∷ 4 ∷ 5 ∷ 0 ∷ 1 ∷ 2 ∷ 30 ∷ 3 ∷ []) $
-        frees-cell ! $ frees-cell ! $ frees-cell ! $ frees-cell ! $ frees-cell ! $ frees-cell ! $ frees-cell ! $ frees-cell ! $ frees-cell ! $ frees-cell ! $ free1 ! $ free1 ! $ free0 ! $ by ! (exits y₈ y₃ (only (sint-vals w64 y₃)) (e₃, only-visited r h y₈ y₄ y₆ (places-128 h _ was) e₄ on₄ e₆ on₆ e₈))))
-        (λ off₆. assigns ! (of-opd ! (load ! (from ! (hop ! (look ! 25 refl) (stop !))) (look-raw ! 0 refl))) (from ! (stop !)) (init ! 5 refl (LL.lawful T.the-type T′.the-laws 𝓤 H A W .typed h _ was .0)) $
-        asks ! fm (ask-visit-each 𝓤 H A at-mem run W h r was g₁) known-visit-each (and-then ! (load ! (from ! (stop !)) (look ! 6 refl)) (and-then ! (load ! (from ! (stop !)) (look ! 24 refl)) (no-more !))) (λ y₁₀ e₁₀ s₁₀.
-        land ! (from ! (stop !)) (init ! 7 refl (LL.lawful T.the-type T′.the-laws 𝓤 H A W .typed y₁₀ _ s₁₀ .0)) $
-        assigns-last ! (of-opd ! (load ! (from ! (stop !)) (look ! 7 refl))) (from ! (hop ! (look ! 25 refl) (stop !))) (store-raw ! 0 refl (LL.lawful T.the-type T′.the-laws 𝓤 H A W .typed y₁₀ _ s₁₀ .0)) $
+        frees-cell ! $ frees-cell ! $ frees-cell ! $ frees-cell ! $ frees-cell ! $ frees-cell ! $ frees-cell ! $ frees-cell ! $ frees-cell ! $ frees-cell ! $ free1 ! $ free1 ! $ free0 ! $ by ! (exits y₈ y₃ v₃ (e₃, only-visited r h y₈ y₄ y₆ (places-128 h _ was) e₄ on₄ e₆ on₆ e₈))))
+        (λ off₆. assigns ! (of-opd ! (load ! (from ! (hop ! (look ! 25 refl) (stop !))) (look-raw ! 0 refl))) (from ! (stop !)) (fills ! 5 T.the-row (pair-lawful 𝓤 H A at-mem run W) h vh was refl refl) $
+        asks ! fm (ask-visit-each 𝓤 H A at-mem run W h r vh vr was g₁) known-visit-each (and-then ! (load ! (from ! (stop !)) (look ! 6 refl)) (and-then ! (load ! (from ! (stop !)) (look ! 24 refl)) (no-more !))) (λ v₁₀ y₁₀ e₁₀ s₁₀.
+        land ! (from ! (stop !)) (fills ! 7 T.the-row (pair-lawful 𝓤 H A at-mem run W) y₁₀ v₁₀ s₁₀ refl refl) $
+        assigns-last ! (of-opd ! (load ! (from ! (stop !)) (look ! 7 refl))) (from ! (hop ! (look ! 25 refl) (stop !))) (overwrites ! 0 T.the-row (pair-lawful 𝓤 H A at-mem run W) y₁₀ v₁₀ s₁₀ refl refl) $
         exec ! C Λ (standing code.Mir.locals (l₀ ∷ l₁ ∷ l₂ ∷ l₃ ∷ l₄ ∷ l₅ ∷ l₆ ∷ l₇ ∷ l₈ ∷ l₉ ∷ l₁₀ ∷ l₁₁ ∷ [])) code.Mir.t-5 (atRet (standing code.Mir.locals (l₀ ∷ l₁ ∷ l₂ ∷ l₃ ∷ l₄ ∷ l₅ ∷ l₆ ∷ l₇ ∷ l₈ ∷ l₉ ∷ l₁₀ ∷ l₁₁ ∷ [])) Post) $ assigns ! (of-opd ! (load ! (from ! (stop !)) (look ! 21 refl))) (from ! (stop !)) (init ! 27 refl (sint-lawful 𝓤 H A W w64 .typed y₃ _ i₃ .0)) $
-        put-back ! tt T.the-row (LL.vals T.the-type T′.the-laws) (LL.makes T.the-type T′.the-plain 𝓤 H A) y₁₀ s₁₀ b o $
+        put-back ! tt T.the-row (LL.makes T.the-type T′.the-plain 𝓤 H A) y₁₀ v₁₀ s₁₀ b o $
         returns ! (look ! 26 refl) $ keep ! (26 ∷ 27 ∷ 24 ∷ 25 ∷ 22 ∷ 23 ∷ 20 ∷ 21 ∷ 18 ∷ 19 ∷ 16 ∷ 17 ∷ 14 ∷ 15 ∷ 12 ∷ 13 ∷ 10 ∷ 11 ∷ 8 ∷ 9 ∷ 6 ∷ 7 ∷ 4 ∷ 5 ∷ 0 ∷ 1 ∷ 2 ∷ 30 ∷ 3 ∷ []) $
-        frees-cell ! $ frees-cell ! $ frees-cell ! $ frees-cell ! $ frees-cell ! $ frees-cell ! $ frees-cell ! $ frees-cell ! $ free1 ! $ free1 ! $ frees-cell ! $ frees-cell ! $ free0 ! $ by ! (exits y₁₀ y₃ (only (sint-vals w64 y₃)) (e₃, each-visited r h y₁₀ y₄ (places-128 h _ was) e₄ on₄ e₁₀))))))
+        frees-cell ! $ frees-cell ! $ frees-cell ! $ frees-cell ! $ frees-cell ! $ frees-cell ! $ frees-cell ! $ frees-cell ! $ free1 ! $ free1 ! $ frees-cell ! $ frees-cell ! $ free0 ! $ by ! (exits y₁₀ y₃ v₃ (e₃, each-visited r h y₁₀ y₄ (places-128 h _ was) e₄ on₄ e₁₀))))))
         (λ off₄. skips ! $ exec ! C Λ (standing code.Mir.locals (l₀ ∷ l₁ ∷ l₂ ∷ l₃ ∷ l₄ ∷ l₅ ∷ l₆ ∷ l₇ ∷ l₈ ∷ l₉ ∷ l₁₀ ∷ l₁₁ ∷ [])) code.Mir.t-5 (atRet (standing code.Mir.locals (l₀ ∷ l₁ ∷ l₂ ∷ l₃ ∷ l₄ ∷ l₅ ∷ l₆ ∷ l₇ ∷ l₈ ∷ l₉ ∷ l₁₀ ∷ l₁₁ ∷ [])) Post) $ assigns ! (of-opd ! (load ! (from ! (stop !)) (look ! 21 refl))) (from ! (stop !)) (init ! 27 refl (sint-lawful 𝓤 H A W w64 .typed y₃ _ i₃ .0)) $
-        put-back ! tt T.the-row (LL.vals T.the-type T′.the-laws) (LL.makes T.the-type T′.the-plain 𝓤 H A) h was b o $
+        put-back ! tt T.the-row (LL.makes T.the-type T′.the-plain 𝓤 H A) h vh was b o $
         returns ! (look ! 26 refl) $ keep ! (26 ∷ 27 ∷ 24 ∷ 25 ∷ 22 ∷ 23 ∷ 20 ∷ 21 ∷ 18 ∷ 19 ∷ 16 ∷ 17 ∷ 14 ∷ 15 ∷ 12 ∷ 13 ∷ 10 ∷ 11 ∷ 8 ∷ 9 ∷ 6 ∷ 7 ∷ 4 ∷ 5 ∷ 0 ∷ 1 ∷ 2 ∷ 30 ∷ 3 ∷ []) $
-        frees-cell ! $ frees-cell ! $ frees-cell ! $ frees-cell ! $ frees-cell ! $ frees-cell ! $ free1 ! $ free1 ! $ free1 ! $ free1 ! $ free1 ! $ free1 ! $ free0 ! $ by ! (exits h y₃ (only (sint-vals w64 y₃)) (e₃, not-visited r h y₄ (places-128 h _ was) e₄ off₄)))))))))))))))))))
+        frees-cell ! $ frees-cell ! $ frees-cell ! $ frees-cell ! $ frees-cell ! $ frees-cell ! $ free1 ! $ free1 ! $ free1 ! $ free1 ! $ free1 ! $ free1 ! $ free0 ! $ by ! (exits h y₃ v₃ (e₃, not-visited r h y₄ (places-128 h _ was) e₄ off₄)))))))))))))))))))
 
 module _ {M : Type 1} (𝓤 : URA M) (H : Heap 𝓤) (A : Atoms 𝓤) (W : Given 𝓤 H A) (at-mem : Memory → SProp 𝓤) (run : Routine → Fun 𝓤) where
   walks : (C : Calls 𝓤 H) (Λ : Loops 𝓤 H) → FmC 𝓤 H (W .laws) C → Triple 𝓤 (C #outcome-word) (outcome-word-contract 𝓤 H A at-mem run) → Triple 𝓤 (C #needs-visit) (needs-visit-contract 𝓤 H A at-mem run) → Triple 𝓤 (C #has-only-wait) (has-only-wait-contract 𝓤 H A at-mem run) → Triple 𝓤 (C #visit-only) (visit-only-contract 𝓤 H A at-mem run) → Triple 𝓤 (C #visit-each) (visit-each-contract 𝓤 H A at-mem run) → Walks 𝓤 H A f.ended stayed (WpFn 𝓤 H C Λ code.function) (f.clauses 𝓤 H A at-mem run)
   walks C Λ fm k₀ k₁ k₂ k₃ k₄ = walked 𝓤 H A f.ended stayed (f.clauses 𝓤 H A at-mem run) (WpFn 𝓤 H C Λ code.function) (λ κs. (ptr-vals, ((LL.vals K.the-type K′.the-laws), tt))) (λ κs. (mut-tells (named 0) (κs .0) T.the-row, (LL.tells K.the-type K′.the-laws, tt)))
-      (λ κs qs bounds a _ are. via 𝓤 _ (fst∗ 𝓤 _ (emp 𝓤)) (walk 𝓤 H A W at-mem run (κs .0) (qs .0) (a .0 .ptr .0) (a .0 .ptr .1) (a .0 .name) (a .0 .now) (a .1 .0) C Λ fm k₀ k₁ k₂ k₃ k₄))
+      (λ κs qs bounds a _ are. via 𝓤 _ (fst∗ 𝓤 _ (emp 𝓤)) (walk 𝓤 H A W at-mem run (κs .0) (qs .0) (a .0 .ptr .0) (a .0 .ptr .1) (a .0 .name) (a .0 .now) (a .1 .0) (only (LL.vals K.the-type K′.the-laws (a .1 .0))) C Λ fm k₀ k₁ k₂ k₃ k₄))
 
   goes : AllGo 𝓤 H A W 1 (f.signature .params) (f.ended .kept) stayed
   goes = (goes-ref 𝓤 H A W 1 0 tt (plain (λ _. T.the-row)), (goes-dropped 𝓤 H A W 1 (plain (λ _. K.the-row)) yes (λ κs x f. refl), tt))
