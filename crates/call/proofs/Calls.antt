@@ -2,7 +2,7 @@
 use Prim.Native.Nat.{ℕ, _-_, _≤_}
 use native.Mathlib.Omega.{arith}
 use mathlib.Core.Path.{_≡_, refl, sym, ap, _∙_, subst}
-use mathlib.Core.Bool.{Bool, true, false, cond}
+use mathlib.Core.Bool.{true, false}
 use mathlib.Core.List.{List}
 use lib.ListN.{length, drop}
 use borrow.Author.Tests.{le-ltb, ne-eqb, lt-ltb}
@@ -32,6 +32,7 @@ use Rattle.record.specs.Fields.{eight, transferOf}
 use Rattle.record.specs.Record.{isBody}
 use Rattle.delivered.specs.Delivered.{BASE}
 use Rattle.fill.specs.Fill.{fillAnswer, filled}
+use Rattle.fill.proofs.Fills.{never}
 use Rattle.call.specs.Transfer.{Called, writeAnswerOf, wroteBy, writeCall, readAnswerOf, gotBy, readCall, fillCall, CallDone}
 use Rattle.plain_call.specs.Rings.{Rings, ownRing, ownTable, peerRing, peerTable, withPeer}
 use Rattle.plain_call.specs.Plain.{plainStep}
@@ -122,9 +123,6 @@ pub fill-done : (memory memory′ : List ℕ) (z : Rings) (p : Pair) (address : 
     → (a ≡ fillAnswer (length memory) address (length bs)) × (memory′ ≡ filled address bs memory) → CallDone (fillCall memory z p address bs) memory′ z (mk p a)
 unfolding fillCall
 fill-done memory memory′ z p address bs a w = record { step = ap (λ (x : Answer). mk p x) (w .0); memory = w .1; lent = refl }
-
-never : _≡_ {A = Bool} false true → ⊥
-never e = let z : _≡_ {A = ℕ} 0 1 = ap (λ (b : Bool). cond b 1 0) e in omega arith
 
 -- a body that is right, and one that is not
 module _ {memory : List ℕ} {z : Rings} {p : Pair} {tag : ℕ} {b : List ℕ} where

@@ -58,7 +58,7 @@ off : {X : Type 0} (x y : X) → pick false x y ≡ y
 unfolding pick
 off x y = refl
 
-never : _≡_ {A = Bool} false true → ⊥
+pub never : _≡_ {A = Bool} false true → ⊥
 never e = let z : _≡_ {A = ℕ} 0 1 = ap (λ (b : Bool). cond b 1 0) e in omega arith
 
 fill-cases : (b c d : Bool) → pick b (pick c false d) false ≡ true → (c ≡ false) × (d ≡ true)
