@@ -17,7 +17,7 @@ use prog.Wp.{Heap}
 use ghost.Atoms.{Atoms, sem}
 use contract.Monad.{Fun, fact}
 use types.Kit.{Given, ‵, _$_, _∵_, !, qed, join, frame, done}
-use denote.Laws.{Is}
+use denote.Laws.{Is, Lawful}
 use denote.Plain.{uint-makes}
 use denote.Builtin.{u8, u32, u64}
 use denote.Steps.{owned, nothing}
@@ -130,6 +130,9 @@ module _ {M : Type 1} (𝓤 : URA M) (H : Heap 𝓤) (A : Atoms 𝓤) (at-mem : 
   to-taken a₁ a₂ = ((tt, tt, tt, (a₁, (a₂, tt)), ((LL.vals T.the-type T′.the-laws) a₁, ((EL.vals N.the-type N′.the-laws) a₂, tt))), tt)
 
   module _ (W : Given 𝓤 H A) where
+    pub pair-lawful : Lawful 𝓤 H A T.the-row
+    pair-lawful = LL.lawful T.the-type T′.the-laws 𝓤 H A W
+
     pub goes-word : (a₁ : Answer) → Is N.the-row a₁ ((EL.vals N.the-type N′.the-laws) a₁) → ent 𝓤 (sem 𝓤 H A ftrue) (word-contract .pre (to-word a₁))
     goes-word a₁ i₁ = qed W (‵ ftrue ∷ []) ∵ owned ! N.the-row (Is N.the-row) ((EL.makes N.the-type N′.the-plain) 𝓤 H A) a₁ _ i₁ $ join ! $ nothing ! $ join ! $ frame ! $ done !
 

@@ -17,8 +17,8 @@ use ghost.Atoms.{Atoms}
 use contract.Monad.{Fun, fact}
 use contract.Running.{givenOf, tables, tablesOf}
 use contract.Lifetimes.{Lfts}
-use types.Kit.{Given, ‵, raw, _⊛_, ⋆, some, later, _$_, _∵_, !, qed, by, move, keep, drop, use1, split, join, pick, fsplit, fsplit3, fjoin, fjoin3, feqI, suffices, frame, await, done, rewrite}
-use types.Run.{look, look-raw, init, forget, stop, hop, from, load, of-opd, addr, and-then, no-more, land, assigns, returns, enter, alloc1, alloc0, params1, pass1, pass0, free1, free0}
+use types.Kit.{Given, ‵, raw, _⊛_, ⋆, some, later, _$_, _∵_, !, qed, by, move, keep, drop, use1, split, join, pick, fsplit, fsplit3, fjoin, suffices, frame, await, done, rewrite}
+use types.Run.{look, look-raw, init, stop, hop, from, load, of-opd, addr, and-then, no-more, land, assigns, returns, enter, alloc1, alloc0, params1, pass1, pass0, free0}
 use sound.WpLaws.{FmC, fmOf, WpFn-mono}
 use denote.RattleType.{owns}
 use denote.Laws.{Is, shows}
@@ -29,8 +29,7 @@ use denote.Builtin.{u8, u32, u64, i64}
 use denote.Exit.{yes}
 use denote.Ref.{RefT, MutRef, ptr-vals, mut-tells}
 use denote.Signature.{plain}
-use denote.Steps.{opens, closes, owned, peeks, heard, nothing, only}
-use denote.Struct.Steps.{spelt}
+use denote.Steps.{peeks, heard, nothing, only}
 use denote.Struct.Laws as LL
 use denote.Enum.Laws as EL
 use denote.Triple.Statement.{Triple}
@@ -39,9 +38,8 @@ use denote.Triple.Entry.{onEntry}
 use denote.Triple.Spec.{Meets, tripleOf}
 use denote.Triple.Table.{entered, cited}
 use denote.Triple.Walked.{says, Stays, stay-dropped, gave-ref, walkOf, AllGo, goes-dropped, goes-gave-ref, Walks, ends-at, walked, walk-meets}
-use denote.Triple.Clauses.{ensured, lasts}
+use denote.Triple.Clauses.{ensured}
 use Rattle.status.specs.declared.Answer.{Answer}
-use Rattle.status.specs.Answer.{answerWord, isDone}
 use Rattle.ends.specs.declared.Ends.{Ends}
 use Rattle.socket.specs.declared.Pair.{Pair}
 use Rattle.socket.proofs.Pair as T
@@ -50,10 +48,11 @@ use Rattle.ends.proofs.Ends as E
 use Rattle.ends.proofs.Ends.Laws as E′
 use Rattle.status.proofs.Answer as N
 use Rattle.status.proofs.Answer.Laws as N′
-use Rattle.host.proofs.Callees.{ends-contract, to-ends, goes-ends, ends-told, wait-answer-contract, to-wait-answer, goes-wait-answer, wait-answer-told, wait-contract, to-wait, goes-wait}
+use Rattle.kept_pair.proofs.Callees.{pair-one, pair-lawful}
+use Rattle.kept_pair.proofs.Walk.{asks, hands, opened, put-back, fills, frees-cell}
+use Rattle.host.proofs.Callees.{ends-lawful, ends-contract, ask-ends, wait-answer-contract, to-wait-answer, goes-wait-answer, wait-answer-told, wait-contract, hand-wait}
 use Rattle.answers.specs.Wait.{waitAnswer as waitAnswerOf}
-use Rattle.socket.specs.Pair.{isOne, own, endsOf}
-use Rattle.socket.specs.Deferred.{registeredPair}
+use Rattle.socket.specs.Pair.{isOne, own}
 use Rattle.host.specs.Host.{Answered}
 use Rattle.socket.specs.Tests.{Steps}
 use Rattle.socket.specs.Wait.{waitAnswer, waited}
@@ -104,24 +103,20 @@ module _ {M : Type 1} (𝓤 : URA M) (H : Heap 𝓤) (A : Atoms 𝓤) (W : Given
         qed W ((‵ (flft κ q) ⊛ ‵ ftrue) ∷ ‵ (owns (MutRef (named 0) κ T.the-row ∷ u32 ∷ u64 ∷ u32 ∷ u8 ∷ []) x at) ∷ []) ∵ split ! $ move ! (2 ∷ []) $ fsplit ! $ move ! (1 ∷ []) $ fsplit ! $ peeks ! u32 (Is u32) (shows 𝓤 H A u32) x₁ (vint w32 x₁ ∷ []) (λ g₁. move ! (1 ∷ []) $ fsplit ! $ peeks ! u64 (Is u64) (shows 𝓤 H A u64) x₂ (vint w64 x₂ ∷ []) (λ g₂. move ! (1 ∷ []) $ fsplit ! $ peeks ! u32 (Is u32) (shows 𝓤 H A u32) x₃ (vint w32 x₃ ∷ []) (λ g₃. move ! (1 ∷ []) $ fsplit ! $ peeks ! u8 (Is u8) (shows 𝓤 H A u8) x₄ (vint w8 x₄ ∷ []) (λ g₄. move ! (5 ∷ []) $ fsplit3 ! $ drop ! $
         enter ! C Λ code.function (vptr b o ∷ vint w32 x₁ ∷ vint w64 x₂ ∷ vint w32 x₃ ∷ vint w8 x₄ ∷ []) _ $ alloc1 ! (λ l₀. alloc1 ! (λ l₁. alloc1 ! (λ l₂. alloc1 ! (λ l₃. alloc1 ! (λ l₄. alloc1 ! (λ l₅. alloc1 ! (λ l₆. alloc1 ! (λ l₇. alloc1 ! (λ l₈. alloc1 ! (λ l₉. alloc0 ! $ params1 ! $
         pass1 ! (init ! 16 refl (tt, tt)) $ pass1 ! (init ! 14 refl (tt, record { fits = g₁ .1 })) $ pass1 ! (init ! 12 refl (tt, record { fits = g₂ .1 })) $ pass1 ! (init ! 10 refl (tt, record { fits = g₃ .1 })) $ pass1 ! (init ! 8 refl (tt, record { fits = g₄ .1 })) $ pass0 ! $
-        move ! (20 ∷ 21 ∷ 27 ∷ []) $ opens ! tt T.the-row {h = h} b o (λ vs. spelt ! T.the-row (Is T.the-row) (shows 𝓤 H A T.the-row) (LL.vals T.the-type T′.the-laws) (LL.tells T.the-type T′.the-laws) fullShare h vs b o $ move ! (1 ∷ []) $ peeks ! T.the-row (Is T.the-row) (shows 𝓤 H A T.the-row) h (LL.vals T.the-type T′.the-laws h) (λ was. drop ! $
-        assigns ! (of-opd ! (load ! (from ! (hop ! (look ! 20 refl) (stop !))) (look-raw ! 0 refl))) (from ! (stop !)) (init ! 6 refl (LL.lawful T.the-type T′.the-laws 𝓤 H A W .typed h _ was .0)) $
-        nothing ! $ use1 W (raw (ends-contract 𝓤 H A at-mem run .pre (to-ends 𝓤 H A at-mem run h))) (goes-ends 𝓤 H A at-mem run W h was) $
-        calls-at ! fm (ends-contract 𝓤 H A at-mem run) known-ends (to-ends 𝓤 H A at-mem run h) (and-then ! (load ! (from ! (stop !)) (look ! 7 refl)) (no-more !)) (λ v₇.
-        use1 W (later (some (λ (y₇ : Ends). (‵ ftrue ⊛ ‵ (E.the-row .own y₇ (v₇ ∷ []))) ⊛ raw (ensured 𝓤 H A ends.ended (ends.clauses 𝓤 H A at-mem run) tt (h, tt) tt y₇)))) (id⊢ 𝓤 _) $ await ! tt $ pick ! (λ y₇. split ! $ move ! (1 ∷ []) $ use1 W (raw (fact 𝓤 (y₇ ≡ endsOf h))) (ends-told 𝓤 H A at-mem run h y₇) $ heard ! (y₇ ≡ endsOf h) (λ e₇. split ! $ drop ! $
-        peeks ! E.the-row (Is E.the-row) (shows 𝓤 H A E.the-row) y₇ (v₇ ∷ []) (λ i₇. land ! (from ! (stop !)) (init ! 9 refl (LL.lawful E.the-type E′.the-laws 𝓤 H A W .typed y₇ _ i₇ .0)) $ rewrite ! 9 (λ (u : Val). ‵ (fat fullShare E′.mir l₇ 0 u)) (ap only (LL.tells E.the-type E′.the-laws y₇ (v₇ ∷ []) i₇)) refl $ rewrite ! 0 (λ (us : List Val). ‵ (E.the-row .own y₇ us)) (LL.tells E.the-type E′.the-laws y₇ (v₇ ∷ []) i₇) refl $ peeks ! E.the-row (Is E.the-row) (shows 𝓤 H A E.the-row) y₇ ((LL.vals E.the-type E′.the-laws) y₇) (λ s₇. drop ! $
-        nothing ! $ use1 W (raw (wait-answer-contract 𝓤 H A at-mem run .pre (to-wait-answer 𝓤 H A at-mem run y₇ x₁ x₄))) (goes-wait-answer 𝓤 H A at-mem run W y₇ x₁ x₄ s₇ g₁ g₄) $
-        calls-at ! fm (wait-answer-contract 𝓤 H A at-mem run) known-wait-answer (to-wait-answer 𝓤 H A at-mem run y₇ x₁ x₄) (and-then ! (load ! (from ! (stop !)) (look ! 9 refl)) (and-then ! (load ! (from ! (stop !)) (look ! 19 refl)) (and-then ! (load ! (from ! (stop !)) (look ! 13 refl)) (no-more !)))) (λ v₆.
+        move ! (20 ∷ 21 ∷ 27 ∷ []) $ opened ! tt T.the-row pair-one h b o (λ vh was.
+        assigns ! (of-opd ! (load ! (from ! (hop ! (look ! 20 refl) (stop !))) (look-raw ! 0 refl))) (from ! (stop !)) (fills ! 6 T.the-row (pair-lawful 𝓤 H A at-mem run W) h vh was refl refl) $
+        asks ! fm (ask-ends 𝓤 H A at-mem run W h vh was) known-ends (and-then ! (load ! (from ! (stop !)) (look ! 7 refl)) (no-more !)) (λ v₇ y₇ e₇ s₇.
+        land ! (from ! (stop !)) (fills ! 8 E.the-row (ends-lawful 𝓤 H A at-mem run W) y₇ v₇ s₇ refl refl) $
+        nothing ! $ use1 W (raw (wait-answer-contract 𝓤 H A at-mem run .pre (to-wait-answer 𝓤 H A at-mem run y₇ x₁ x₄ v₇))) (goes-wait-answer 𝓤 H A at-mem run W y₇ x₁ x₄ v₇ s₇ g₁ g₄) $
+        calls-at ! fm (wait-answer-contract 𝓤 H A at-mem run) known-wait-answer (to-wait-answer 𝓤 H A at-mem run y₇ x₁ x₄ v₇) (and-then ! (load ! (from ! (stop !)) (look ! 9 refl)) (and-then ! (load ! (from ! (stop !)) (look ! 19 refl)) (and-then ! (load ! (from ! (stop !)) (look ! 13 refl)) (no-more !)))) (λ v₆.
         use1 W (later (some (λ (y₆ : Answer). (‵ ftrue ⊛ ‵ (N.the-row .own y₆ (v₆ ∷ []))) ⊛ raw (ensured 𝓤 H A wait-answer.ended (wait-answer.clauses 𝓤 H A at-mem run) tt (y₇, (x₁, (x₄, tt))) tt y₆)))) (id⊢ 𝓤 _) $ await ! tt $ pick ! (λ y₆. split ! $ move ! (1 ∷ []) $ use1 W (raw (fact 𝓤 (y₆ ≡ waitAnswerOf y₇ x₁ x₄))) (wait-answer-told 𝓤 H A at-mem run y₇ x₁ x₄ y₆) $ heard ! (y₆ ≡ waitAnswerOf y₇ x₁ x₄) (λ e₆. split ! $ drop ! $
         peeks ! N.the-row (Is N.the-row) (shows 𝓤 H A N.the-row) y₆ (v₆ ∷ []) (λ i₆. land ! (from ! (stop !)) (init ! 11 refl (EL.lawful N.the-type N′.the-laws 𝓤 H A W tt .typed y₆ _ i₆ .0)) $ rewrite ! 11 (λ (u : Val). ‵ (fat fullShare N′.mir l₆ 0 u)) (ap only (EL.tells N.the-type N′.the-laws y₆ (v₆ ∷ []) i₆)) refl $ rewrite ! 0 (λ (us : List Val). ‵ (N.the-row .own y₆ us)) (EL.tells N.the-type N′.the-laws y₆ (v₆ ∷ []) i₆) refl $ peeks ! N.the-row (Is N.the-row) (shows 𝓤 H A N.the-row) y₆ ((EL.vals N.the-type N′.the-laws) y₆) (λ s₆. drop ! $
-        owned ! T.the-row (Is T.the-row) ((LL.makes T.the-type T′.the-plain) 𝓤 H A) h _ was $ move ! (1 ∷ 0 ∷ 2 ∷ 3 ∷ 4 ∷ []) $ closes ! tt T.the-row h (LL.vals T.the-type T′.the-laws h) b o $
-        assigns ! (addr ! (from ! (hop ! (look ! 19 refl) (stop !)))) (from ! (stop !)) (init ! 3 refl (tt, tt)) $ feqI ! (List Val) (vptr b o ∷ []) (vptr b o ∷ []) refl $ fjoin3 ! $ nothing ! $ move ! (2 ∷ 0 ∷ []) $ join ! $ move ! (1 ∷ 0 ∷ []) $ join ! $ use1 W (raw (wait-contract 𝓤 H A at-mem run .pre (to-wait 𝓤 H A at-mem run κ q b o γ h y₆ x₁ x₂ x₃ x₄))) (goes-wait 𝓤 H A at-mem run W κ q b o γ h y₆ x₁ x₂ x₃ x₄ s₆ g₁ g₂ g₃ g₄) $
-        calls-at ! fm (wait-contract 𝓤 H A at-mem run) known-wait (to-wait 𝓤 H A at-mem run κ q b o γ h y₆ x₁ x₂ x₃ x₄) (and-then ! (load ! (from ! (stop !)) (look ! 1 refl)) (and-then ! (load ! (from ! (stop !)) (look ! 7 refl)) (and-then ! (load ! (from ! (stop !)) (look ! 15 refl)) (and-then ! (load ! (from ! (stop !)) (look ! 13 refl)) (and-then ! (load ! (from ! (stop !)) (look ! 11 refl)) (and-then ! (load ! (from ! (stop !)) (look ! 9 refl)) (no-more !))))))) (λ v₀.
-        use1 W (later (some (λ (z₀ : ℤ). ((‵ (flft κ q) ⊛ ‵ ftrue) ⊛ ‵ (i64 .own z₀ (v₀ ∷ []))) ⊛ raw (ensured 𝓤 H A wait.ended (wait.clauses 𝓤 H A at-mem run) (κ, tt) (record { ptr = (b, o); name = γ; now = h }, (y₆, (x₁, (x₂, (x₃, (x₄, tt)))))) tt z₀)))) (id⊢ 𝓤 _) $ await ! tt $ pick ! (λ z₀. split ! $ move ! (1 ∷ []) $ use1 W (some (λ (ws : (Pair × (Unit {0} × (Unit {0} × (Unit {0} × (Unit {0} × (Unit {0} × Unit {0}))))))). ‵ (lasts wait.ended (κ, tt) (record { ptr = (b, o); name = γ; now = h }, (y₆, (x₁, (x₂, (x₃, (x₄, tt)))))) ws) ⊛ raw (fact 𝓤 ((z₀ ≡ answerWord y₆) × (ws .0 ≡ registeredPair (isDone y₆) (isOne x₁) x₂ x₃ x₄ h))))) (id⊢ 𝓤 _) $ pick ! (λ ws. split ! $ move ! (1 ∷ []) $ heard ! ((z₀ ≡ answerWord y₆) × (ws .0 ≡ registeredPair (isDone y₆) (isOne x₁) x₂ x₃ x₄ h)) (λ e₀. fsplit ! $
-        move ! (2 ∷ []) $ split ! $ move ! (1 ∷ []) $ peeks ! i64 (Is i64) (shows 𝓤 H A i64) z₀ (v₀ ∷ []) (λ i₀. land ! (from ! (stop !)) (init ! 22 refl (sint-lawful 𝓤 H A W w64 .typed z₀ _ i₀ .0)) $
-        returns ! (look ! 22 refl) $ forget ! 4 refl $ forget ! 6 refl $ forget ! 8 refl $ forget ! 10 refl $ forget ! 12 refl $ forget ! 14 refl $ forget ! 16 refl $ forget ! 18 refl $ forget ! 20 refl $ forget ! 22 refl $
-        move ! (22 ∷ 23 ∷ []) $ free1 ! $ move ! (20 ∷ 21 ∷ []) $ free1 ! $ move ! (18 ∷ 19 ∷ []) $ free1 ! $ move ! (16 ∷ 17 ∷ []) $ free1 ! $ move ! (14 ∷ 15 ∷ []) $ free1 ! $ move ! (12 ∷ 13 ∷ []) $ free1 ! $ move ! (10 ∷ 11 ∷ []) $ free1 ! $ move ! (8 ∷ 9 ∷ []) $ free1 ! $ move ! (6 ∷ 7 ∷ []) $ free1 ! $ move ! (4 ∷ 5 ∷ []) $ free1 ! $ free0 ! $
-        keep ! (2 ∷ 1 ∷ 9 ∷ 0 ∷ []) $ by ! (exits (ws .0) z₀ v₀ (record { answer = y₆; word = e₀ .0; kept = wait-steps h x₁ x₂ x₃ x₄ y₆ (ws .0) (e₆ ∙ ap (λ (k : Ends). waitAnswerOf k x₁ x₄) e₇) (e₀ .1) })))))))))))))))))))))))))))))))))
+        put-back ! tt T.the-row (LL.makes T.the-type T′.the-plain 𝓤 H A) h vh was b o $
+        assigns ! (addr ! (from ! (hop ! (look ! 19 refl) (stop !)))) (from ! (stop !)) (init ! 3 refl (tt, tt)) $ hands ! fm (hand-wait 𝓤 H A at-mem run W κ q b o γ h y₆ x₁ x₂ x₃ x₄ s₆ g₁ g₂ g₃ g₄) known-wait (and-then ! (load ! (from ! (stop !)) (look ! 1 refl)) (and-then ! (load ! (from ! (stop !)) (look ! 7 refl)) (and-then ! (load ! (from ! (stop !)) (look ! 15 refl)) (and-then ! (load ! (from ! (stop !)) (look ! 13 refl)) (and-then ! (load ! (from ! (stop !)) (look ! 11 refl)) (and-then ! (load ! (from ! (stop !)) (look ! 9 refl)) (no-more !))))))) (λ v₀ z₀ ws e₀ i₀.
+        land ! (from ! (stop !)) (init ! 22 refl (sint-lawful 𝓤 H A W w64 .typed z₀ _ i₀ .0)) $
+        returns ! (look ! 22 refl) $
+        move ! (22 ∷ 23 ∷ []) $ frees-cell ! $ move ! (20 ∷ 21 ∷ []) $ frees-cell ! $ move ! (18 ∷ 19 ∷ []) $ frees-cell ! $ move ! (16 ∷ 17 ∷ []) $ frees-cell ! $ move ! (14 ∷ 15 ∷ []) $ frees-cell ! $ move ! (12 ∷ 13 ∷ []) $ frees-cell ! $ move ! (10 ∷ 11 ∷ []) $ frees-cell ! $ move ! (8 ∷ 9 ∷ []) $ frees-cell ! $ move ! (6 ∷ 7 ∷ []) $ frees-cell ! $ move ! (4 ∷ 5 ∷ []) $ frees-cell ! $ free0 ! $
+        keep ! (2 ∷ 1 ∷ 9 ∷ 0 ∷ []) $ by ! (exits (ws .0) z₀ v₀ (record { answer = y₆; word = e₀ .0; kept = wait-steps h x₁ x₂ x₃ x₄ y₆ (ws .0) (e₆ ∙ ap (λ (k : Ends). waitAnswerOf k x₁ x₄) e₇) (e₀ .1) }))))))))))))))))))))))))
 
 module _ {M : Type 1} (𝓤 : URA M) (H : Heap 𝓤) (A : Atoms 𝓤) (W : Given 𝓤 H A) (at-mem : Memory → SProp 𝓤) (run : Routine → Fun 𝓤) where
   walks : (C : Calls 𝓤 H) (Λ : Loops 𝓤 H) → FmC 𝓤 H (W .laws) C → Triple 𝓤 (C #ends) (ends-contract 𝓤 H A at-mem run) → Triple 𝓤 (C #wait-answer) (wait-answer-contract 𝓤 H A at-mem run) → Triple 𝓤 (C #wait) (wait-contract 𝓤 H A at-mem run) → Walks 𝓤 H A f.ended stayed (WpFn 𝓤 H C Λ code.function) (f.clauses 𝓤 H A at-mem run)

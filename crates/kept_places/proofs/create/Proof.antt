@@ -20,7 +20,7 @@ use contract.Monad.{Fun, fact}
 use contract.Running.{givenOf, tables, tablesOf}
 use contract.Lifetimes.{Lfts}
 use types.Kit.{Given, ‵, raw, _⊛_, ⋆, some, later, _$_, _∵_, !, qed, by, move, keep, drop, use1, split, join, pick, fsplit, fsplit3, fjoin, fjoin3, feqI, suffices, frame, await, done, rewrite, atRet}
-use types.Run.{look, store-raw, init, forget, stop, hop, from, load, of-opd, and-then, no-more, land, assigns, assigns-last, first, branches, skips, exec, returns, enter, alloc1, alloc0, params1, pass1, pass0, free1, free0}
+use types.Run.{look, init, forget, stop, hop, from, load, of-opd, and-then, no-more, land, assigns, assigns-last, first, branches, skips, exec, returns, enter, alloc1, alloc0, params1, pass1, pass0, free1, free0}
 use types.SemTy.{Body}
 use sound.WpLaws.{FmC, fmOf, WpFn-mono}
 use denote.RattleType.{owns}
@@ -51,8 +51,8 @@ use Rattle.socket.proofs.Pair as T
 use Rattle.socket.proofs.Pair.Laws as T′
 use Rattle.status.proofs.Answer as N
 use Rattle.status.proofs.Answer.Laws as N′
-use Rattle.kept_places.proofs.Walk.{standing}
-use Rattle.kept_places.proofs.Callees.{word-contract, to-word, goes-word, word-told, is-done-contract, to-is-done, goes-is-done, is-done-told, new-pair-contract, to-new-pair, goes-new-pair, new-pair-told}
+use Rattle.kept_places.proofs.Walk.{fills, overwrites, standing}
+use Rattle.kept_places.proofs.Callees.{pair-lawful, word-contract, to-word, goes-word, word-told, is-done-contract, to-is-done, goes-is-done, is-done-told, new-pair-contract, to-new-pair, goes-new-pair, new-pair-told}
 use Rattle.socket.specs.Pair.{own, newPair}
 use Rattle.kept_places.proofs.Stored.{made-on, made-off}
 use Rattle.status.proofs.word as word
@@ -113,9 +113,9 @@ module _ {M : Type 1} (𝓤 : URA M) (H : Heap 𝓤) (A : Atoms 𝓤) (W : Given
         (λ on₈. nothing ! $ use1 W (raw (new-pair-contract 𝓤 H A at-mem run .pre (to-new-pair 𝓤 H A at-mem run x₂ x₃ x₄ x₅))) (goes-new-pair 𝓤 H A at-mem run W x₂ x₃ x₄ x₅ g₂ g₃ g₄ g₅) $
         calls-at ! fm (new-pair-contract 𝓤 H A at-mem run) known-new-pair (to-new-pair 𝓤 H A at-mem run x₂ x₃ x₄ x₅) (and-then ! (load ! (from ! (stop !)) (look ! 14 refl)) (and-then ! (load ! (from ! (stop !)) (look ! 12 refl)) (and-then ! (load ! (from ! (stop !)) (look ! 10 refl)) (and-then ! (load ! (from ! (stop !)) (look ! 8 refl)) (no-more !))))) (λ v₉.
         use1 W (later (some (λ (y₉ : Pair). (‵ ftrue ⊛ ‵ (T.the-row .own y₉ (v₉ ∷ []))) ⊛ raw (ensured 𝓤 H A new-pair.ended (new-pair.clauses 𝓤 H A at-mem run) tt (x₂, (x₃, (x₄, (x₅, tt)))) tt y₉)))) (id⊢ 𝓤 _) $ await ! tt $ pick ! (λ y₉. split ! $ move ! (1 ∷ []) $ use1 W (raw (fact 𝓤 (y₉ ≡ newPair (eqb x₂ 1) x₃ x₄ x₅))) (new-pair-told 𝓤 H A at-mem run x₂ x₃ x₄ x₅ y₉) $ heard ! (y₉ ≡ newPair (eqb x₂ 1) x₃ x₄ x₅) (λ e₉. split ! $ drop ! $
-        peeks ! T.the-row (Is T.the-row) (shows 𝓤 H A T.the-row) y₉ (v₉ ∷ []) (λ i₉. land ! (from ! (stop !)) (init ! 2 refl (LL.lawful T.the-type T′.the-laws 𝓤 H A W .typed y₉ _ i₉ .0)) $ rewrite ! 2 (λ (u : Val). ‵ (fat fullShare T′.mir l₉ 0 u)) (ap only (LL.tells T.the-type T′.the-laws y₉ (v₉ ∷ []) i₉)) refl $ rewrite ! 0 (λ (us : List Val). ‵ (T.the-row .own y₉ us)) (LL.tells T.the-type T′.the-laws y₉ (v₉ ∷ []) i₉) refl $ peeks ! T.the-row (Is T.the-row) (shows 𝓤 H A T.the-row) y₉ ((LL.vals T.the-type T′.the-laws) y₉) (λ s₉. drop ! $
+        peeks ! T.the-row (Is T.the-row) (shows 𝓤 H A T.the-row) y₉ (v₉ ∷ []) (λ i₉. land ! (from ! (stop !)) (fills ! 2 T.the-row (pair-lawful 𝓤 H A at-mem run W) y₉ v₉ i₉ refl refl) $ rewrite ! 2 (λ (u : Val). ‵ (fat fullShare T′.mir l₉ 0 u)) (ap only (LL.tells T.the-type T′.the-laws y₉ (v₉ ∷ []) i₉)) refl $ rewrite ! 0 (λ (us : List Val). ‵ (T.the-row .own y₉ us)) (LL.tells T.the-type T′.the-laws y₉ (v₉ ∷ []) i₉) refl $ peeks ! T.the-row (Is T.the-row) (shows 𝓤 H A T.the-row) y₉ ((LL.vals T.the-type T′.the-laws) y₉) (λ s₉. drop ! $
         move ! (21 ∷ 22 ∷ 29 ∷ []) $ opens ! tt T.the-row {h = h} b o (λ vs. spelt ! T.the-row (Is T.the-row) (shows 𝓤 H A T.the-row) (LL.vals T.the-type T′.the-laws) (LL.tells T.the-type T′.the-laws) fullShare h vs b o $ move ! (1 ∷ []) $ peeks ! T.the-row (Is T.the-row) (shows 𝓤 H A T.the-row) h (LL.vals T.the-type T′.the-laws h) (λ was. drop ! $
-        assigns-last ! (of-opd ! (load ! (from ! (stop !)) (look ! 5 refl))) (from ! (hop ! (look ! 21 refl) (stop !))) (store-raw ! 0 refl (LL.lawful T.the-type T′.the-laws 𝓤 H A W .typed y₉ _ s₉ .0)) $
+        assigns-last ! (of-opd ! (load ! (from ! (stop !)) (look ! 5 refl))) (from ! (hop ! (look ! 21 refl) (stop !))) (overwrites ! 0 T.the-row (pair-lawful 𝓤 H A at-mem run W) y₉ (only (LL.vals T.the-type T′.the-laws y₉)) s₉ refl refl) $
         exec ! C Λ (standing code.Mir.locals (l₀ ∷ l₁ ∷ l₂ ∷ l₃ ∷ l₄ ∷ l₅ ∷ l₆ ∷ l₇ ∷ l₈ ∷ l₉ ∷ [])) code.Mir.t-4 (atRet (standing code.Mir.locals (l₀ ∷ l₁ ∷ l₂ ∷ l₃ ∷ l₄ ∷ l₅ ∷ l₆ ∷ l₇ ∷ l₈ ∷ l₉ ∷ [])) Post) $ assigns ! (of-opd ! (load ! (from ! (stop !)) (look ! 9 refl))) (from ! (stop !)) (init ! 23 refl (sint-lawful 𝓤 H A W w64 .typed y₇ _ i₇ .0)) $
         owned ! T.the-row (Is T.the-row) ((LL.makes T.the-type T′.the-plain) 𝓤 H A) y₉ _ s₉ $ move ! (1 ∷ 0 ∷ 2 ∷ 3 ∷ 4 ∷ []) $ closes ! tt T.the-row y₉ (LL.vals T.the-type T′.the-laws y₉) b o $
         returns ! (look ! 22 refl) $ forget ! 4 refl $ forget ! 6 refl $ forget ! 8 refl $ forget ! 10 refl $ forget ! 12 refl $ forget ! 14 refl $ forget ! 16 refl $ forget ! 18 refl $ forget ! 20 refl $ forget ! 22 refl $

@@ -19,7 +19,7 @@ use contract.Monad.{Fun, fact}
 use contract.Running.{givenOf, tables, tablesOf}
 use contract.Lifetimes.{Lfts}
 use types.Kit.{Given, ‵, raw, _⊛_, ⋆, some, later, _$_, _∵_, !, qed, by, move, keep, drop, use1, split, join, pick, fsplit, fsplit3, fjoin, fjoin3, feqI, suffices, frame, await, done, rewrite, atRet}
-use types.Run.{look, look-raw, store-raw, init, forget, stop, hop, from, load, of-opd, and-then, no-more, land, assigns, assigns-last, first, branches, exec, returns, enter, alloc1, alloc0, params1, pass1, pass0, free1, free0}
+use types.Run.{look, look-raw, init, forget, stop, hop, from, load, of-opd, and-then, no-more, land, assigns, assigns-last, first, branches, exec, returns, enter, alloc1, alloc0, params1, pass1, pass0, free1, free0}
 use types.SemTy.{Body}
 use sound.WpLaws.{FmC, fmOf, WpFn-mono}
 use denote.RattleType.{owns}
@@ -50,8 +50,8 @@ use Rattle.socket.proofs.Pair as T
 use Rattle.socket.proofs.Pair.Laws as T′
 use Rattle.status.proofs.Answer as N
 use Rattle.status.proofs.Answer.Laws as N′
-use Rattle.kept_places.proofs.Walk.{standing}
-use Rattle.kept_places.proofs.Callees.{word-contract, to-word, goes-word, word-told, has-only-packet-contract, to-has-only-packet, goes-has-only-packet, has-only-packet-told, taken-only-contract, to-taken-only, goes-taken-only, taken-only-told, taken-contract, to-taken, goes-taken, taken-told}
+use Rattle.kept_places.proofs.Walk.{fills, overwrites, standing}
+use Rattle.kept_places.proofs.Callees.{pair-lawful, word-contract, to-word, goes-word, word-told, has-only-packet-contract, to-has-only-packet, goes-has-only-packet, has-only-packet-told, taken-only-contract, to-taken-only, goes-taken-only, taken-only-told, taken-contract, to-taken, goes-taken, taken-told}
 use Rattle.places.specs.Table.{onlyPacket}
 use Rattle.socket.specs.Pair.{own}
 use Rattle.socket.specs.Deferred.{takenPair}
@@ -111,29 +111,29 @@ module _ {M : Type 1} (𝓤 : URA M) (H : Heap 𝓤) (A : Atoms 𝓤) (W : Given
         use1 W (later (some (λ (y₃ : ℤ). (‵ ftrue ⊛ ‵ (i64 .own y₃ (v₃ ∷ []))) ⊛ raw (ensured 𝓤 H A word.ended (word.clauses 𝓤 H A at-mem run) tt (a, tt) tt y₃)))) (id⊢ 𝓤 _) $ await ! tt $ pick ! (λ y₃. split ! $ move ! (1 ∷ []) $ use1 W (raw (fact 𝓤 (y₃ ≡ answerWord a))) (word-told 𝓤 H A at-mem run a y₃) $ heard ! (y₃ ≡ answerWord a) (λ e₃. split ! $ drop ! $
         peeks ! i64 (Is i64) (shows 𝓤 H A i64) y₃ (v₃ ∷ []) (λ i₃. land ! (from ! (stop !)) (init ! 13 refl (sint-lawful 𝓤 H A W w64 .typed y₃ _ i₃ .0)) $
         move ! (21 ∷ 22 ∷ 25 ∷ []) $ opens ! tt T.the-row {h = h} b o (λ vs. spelt ! T.the-row (Is T.the-row) (shows 𝓤 H A T.the-row) (LL.vals T.the-type T′.the-laws) (LL.tells T.the-type T′.the-laws) fullShare h vs b o $ move ! (1 ∷ []) $ peeks ! T.the-row (Is T.the-row) (shows 𝓤 H A T.the-row) h (LL.vals T.the-type T′.the-laws h) (λ was. drop ! $
-        assigns ! (of-opd ! (load ! (from ! (hop ! (look ! 21 refl) (stop !))) (look-raw ! 0 refl))) (from ! (stop !)) (init ! 13 refl (LL.lawful T.the-type T′.the-laws 𝓤 H A W .typed h _ was .0)) $
+        assigns ! (of-opd ! (load ! (from ! (hop ! (look ! 21 refl) (stop !))) (look-raw ! 0 refl))) (from ! (stop !)) (fills ! 13 T.the-row (pair-lawful 𝓤 H A at-mem run W) h (only (LL.vals T.the-type T′.the-laws h)) was refl refl) $
         nothing ! $ use1 W (raw (has-only-packet-contract 𝓤 H A at-mem run .pre (to-has-only-packet 𝓤 H A at-mem run h))) (goes-has-only-packet 𝓤 H A at-mem run W h was) $
         calls-at ! fm (has-only-packet-contract 𝓤 H A at-mem run) known-has-only-packet (to-has-only-packet 𝓤 H A at-mem run h) (and-then ! (load ! (from ! (stop !)) (look ! 14 refl)) (no-more !)) (λ v₄.
         use1 W (later (some (λ (y₄ : Bool). (‵ ftrue ⊛ ‵ (bool .own y₄ (v₄ ∷ []))) ⊛ raw (ensured 𝓤 H A has-only-packet.ended (has-only-packet.clauses 𝓤 H A at-mem run) tt (h, tt) tt y₄)))) (id⊢ 𝓤 _) $ await ! tt $ pick ! (λ y₄. split ! $ move ! (1 ∷ []) $ use1 W (raw (fact 𝓤 (y₄ ≡ onlyPacket (h .places)))) (has-only-packet-told 𝓤 H A at-mem run h y₄) $ heard ! (y₄ ≡ onlyPacket (h .places)) (λ e₄. split ! $ drop ! $
         peeks ! bool (Is bool) (shows 𝓤 H A bool) y₄ (v₄ ∷ []) (λ i₄. land ! (from ! (stop !)) (init ! 16 refl (bool-lawful 𝓤 H A W .typed y₄ _ i₄ .0)) $ rewrite ! 16 (λ (u : Val). ‵ (fat fullShare tyBool l₄ 0 u)) (ap only (bool-tells y₄ (v₄ ∷ []) i₄)) refl $ drop ! $
         first ! $ branches ! (load ! (from ! (stop !)) (look ! 15 refl))
-        (λ on₄. assigns ! (of-opd ! (load ! (from ! (hop ! (look ! 21 refl) (stop !))) (look-raw ! 0 refl))) (from ! (stop !)) (init ! 9 refl (LL.lawful T.the-type T′.the-laws 𝓤 H A W .typed h _ was .0)) $
+        (λ on₄. assigns ! (of-opd ! (load ! (from ! (hop ! (look ! 21 refl) (stop !))) (look-raw ! 0 refl))) (from ! (stop !)) (fills ! 9 T.the-row (pair-lawful 𝓤 H A at-mem run W) h (only (LL.vals T.the-type T′.the-laws h)) was refl refl) $
         nothing ! $ use1 W (raw (taken-only-contract 𝓤 H A at-mem run .pre (to-taken-only 𝓤 H A at-mem run h a))) (goes-taken-only 𝓤 H A at-mem run W h a was g₁) $
         calls-at ! fm (taken-only-contract 𝓤 H A at-mem run) known-taken-only (to-taken-only 𝓤 H A at-mem run h a) (and-then ! (load ! (from ! (stop !)) (look ! 10 refl)) (and-then ! (load ! (from ! (stop !)) (look ! 20 refl)) (no-more !))) (λ v₆.
         use1 W (later (some (λ (y₆ : Pair). (‵ ftrue ⊛ ‵ (T.the-row .own y₆ (v₆ ∷ []))) ⊛ raw (ensured 𝓤 H A taken-only.ended (taken-only.clauses 𝓤 H A at-mem run) tt (h, (a, tt)) tt y₆)))) (id⊢ 𝓤 _) $ await ! tt $ pick ! (λ y₆. split ! $ move ! (1 ∷ []) $ use1 W (raw (fact 𝓤 (y₆ ≡ choose (onlyPacket (h .places)) (takenPair (isDone a) h) h))) (taken-only-told 𝓤 H A at-mem run h a y₆) $ heard ! (y₆ ≡ choose (onlyPacket (h .places)) (takenPair (isDone a) h) h) (λ e₆. split ! $ drop ! $
-        peeks ! T.the-row (Is T.the-row) (shows 𝓤 H A T.the-row) y₆ (v₆ ∷ []) (λ i₆. land ! (from ! (stop !)) (init ! 12 refl (LL.lawful T.the-type T′.the-laws 𝓤 H A W .typed y₆ _ i₆ .0)) $ rewrite ! 12 (λ (u : Val). ‵ (fat fullShare T′.mir l₆ 0 u)) (ap only (LL.tells T.the-type T′.the-laws y₆ (v₆ ∷ []) i₆)) refl $ rewrite ! 0 (λ (us : List Val). ‵ (T.the-row .own y₆ us)) (LL.tells T.the-type T′.the-laws y₆ (v₆ ∷ []) i₆) refl $ peeks ! T.the-row (Is T.the-row) (shows 𝓤 H A T.the-row) y₆ ((LL.vals T.the-type T′.the-laws) y₆) (λ s₆. drop ! $
-        assigns-last ! (of-opd ! (load ! (from ! (stop !)) (look ! 11 refl))) (from ! (hop ! (look ! 21 refl) (stop !))) (store-raw ! 0 refl (LL.lawful T.the-type T′.the-laws 𝓤 H A W .typed y₆ _ s₆ .0)) $
+        peeks ! T.the-row (Is T.the-row) (shows 𝓤 H A T.the-row) y₆ (v₆ ∷ []) (λ i₆. land ! (from ! (stop !)) (fills ! 12 T.the-row (pair-lawful 𝓤 H A at-mem run W) y₆ v₆ i₆ refl refl) $ rewrite ! 12 (λ (u : Val). ‵ (fat fullShare T′.mir l₆ 0 u)) (ap only (LL.tells T.the-type T′.the-laws y₆ (v₆ ∷ []) i₆)) refl $ rewrite ! 0 (λ (us : List Val). ‵ (T.the-row .own y₆ us)) (LL.tells T.the-type T′.the-laws y₆ (v₆ ∷ []) i₆) refl $ peeks ! T.the-row (Is T.the-row) (shows 𝓤 H A T.the-row) y₆ ((LL.vals T.the-type T′.the-laws) y₆) (λ s₆. drop ! $
+        assigns-last ! (of-opd ! (load ! (from ! (stop !)) (look ! 11 refl))) (from ! (hop ! (look ! 21 refl) (stop !))) (overwrites ! 0 T.the-row (pair-lawful 𝓤 H A at-mem run W) y₆ (only (LL.vals T.the-type T′.the-laws y₆)) s₆ refl refl) $
         exec ! C Λ (standing code.Mir.locals (l₀ ∷ l₁ ∷ l₂ ∷ l₃ ∷ l₄ ∷ l₅ ∷ l₆ ∷ l₇ ∷ l₈ ∷ l₉ ∷ [])) code.Mir.t-5 (atRet (standing code.Mir.locals (l₀ ∷ l₁ ∷ l₂ ∷ l₃ ∷ l₄ ∷ l₅ ∷ l₆ ∷ l₇ ∷ l₈ ∷ l₉ ∷ [])) Post) $ assigns ! (of-opd ! (load ! (from ! (stop !)) (look ! 17 refl))) (from ! (stop !)) (init ! 23 refl (sint-lawful 𝓤 H A W w64 .typed y₃ _ i₃ .0)) $
         owned ! T.the-row (Is T.the-row) ((LL.makes T.the-type T′.the-plain) 𝓤 H A) y₆ _ s₆ $ move ! (1 ∷ 0 ∷ 2 ∷ 3 ∷ 4 ∷ []) $ closes ! tt T.the-row y₆ (LL.vals T.the-type T′.the-laws y₆) b o $
         returns ! (look ! 22 refl) $ forget ! 8 refl $ forget ! 10 refl $ forget ! 12 refl $ forget ! 14 refl $ forget ! 16 refl $ forget ! 18 refl $ forget ! 20 refl $ forget ! 22 refl $
         move ! (22 ∷ 23 ∷ []) $ free1 ! $ move ! (20 ∷ 21 ∷ []) $ free1 ! $ move ! (18 ∷ 19 ∷ []) $ free1 ! $ move ! (16 ∷ 17 ∷ []) $ free1 ! $ move ! (14 ∷ 15 ∷ []) $ free1 ! $ move ! (12 ∷ 13 ∷ []) $ free1 ! $ move ! (10 ∷ 11 ∷ []) $ free1 ! $ move ! (8 ∷ 9 ∷ []) $ free1 ! $ move ! (6 ∷ 7 ∷ []) $ free1 ! $ move ! (4 ∷ 5 ∷ []) $ free1 ! $ free0 ! $
         keep ! (0 ∷ 1 ∷ 2 ∷ 6 ∷ 3 ∷ []) $ by ! (exits y₆ y₃ v₃ (e₃, taken-on h y₆ y₄ _ e₄ on₄ e₆))))))))
-        (λ off₄. assigns ! (of-opd ! (load ! (from ! (hop ! (look ! 21 refl) (stop !))) (look-raw ! 0 refl))) (from ! (stop !)) (init ! 5 refl (LL.lawful T.the-type T′.the-laws 𝓤 H A W .typed h _ was .0)) $
+        (λ off₄. assigns ! (of-opd ! (load ! (from ! (hop ! (look ! 21 refl) (stop !))) (look-raw ! 0 refl))) (from ! (stop !)) (fills ! 5 T.the-row (pair-lawful 𝓤 H A at-mem run W) h (only (LL.vals T.the-type T′.the-laws h)) was refl refl) $
         nothing ! $ use1 W (raw (taken-contract 𝓤 H A at-mem run .pre (to-taken 𝓤 H A at-mem run h a))) (goes-taken 𝓤 H A at-mem run W h a was g₁) $
         calls-at ! fm (taken-contract 𝓤 H A at-mem run) known-taken (to-taken 𝓤 H A at-mem run h a) (and-then ! (load ! (from ! (stop !)) (look ! 6 refl)) (and-then ! (load ! (from ! (stop !)) (look ! 20 refl)) (no-more !))) (λ v₈.
         use1 W (later (some (λ (y₈ : Pair). (‵ ftrue ⊛ ‵ (T.the-row .own y₈ (v₈ ∷ []))) ⊛ raw (ensured 𝓤 H A taken.ended (taken.clauses 𝓤 H A at-mem run) tt (h, (a, tt)) tt y₈)))) (id⊢ 𝓤 _) $ await ! tt $ pick ! (λ y₈. split ! $ move ! (1 ∷ []) $ use1 W (raw (fact 𝓤 (y₈ ≡ takenPair (isDone a) h))) (taken-told 𝓤 H A at-mem run h a y₈) $ heard ! (y₈ ≡ takenPair (isDone a) h) (λ e₈. split ! $ drop ! $
-        peeks ! T.the-row (Is T.the-row) (shows 𝓤 H A T.the-row) y₈ (v₈ ∷ []) (λ i₈. land ! (from ! (stop !)) (init ! 8 refl (LL.lawful T.the-type T′.the-laws 𝓤 H A W .typed y₈ _ i₈ .0)) $ rewrite ! 8 (λ (u : Val). ‵ (fat fullShare T′.mir l₈ 0 u)) (ap only (LL.tells T.the-type T′.the-laws y₈ (v₈ ∷ []) i₈)) refl $ rewrite ! 0 (λ (us : List Val). ‵ (T.the-row .own y₈ us)) (LL.tells T.the-type T′.the-laws y₈ (v₈ ∷ []) i₈) refl $ peeks ! T.the-row (Is T.the-row) (shows 𝓤 H A T.the-row) y₈ ((LL.vals T.the-type T′.the-laws) y₈) (λ s₈. drop ! $
-        assigns-last ! (of-opd ! (load ! (from ! (stop !)) (look ! 7 refl))) (from ! (hop ! (look ! 21 refl) (stop !))) (store-raw ! 0 refl (LL.lawful T.the-type T′.the-laws 𝓤 H A W .typed y₈ _ s₈ .0)) $
+        peeks ! T.the-row (Is T.the-row) (shows 𝓤 H A T.the-row) y₈ (v₈ ∷ []) (λ i₈. land ! (from ! (stop !)) (fills ! 8 T.the-row (pair-lawful 𝓤 H A at-mem run W) y₈ v₈ i₈ refl refl) $ rewrite ! 8 (λ (u : Val). ‵ (fat fullShare T′.mir l₈ 0 u)) (ap only (LL.tells T.the-type T′.the-laws y₈ (v₈ ∷ []) i₈)) refl $ rewrite ! 0 (λ (us : List Val). ‵ (T.the-row .own y₈ us)) (LL.tells T.the-type T′.the-laws y₈ (v₈ ∷ []) i₈) refl $ peeks ! T.the-row (Is T.the-row) (shows 𝓤 H A T.the-row) y₈ ((LL.vals T.the-type T′.the-laws) y₈) (λ s₈. drop ! $
+        assigns-last ! (of-opd ! (load ! (from ! (stop !)) (look ! 7 refl))) (from ! (hop ! (look ! 21 refl) (stop !))) (overwrites ! 0 T.the-row (pair-lawful 𝓤 H A at-mem run W) y₈ (only (LL.vals T.the-type T′.the-laws y₈)) s₈ refl refl) $
         exec ! C Λ (standing code.Mir.locals (l₀ ∷ l₁ ∷ l₂ ∷ l₃ ∷ l₄ ∷ l₅ ∷ l₆ ∷ l₇ ∷ l₈ ∷ l₉ ∷ [])) code.Mir.t-5 (atRet (standing code.Mir.locals (l₀ ∷ l₁ ∷ l₂ ∷ l₃ ∷ l₄ ∷ l₅ ∷ l₆ ∷ l₇ ∷ l₈ ∷ l₉ ∷ [])) Post) $ assigns ! (of-opd ! (load ! (from ! (stop !)) (look ! 17 refl))) (from ! (stop !)) (init ! 23 refl (sint-lawful 𝓤 H A W w64 .typed y₃ _ i₃ .0)) $
         owned ! T.the-row (Is T.the-row) ((LL.makes T.the-type T′.the-plain) 𝓤 H A) y₈ _ s₈ $ move ! (1 ∷ 0 ∷ 2 ∷ 3 ∷ 4 ∷ []) $ closes ! tt T.the-row y₈ (LL.vals T.the-type T′.the-laws y₈) b o $
         returns ! (look ! 22 refl) $ forget ! 4 refl $ forget ! 6 refl $ forget ! 12 refl $ forget ! 14 refl $ forget ! 16 refl $ forget ! 18 refl $ forget ! 20 refl $ forget ! 22 refl $

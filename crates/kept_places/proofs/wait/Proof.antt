@@ -19,7 +19,7 @@ use contract.Monad.{Fun, fact}
 use contract.Running.{givenOf, tables, tablesOf}
 use contract.Lifetimes.{Lfts}
 use types.Kit.{Given, ‵, raw, _⊛_, ⋆, some, later, _$_, _∵_, !, qed, by, move, keep, drop, use1, split, join, pick, fsplit, fsplit3, fjoin, fjoin3, feqI, suffices, frame, await, done, rewrite, atRet}
-use types.Run.{look, look-raw, store-raw, init, forget, stop, hop, from, load, of-opd, and-then, no-more, land, assigns, assigns-last, first, branches, exec, returns, enter, alloc1, alloc0, params1, pass1, pass0, free1, free0}
+use types.Run.{look, look-raw, init, forget, stop, hop, from, load, of-opd, and-then, no-more, land, assigns, assigns-last, first, branches, exec, returns, enter, alloc1, alloc0, params1, pass1, pass0, free1, free0}
 use types.SemTy.{Body}
 use sound.WpLaws.{FmC, fmOf, WpFn-mono}
 use denote.RattleType.{owns}
@@ -50,8 +50,8 @@ use Rattle.socket.proofs.Pair as T
 use Rattle.socket.proofs.Pair.Laws as T′
 use Rattle.status.proofs.Answer as N
 use Rattle.status.proofs.Answer.Laws as N′
-use Rattle.kept_places.proofs.Walk.{standing}
-use Rattle.kept_places.proofs.Callees.{word-contract, to-word, goes-word, word-told, is-unused-contract, to-is-unused, goes-is-unused, is-unused-told, registered-first-contract, to-registered-first, goes-registered-first, registered-first-told, registered-contract, to-registered, goes-registered, registered-told}
+use Rattle.kept_places.proofs.Walk.{fills, overwrites, standing}
+use Rattle.kept_places.proofs.Callees.{pair-lawful, word-contract, to-word, goes-word, word-told, is-unused-contract, to-is-unused, goes-is-unused, is-unused-told, registered-first-contract, to-registered-first, goes-registered-first, registered-first-told, registered-contract, to-registered, goes-registered, registered-told}
 use Rattle.places.specs.Table.{unused}
 use Rattle.socket.specs.Pair.{isOne, own}
 use Rattle.socket.specs.Deferred.{registeredPair}
@@ -111,29 +111,29 @@ module _ {M : Type 1} (𝓤 : URA M) (H : Heap 𝓤) (A : Atoms 𝓤) (W : Given
         use1 W (later (some (λ (y₇ : ℤ). (‵ ftrue ⊛ ‵ (i64 .own y₇ (v₇ ∷ []))) ⊛ raw (ensured 𝓤 H A word.ended (word.clauses 𝓤 H A at-mem run) tt (a, tt) tt y₇)))) (id⊢ 𝓤 _) $ await ! tt $ pick ! (λ y₇. split ! $ move ! (1 ∷ []) $ use1 W (raw (fact 𝓤 (y₇ ≡ answerWord a))) (word-told 𝓤 H A at-mem run a y₇) $ heard ! (y₇ ≡ answerWord a) (λ e₇. split ! $ drop ! $
         peeks ! i64 (Is i64) (shows 𝓤 H A i64) y₇ (v₇ ∷ []) (λ i₇. land ! (from ! (stop !)) (init ! 13 refl (sint-lawful 𝓤 H A W w64 .typed y₇ _ i₇ .0)) $
         move ! (29 ∷ 30 ∷ 37 ∷ []) $ opens ! tt T.the-row {h = h} b o (λ vs. spelt ! T.the-row (Is T.the-row) (shows 𝓤 H A T.the-row) (LL.vals T.the-type T′.the-laws) (LL.tells T.the-type T′.the-laws) fullShare h vs b o $ move ! (1 ∷ []) $ peeks ! T.the-row (Is T.the-row) (shows 𝓤 H A T.the-row) h (LL.vals T.the-type T′.the-laws h) (λ was. drop ! $
-        assigns ! (of-opd ! (load ! (from ! (hop ! (look ! 29 refl) (stop !))) (look-raw ! 0 refl))) (from ! (stop !)) (init ! 13 refl (LL.lawful T.the-type T′.the-laws 𝓤 H A W .typed h _ was .0)) $
+        assigns ! (of-opd ! (load ! (from ! (hop ! (look ! 29 refl) (stop !))) (look-raw ! 0 refl))) (from ! (stop !)) (fills ! 13 T.the-row (pair-lawful 𝓤 H A at-mem run W) h (only (LL.vals T.the-type T′.the-laws h)) was refl refl) $
         nothing ! $ use1 W (raw (is-unused-contract 𝓤 H A at-mem run .pre (to-is-unused 𝓤 H A at-mem run h))) (goes-is-unused 𝓤 H A at-mem run W h was) $
         calls-at ! fm (is-unused-contract 𝓤 H A at-mem run) known-is-unused (to-is-unused 𝓤 H A at-mem run h) (and-then ! (load ! (from ! (stop !)) (look ! 14 refl)) (no-more !)) (λ v₈.
         use1 W (later (some (λ (y₈ : Bool). (‵ ftrue ⊛ ‵ (bool .own y₈ (v₈ ∷ []))) ⊛ raw (ensured 𝓤 H A is-unused.ended (is-unused.clauses 𝓤 H A at-mem run) tt (h, tt) tt y₈)))) (id⊢ 𝓤 _) $ await ! tt $ pick ! (λ y₈. split ! $ move ! (1 ∷ []) $ use1 W (raw (fact 𝓤 (y₈ ≡ unused (h .places)))) (is-unused-told 𝓤 H A at-mem run h y₈) $ heard ! (y₈ ≡ unused (h .places)) (λ e₈. split ! $ drop ! $
         peeks ! bool (Is bool) (shows 𝓤 H A bool) y₈ (v₈ ∷ []) (λ i₈. land ! (from ! (stop !)) (init ! 16 refl (bool-lawful 𝓤 H A W .typed y₈ _ i₈ .0)) $ rewrite ! 16 (λ (u : Val). ‵ (fat fullShare tyBool l₈ 0 u)) (ap only (bool-tells y₈ (v₈ ∷ []) i₈)) refl $ drop ! $
         first ! $ branches ! (load ! (from ! (stop !)) (look ! 15 refl))
-        (λ on₈. assigns ! (of-opd ! (load ! (from ! (hop ! (look ! 29 refl) (stop !))) (look-raw ! 0 refl))) (from ! (stop !)) (init ! 9 refl (LL.lawful T.the-type T′.the-laws 𝓤 H A W .typed h _ was .0)) $
+        (λ on₈. assigns ! (of-opd ! (load ! (from ! (hop ! (look ! 29 refl) (stop !))) (look-raw ! 0 refl))) (from ! (stop !)) (fills ! 9 T.the-row (pair-lawful 𝓤 H A at-mem run W) h (only (LL.vals T.the-type T′.the-laws h)) was refl refl) $
         nothing ! $ use1 W (raw (registered-first-contract 𝓤 H A at-mem run .pre (to-registered-first 𝓤 H A at-mem run h a x₂ x₃ x₄ x₅))) (goes-registered-first 𝓤 H A at-mem run W h a x₂ x₃ x₄ x₅ was g₁ g₂ g₃ g₄ g₅) $
         calls-at ! fm (registered-first-contract 𝓤 H A at-mem run) known-registered-first (to-registered-first 𝓤 H A at-mem run h a x₂ x₃ x₄ x₅) (and-then ! (load ! (from ! (stop !)) (look ! 10 refl)) (and-then ! (load ! (from ! (stop !)) (look ! 28 refl)) (and-then ! (load ! (from ! (stop !)) (look ! 26 refl)) (and-then ! (load ! (from ! (stop !)) (look ! 24 refl)) (and-then ! (load ! (from ! (stop !)) (look ! 22 refl)) (and-then ! (load ! (from ! (stop !)) (look ! 20 refl)) (no-more !))))))) (λ v₁₀.
         use1 W (later (some (λ (y₁₀ : Pair). (‵ ftrue ⊛ ‵ (T.the-row .own y₁₀ (v₁₀ ∷ []))) ⊛ raw (ensured 𝓤 H A registered-first.ended (registered-first.clauses 𝓤 H A at-mem run) tt (h, (a, (x₂, (x₃, (x₄, (x₅, tt)))))) tt y₁₀)))) (id⊢ 𝓤 _) $ await ! tt $ pick ! (λ y₁₀. split ! $ move ! (1 ∷ []) $ use1 W (raw (fact 𝓤 (y₁₀ ≡ choose (unused (h .places)) (registeredPair (isDone a) (isOne x₂) x₃ x₄ x₅ h) h))) (registered-first-told 𝓤 H A at-mem run h a x₂ x₃ x₄ x₅ y₁₀) $ heard ! (y₁₀ ≡ choose (unused (h .places)) (registeredPair (isDone a) (isOne x₂) x₃ x₄ x₅ h) h) (λ e₁₀. split ! $ drop ! $
-        peeks ! T.the-row (Is T.the-row) (shows 𝓤 H A T.the-row) y₁₀ (v₁₀ ∷ []) (λ i₁₀. land ! (from ! (stop !)) (init ! 12 refl (LL.lawful T.the-type T′.the-laws 𝓤 H A W .typed y₁₀ _ i₁₀ .0)) $ rewrite ! 12 (λ (u : Val). ‵ (fat fullShare T′.mir l₁₀ 0 u)) (ap only (LL.tells T.the-type T′.the-laws y₁₀ (v₁₀ ∷ []) i₁₀)) refl $ rewrite ! 0 (λ (us : List Val). ‵ (T.the-row .own y₁₀ us)) (LL.tells T.the-type T′.the-laws y₁₀ (v₁₀ ∷ []) i₁₀) refl $ peeks ! T.the-row (Is T.the-row) (shows 𝓤 H A T.the-row) y₁₀ ((LL.vals T.the-type T′.the-laws) y₁₀) (λ s₁₀. drop ! $
-        assigns-last ! (of-opd ! (load ! (from ! (stop !)) (look ! 11 refl))) (from ! (hop ! (look ! 29 refl) (stop !))) (store-raw ! 0 refl (LL.lawful T.the-type T′.the-laws 𝓤 H A W .typed y₁₀ _ s₁₀ .0)) $
+        peeks ! T.the-row (Is T.the-row) (shows 𝓤 H A T.the-row) y₁₀ (v₁₀ ∷ []) (λ i₁₀. land ! (from ! (stop !)) (fills ! 12 T.the-row (pair-lawful 𝓤 H A at-mem run W) y₁₀ v₁₀ i₁₀ refl refl) $ rewrite ! 12 (λ (u : Val). ‵ (fat fullShare T′.mir l₁₀ 0 u)) (ap only (LL.tells T.the-type T′.the-laws y₁₀ (v₁₀ ∷ []) i₁₀)) refl $ rewrite ! 0 (λ (us : List Val). ‵ (T.the-row .own y₁₀ us)) (LL.tells T.the-type T′.the-laws y₁₀ (v₁₀ ∷ []) i₁₀) refl $ peeks ! T.the-row (Is T.the-row) (shows 𝓤 H A T.the-row) y₁₀ ((LL.vals T.the-type T′.the-laws) y₁₀) (λ s₁₀. drop ! $
+        assigns-last ! (of-opd ! (load ! (from ! (stop !)) (look ! 11 refl))) (from ! (hop ! (look ! 29 refl) (stop !))) (overwrites ! 0 T.the-row (pair-lawful 𝓤 H A at-mem run W) y₁₀ (only (LL.vals T.the-type T′.the-laws y₁₀)) s₁₀ refl refl) $
         exec ! C Λ (standing code.Mir.locals (l₀ ∷ l₁ ∷ l₂ ∷ l₃ ∷ l₄ ∷ l₅ ∷ l₆ ∷ l₇ ∷ l₈ ∷ l₉ ∷ l₁₀ ∷ l₁₁ ∷ l₁₂ ∷ l₁₃ ∷ [])) code.Mir.t-5 (atRet (standing code.Mir.locals (l₀ ∷ l₁ ∷ l₂ ∷ l₃ ∷ l₄ ∷ l₅ ∷ l₆ ∷ l₇ ∷ l₈ ∷ l₉ ∷ l₁₀ ∷ l₁₁ ∷ l₁₂ ∷ l₁₃ ∷ [])) Post) $ assigns ! (of-opd ! (load ! (from ! (stop !)) (look ! 17 refl))) (from ! (stop !)) (init ! 31 refl (sint-lawful 𝓤 H A W w64 .typed y₇ _ i₇ .0)) $
         owned ! T.the-row (Is T.the-row) ((LL.makes T.the-type T′.the-plain) 𝓤 H A) y₁₀ _ s₁₀ $ move ! (1 ∷ 0 ∷ 2 ∷ 3 ∷ 4 ∷ []) $ closes ! tt T.the-row y₁₀ (LL.vals T.the-type T′.the-laws y₁₀) b o $
         returns ! (look ! 30 refl) $ forget ! 8 refl $ forget ! 10 refl $ forget ! 12 refl $ forget ! 14 refl $ forget ! 16 refl $ forget ! 18 refl $ forget ! 20 refl $ forget ! 22 refl $ forget ! 24 refl $ forget ! 26 refl $ forget ! 28 refl $ forget ! 30 refl $
         move ! (30 ∷ 31 ∷ []) $ free1 ! $ move ! (28 ∷ 29 ∷ []) $ free1 ! $ move ! (26 ∷ 27 ∷ []) $ free1 ! $ move ! (24 ∷ 25 ∷ []) $ free1 ! $ move ! (22 ∷ 23 ∷ []) $ free1 ! $ move ! (20 ∷ 21 ∷ []) $ free1 ! $ move ! (18 ∷ 19 ∷ []) $ free1 ! $ move ! (16 ∷ 17 ∷ []) $ free1 ! $ move ! (14 ∷ 15 ∷ []) $ free1 ! $ move ! (12 ∷ 13 ∷ []) $ free1 ! $ move ! (10 ∷ 11 ∷ []) $ free1 ! $ move ! (8 ∷ 9 ∷ []) $ free1 ! $ move ! (6 ∷ 7 ∷ []) $ free1 ! $ move ! (4 ∷ 5 ∷ []) $ free1 ! $ free0 ! $
         keep ! (0 ∷ 1 ∷ 2 ∷ 10 ∷ 3 ∷ []) $ by ! (exits y₁₀ y₇ v₇ (e₇, waited-on h y₁₀ y₈ _ e₈ on₈ e₁₀))))))))
-        (λ off₈. assigns ! (of-opd ! (load ! (from ! (hop ! (look ! 29 refl) (stop !))) (look-raw ! 0 refl))) (from ! (stop !)) (init ! 5 refl (LL.lawful T.the-type T′.the-laws 𝓤 H A W .typed h _ was .0)) $
+        (λ off₈. assigns ! (of-opd ! (load ! (from ! (hop ! (look ! 29 refl) (stop !))) (look-raw ! 0 refl))) (from ! (stop !)) (fills ! 5 T.the-row (pair-lawful 𝓤 H A at-mem run W) h (only (LL.vals T.the-type T′.the-laws h)) was refl refl) $
         nothing ! $ use1 W (raw (registered-contract 𝓤 H A at-mem run .pre (to-registered 𝓤 H A at-mem run h a x₂ x₃ x₄ x₅))) (goes-registered 𝓤 H A at-mem run W h a x₂ x₃ x₄ x₅ was g₁ g₂ g₃ g₄ g₅) $
         calls-at ! fm (registered-contract 𝓤 H A at-mem run) known-registered (to-registered 𝓤 H A at-mem run h a x₂ x₃ x₄ x₅) (and-then ! (load ! (from ! (stop !)) (look ! 6 refl)) (and-then ! (load ! (from ! (stop !)) (look ! 28 refl)) (and-then ! (load ! (from ! (stop !)) (look ! 26 refl)) (and-then ! (load ! (from ! (stop !)) (look ! 24 refl)) (and-then ! (load ! (from ! (stop !)) (look ! 22 refl)) (and-then ! (load ! (from ! (stop !)) (look ! 20 refl)) (no-more !))))))) (λ v₁₂.
         use1 W (later (some (λ (y₁₂ : Pair). (‵ ftrue ⊛ ‵ (T.the-row .own y₁₂ (v₁₂ ∷ []))) ⊛ raw (ensured 𝓤 H A registered.ended (registered.clauses 𝓤 H A at-mem run) tt (h, (a, (x₂, (x₃, (x₄, (x₅, tt)))))) tt y₁₂)))) (id⊢ 𝓤 _) $ await ! tt $ pick ! (λ y₁₂. split ! $ move ! (1 ∷ []) $ use1 W (raw (fact 𝓤 (y₁₂ ≡ registeredPair (isDone a) (isOne x₂) x₃ x₄ x₅ h))) (registered-told 𝓤 H A at-mem run h a x₂ x₃ x₄ x₅ y₁₂) $ heard ! (y₁₂ ≡ registeredPair (isDone a) (isOne x₂) x₃ x₄ x₅ h) (λ e₁₂. split ! $ drop ! $
-        peeks ! T.the-row (Is T.the-row) (shows 𝓤 H A T.the-row) y₁₂ (v₁₂ ∷ []) (λ i₁₂. land ! (from ! (stop !)) (init ! 8 refl (LL.lawful T.the-type T′.the-laws 𝓤 H A W .typed y₁₂ _ i₁₂ .0)) $ rewrite ! 8 (λ (u : Val). ‵ (fat fullShare T′.mir l₁₂ 0 u)) (ap only (LL.tells T.the-type T′.the-laws y₁₂ (v₁₂ ∷ []) i₁₂)) refl $ rewrite ! 0 (λ (us : List Val). ‵ (T.the-row .own y₁₂ us)) (LL.tells T.the-type T′.the-laws y₁₂ (v₁₂ ∷ []) i₁₂) refl $ peeks ! T.the-row (Is T.the-row) (shows 𝓤 H A T.the-row) y₁₂ ((LL.vals T.the-type T′.the-laws) y₁₂) (λ s₁₂. drop ! $
-        assigns-last ! (of-opd ! (load ! (from ! (stop !)) (look ! 7 refl))) (from ! (hop ! (look ! 29 refl) (stop !))) (store-raw ! 0 refl (LL.lawful T.the-type T′.the-laws 𝓤 H A W .typed y₁₂ _ s₁₂ .0)) $
+        peeks ! T.the-row (Is T.the-row) (shows 𝓤 H A T.the-row) y₁₂ (v₁₂ ∷ []) (λ i₁₂. land ! (from ! (stop !)) (fills ! 8 T.the-row (pair-lawful 𝓤 H A at-mem run W) y₁₂ v₁₂ i₁₂ refl refl) $ rewrite ! 8 (λ (u : Val). ‵ (fat fullShare T′.mir l₁₂ 0 u)) (ap only (LL.tells T.the-type T′.the-laws y₁₂ (v₁₂ ∷ []) i₁₂)) refl $ rewrite ! 0 (λ (us : List Val). ‵ (T.the-row .own y₁₂ us)) (LL.tells T.the-type T′.the-laws y₁₂ (v₁₂ ∷ []) i₁₂) refl $ peeks ! T.the-row (Is T.the-row) (shows 𝓤 H A T.the-row) y₁₂ ((LL.vals T.the-type T′.the-laws) y₁₂) (λ s₁₂. drop ! $
+        assigns-last ! (of-opd ! (load ! (from ! (stop !)) (look ! 7 refl))) (from ! (hop ! (look ! 29 refl) (stop !))) (overwrites ! 0 T.the-row (pair-lawful 𝓤 H A at-mem run W) y₁₂ (only (LL.vals T.the-type T′.the-laws y₁₂)) s₁₂ refl refl) $
         exec ! C Λ (standing code.Mir.locals (l₀ ∷ l₁ ∷ l₂ ∷ l₃ ∷ l₄ ∷ l₅ ∷ l₆ ∷ l₇ ∷ l₈ ∷ l₉ ∷ l₁₀ ∷ l₁₁ ∷ l₁₂ ∷ l₁₃ ∷ [])) code.Mir.t-5 (atRet (standing code.Mir.locals (l₀ ∷ l₁ ∷ l₂ ∷ l₃ ∷ l₄ ∷ l₅ ∷ l₆ ∷ l₇ ∷ l₈ ∷ l₉ ∷ l₁₀ ∷ l₁₁ ∷ l₁₂ ∷ l₁₃ ∷ [])) Post) $ assigns ! (of-opd ! (load ! (from ! (stop !)) (look ! 17 refl))) (from ! (stop !)) (init ! 31 refl (sint-lawful 𝓤 H A W w64 .typed y₇ _ i₇ .0)) $
         owned ! T.the-row (Is T.the-row) ((LL.makes T.the-type T′.the-plain) 𝓤 H A) y₁₂ _ s₁₂ $ move ! (1 ∷ 0 ∷ 2 ∷ 3 ∷ 4 ∷ []) $ closes ! tt T.the-row y₁₂ (LL.vals T.the-type T′.the-laws y₁₂) b o $
         returns ! (look ! 30 refl) $ forget ! 4 refl $ forget ! 6 refl $ forget ! 12 refl $ forget ! 14 refl $ forget ! 16 refl $ forget ! 18 refl $ forget ! 20 refl $ forget ! 22 refl $ forget ! 24 refl $ forget ! 26 refl $ forget ! 28 refl $ forget ! 30 refl $

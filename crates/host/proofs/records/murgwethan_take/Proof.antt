@@ -17,8 +17,8 @@ use ghost.Atoms.{Atoms}
 use contract.Monad.{Fun, fact}
 use contract.Running.{givenOf, tables, tablesOf}
 use contract.Lifetimes.{Lfts}
-use types.Kit.{Given, ‵, raw, _⊛_, ⋆, some, later, _$_, _∵_, !, qed, by, move, keep, drop, use1, split, join, pick, fsplit, fsplit3, fjoin, fjoin3, feqI, suffices, frame, await, done, rewrite}
-use types.Run.{look, look-raw, init, forget, stop, hop, from, load, of-opd, addr, and-then, no-more, land, assigns, returns, enter, alloc1, alloc0, params1, pass1, pass0, free1, free0}
+use types.Kit.{Given, ‵, raw, _⊛_, ⋆, some, later, _$_, _∵_, !, qed, by, move, keep, drop, use1, split, join, pick, fsplit, fsplit3, fjoin, suffices, frame, await, done, rewrite}
+use types.Run.{look, look-raw, init, stop, hop, from, load, of-opd, addr, and-then, no-more, land, assigns, returns, enter, alloc1, alloc0, params1, pass1, pass0, free0}
 use sound.WpLaws.{FmC, fmOf, WpFn-mono}
 use denote.RattleType.{owns}
 use denote.Laws.{Is, shows}
@@ -27,8 +27,7 @@ use denote.Signed.{sint-lawful}
 use denote.Builtin.{u64, i64, Array, ArrayOf}
 use denote.Ref.{RefT, MutRef, ptr-vals, mut-tells}
 use denote.Signature.{plain}
-use denote.Steps.{opens, closes, owned, peeks, heard, nothing, only}
-use denote.Struct.Steps.{spelt}
+use denote.Steps.{closes, owned, peeks, heard, nothing, only}
 use denote.Struct.Laws as LL
 use denote.Enum.Laws as EL
 use denote.Triple.Statement.{Contract, Triple}
@@ -39,15 +38,15 @@ use denote.Triple.Table.{entered, cited}
 use denote.Triple.Walked.{says, Stays, gave-ref, walkOf, AllGo, goes-gave-ref, Walks, ends-at, walked, walk-meets}
 use denote.Triple.Clauses.{ensured, lasts}
 use Rattle.status.specs.declared.Answer.{Answer}
-use Rattle.status.specs.Answer.{answerWord, isDone}
 use Rattle.socket.specs.declared.Pair.{Pair}
 use Rattle.socket.proofs.Pair as T
 use Rattle.socket.proofs.Pair.Laws as T′
 use Rattle.status.proofs.Answer as N
 use Rattle.status.proofs.Answer.Laws as N′
-use Rattle.host.proofs.Callees.{take-contract, to-take, goes-take}
+use Rattle.kept_pair.proofs.Callees.{pair-one, pair-lawful}
+use Rattle.kept_pair.proofs.Walk.{hands, opened, fills, frees-cell}
+use Rattle.host.proofs.Callees.{take-contract, hand-take}
 use Rattle.socket.specs.Pair.{own}
-use Rattle.socket.specs.Deferred.{takenPair}
 use Rattle.host.specs.Host.{Answered}
 use Rattle.socket.specs.Wait.{takeAnswer, took}
 use Rattle.socket.proofs.Waits.{take-steps}
@@ -98,11 +97,11 @@ module _ {M : Type 1} (𝓤 : URA M) (H : Heap 𝓤) (A : Atoms 𝓤) (W : Given
       suffices ! _ (ends-at 𝓤 H A f.ended stayed (f.clauses 𝓤 H A at-mem run) W ((bound, (q, (q₁, tt)), tt, x, at), tt) v z (p′, (zs₁, tt)) (tt, (tt, tt))) $
       says ! ens $ move ! (1 ∷ []) $ split ! $ move ! (1 ∷ []) $ drop ! $ move ! (0 ∷ 2 ∷ []) $ join ! $ frame ! $ nothing ! $ move ! (2 ∷ 0 ∷ []) $ fjoin ! $ move ! (1 ∷ 0 ∷ []) $ fjoin ! $ done !
 
-  abbrev to-step : Pair → Called 𝓤 H A at-mem run .Ghost
-  to-step j = (((κ₁, tt), (q₁, tt), tt, (j, (r₁, tt)), ((LL.vals T.the-type T′.the-laws) j, (vptr b₁ o₁ ∷ [], tt))), tt)
+  abbrev to-step : Pair → Val → Called 𝓤 H A at-mem run .Ghost
+  to-step j vj = (((κ₁, tt), (q₁, tt), tt, (j, (r₁, tt)), (vj ∷ [], (vptr b₁ o₁ ∷ [], tt))), tt)
 
-  goes-step : (j : Pair) → Is T.the-row j ((LL.vals T.the-type T′.the-laws) j) → ent 𝓤 (⋆ 𝓤 H A (((‵ (flft κ₁ q₁) ⊛ ‵ ftrue) ⊛ ‵ Own₁) ∷ [])) (Called 𝓤 H A at-mem run .pre (to-step j))
-  goes-step j c₀ = qed W (((‵ (flft κ₁ q₁) ⊛ ‵ ftrue) ⊛ ‵ Own₁) ∷ []) ∵ split ! $ nothing ! $ move ! (2 ∷ 0 ∷ []) $ join ! $ owned ! T.the-row (Is T.the-row) ((LL.makes T.the-type T′.the-plain) 𝓤 H A) j _ c₀ $ join ! $ move ! (1 ∷ 0 ∷ []) $ join ! $ frame ! $ done !
+  goes-step : (j : Pair) (vj : Val) → Is T.the-row j (vj ∷ []) → ent 𝓤 (⋆ 𝓤 H A (((‵ (flft κ₁ q₁) ⊛ ‵ ftrue) ⊛ ‵ Own₁) ∷ [])) (Called 𝓤 H A at-mem run .pre (to-step j vj))
+  goes-step j vj c₀ = qed W (((‵ (flft κ₁ q₁) ⊛ ‵ ftrue) ⊛ ‵ Own₁) ∷ []) ∵ split ! $ nothing ! $ move ! (2 ∷ 0 ∷ []) $ join ! $ owned ! T.the-row (Is T.the-row) ((LL.makes T.the-type T′.the-plain) 𝓤 H A) j (vj ∷ []) c₀ $ join ! $ move ! (1 ∷ 0 ∷ []) $ join ! $ frame ! $ done !
 
   module _ (C : Calls 𝓤 H) (Λ : Loops 𝓤 H) (fm : FmC 𝓤 H (W .laws) C) (known-step : Triple 𝓤 (C #step) (Called 𝓤 H A at-mem run)) (known-take : Triple 𝓤 (C #take) (take-contract 𝓤 H A at-mem run)) where
     walk : ent 𝓤 (onEntry 𝓤 H A f.signature bound (q, (q₁, tt)) x at) (WpFn 𝓤 H C Λ code.function (vptr b o ∷ vptr b₁ o₁ ∷ []) Post)
@@ -110,22 +109,20 @@ module _ {M : Type 1} (𝓤 : URA M) (H : Heap 𝓤) (A : Atoms 𝓤) (W : Given
         qed W ((‵ (flft κ q) ⊛ (‵ (flft κ₁ q₁) ⊛ ‵ ftrue)) ∷ ‵ (owns (MutRef (named 0) κ T.the-row ∷ MutRef (named 1) κ₁ (Array u64 tt 5) ∷ []) x at) ∷ []) ∵ split ! $ move ! (2 ∷ []) $ fsplit ! $ move ! (1 ∷ []) $ fsplit ! $ move ! (2 ∷ []) $ fsplit3 ! $ drop ! $
         enter ! C Λ code.function (vptr b o ∷ vptr b₁ o₁ ∷ []) _ $ alloc1 ! (λ l₀. alloc1 ! (λ l₁. alloc1 ! (λ l₂. alloc1 ! (λ l₃. alloc1 ! (λ l₄. alloc1 ! (λ l₅. alloc1 ! (λ l₆. alloc0 ! $ params1 ! $
         pass1 ! (init ! 10 refl (tt, tt)) $ pass1 ! (init ! 8 refl (tt, tt)) $ pass0 ! $
-        move ! (14 ∷ 15 ∷ 18 ∷ []) $ opens ! tt T.the-row {h = h} b o (λ vs. spelt ! T.the-row (Is T.the-row) (shows 𝓤 H A T.the-row) (LL.vals T.the-type T′.the-laws) (LL.tells T.the-type T′.the-laws) fullShare h vs b o $ move ! (1 ∷ []) $ peeks ! T.the-row (Is T.the-row) (shows 𝓤 H A T.the-row) h (LL.vals T.the-type T′.the-laws h) (λ was. drop ! $
-        assigns ! (of-opd ! (load ! (from ! (hop ! (look ! 14 refl) (stop !))) (look-raw ! 0 refl))) (from ! (stop !)) (init ! 8 refl (LL.lawful T.the-type T′.the-laws 𝓤 H A W .typed h _ was .0)) $
-        assigns ! (addr ! (from ! (hop ! (look ! 12 refl) (stop !)))) (from ! (stop !)) (init ! 6 refl (tt, tt)) $ move ! (20 ∷ 18 ∷ []) $ join ! $ use1 W (raw (Called 𝓤 H A at-mem run .pre (to-step h))) (goes-step h was) $
-        calls-at ! fm (Called 𝓤 H A at-mem run) known-step (to-step h) (and-then ! (load ! (from ! (stop !)) (look ! 9 refl)) (and-then ! (load ! (from ! (stop !)) (look ! 7 refl)) (no-more !))) (λ v₃.
+        move ! (14 ∷ 15 ∷ 18 ∷ []) $ opened ! tt T.the-row pair-one h b o (λ vh was.
+        assigns ! (of-opd ! (load ! (from ! (hop ! (look ! 14 refl) (stop !))) (look-raw ! 0 refl))) (from ! (stop !)) (fills ! 8 T.the-row (pair-lawful 𝓤 H A at-mem run W) h vh was refl refl) $
+        assigns ! (addr ! (from ! (hop ! (look ! 12 refl) (stop !)))) (from ! (stop !)) (init ! 6 refl (tt, tt)) $ move ! (20 ∷ 18 ∷ []) $ join ! $ use1 W (raw (Called 𝓤 H A at-mem run .pre (to-step h vh))) (goes-step h vh was) $
+        calls-at ! fm (Called 𝓤 H A at-mem run) known-step (to-step h vh) (and-then ! (load ! (from ! (stop !)) (look ! 9 refl)) (and-then ! (load ! (from ! (stop !)) (look ! 7 refl)) (no-more !))) (λ v₃.
         use1 W (later (some (λ (y₃ : Answer). ((‵ (flft κ₁ q₁) ⊛ ‵ ftrue) ⊛ ‵ (N.the-row .own y₃ (v₃ ∷ []))) ⊛ raw (ensured 𝓤 H A step.ended (step.clauses 𝓤 H A at-mem run) (κ₁, tt) (h, (r₁, tt)) tt y₃)))) (id⊢ 𝓤 _) $ await ! tt $ pick ! (λ y₃. split ! $ move ! (1 ∷ []) $
         use1 W (some (λ (zs : (Unit {0} × (List ℕ × Unit {0}))). ‵ (lasts step.ended (κ₁, tt) (h, (r₁, tt)) zs) ⊛ raw (fact 𝓤 ((y₃ ≡ takeAnswer h) × ((zs .1 .0) ≡ arrayOf packetNumbers y₃ ys₁))))) (id⊢ 𝓤 _) $ pick ! (λ zs. split ! $ move ! (1 ∷ []) $ heard ! ((y₃ ≡ takeAnswer h) × ((zs .1 .0) ≡ arrayOf packetNumbers y₃ ys₁)) (λ e₃.
         fsplit ! $ move ! (1 ∷ []) $ fsplit ! $ move ! (3 ∷ []) $ split ! $ move ! (1 ∷ []) $
         peeks ! N.the-row (Is N.the-row) (shows 𝓤 H A N.the-row) y₃ (v₃ ∷ []) (λ i₃. land ! (from ! (stop !)) (init ! 15 refl (EL.lawful N.the-type N′.the-laws 𝓤 H A W tt .typed y₃ _ i₃ .0)) $ rewrite ! 15 (λ (u : Val). ‵ (fat fullShare N′.mir l₃ 0 u)) (ap only (EL.tells N.the-type N′.the-laws y₃ (v₃ ∷ []) i₃)) refl $ rewrite ! 0 (λ (us : List Val). ‵ (N.the-row .own y₃ us)) (EL.tells N.the-type N′.the-laws y₃ (v₃ ∷ []) i₃) refl $ peeks ! N.the-row (Is N.the-row) (shows 𝓤 H A N.the-row) y₃ ((EL.vals N.the-type N′.the-laws) y₃) (λ s₃. drop ! $
-        owned ! T.the-row (Is T.the-row) ((LL.makes T.the-type T′.the-plain) 𝓤 H A) h _ was $ move ! (5 ∷ 0 ∷ 6 ∷ 7 ∷ 8 ∷ []) $ closes ! tt T.the-row h (LL.vals T.the-type T′.the-laws h) b o $
-        assigns ! (addr ! (from ! (hop ! (look ! 17 refl) (stop !)))) (from ! (stop !)) (init ! 7 refl (tt, tt)) $ feqI ! (List Val) (vptr b o ∷ []) (vptr b o ∷ []) refl $ fjoin3 ! $ nothing ! $ move ! (2 ∷ 0 ∷ []) $ join ! $ move ! (1 ∷ 0 ∷ []) $ join ! $ use1 W (raw (take-contract 𝓤 H A at-mem run .pre (to-take 𝓤 H A at-mem run κ q b o γ h y₃))) (goes-take 𝓤 H A at-mem run W κ q b o γ h y₃ s₃) $
-        calls-at ! fm (take-contract 𝓤 H A at-mem run) known-take (to-take 𝓤 H A at-mem run κ q b o γ h y₃) (and-then ! (load ! (from ! (stop !)) (look ! 5 refl)) (and-then ! (load ! (from ! (stop !)) (look ! 11 refl)) (no-more !))) (λ v₀.
-        use1 W (later (some (λ (z₀ : ℤ). ((‵ (flft κ q) ⊛ ‵ ftrue) ⊛ ‵ (i64 .own z₀ (v₀ ∷ []))) ⊛ raw (ensured 𝓤 H A take.ended (take.clauses 𝓤 H A at-mem run) (κ, tt) (record { ptr = (b, o); name = γ; now = h }, (y₃, tt)) tt z₀)))) (id⊢ 𝓤 _) $ await ! tt $ pick ! (λ z₀. split ! $ move ! (1 ∷ []) $ use1 W (some (λ (ws : (Pair × (Unit {0} × Unit {0}))). ‵ (lasts take.ended (κ, tt) (record { ptr = (b, o); name = γ; now = h }, (y₃, tt)) ws) ⊛ raw (fact 𝓤 ((z₀ ≡ answerWord y₃) × (ws .0 ≡ takenPair (isDone y₃) h))))) (id⊢ 𝓤 _) $ pick ! (λ ws. split ! $ move ! (1 ∷ []) $ heard ! ((z₀ ≡ answerWord y₃) × (ws .0 ≡ takenPair (isDone y₃) h)) (λ e₀. fsplit ! $
-        move ! (2 ∷ []) $ split ! $ move ! (1 ∷ []) $ peeks ! i64 (Is i64) (shows 𝓤 H A i64) z₀ (v₀ ∷ []) (λ i₀. land ! (from ! (stop !)) (init ! 20 refl (sint-lawful 𝓤 H A W w64 .typed z₀ _ i₀ .0)) $
-        returns ! (look ! 20 refl) $ forget ! 8 refl $ forget ! 10 refl $ forget ! 12 refl $ forget ! 14 refl $ forget ! 16 refl $ forget ! 18 refl $ forget ! 20 refl $
-        move ! (20 ∷ 21 ∷ []) $ free1 ! $ move ! (18 ∷ 19 ∷ []) $ free1 ! $ move ! (16 ∷ 17 ∷ []) $ free1 ! $ move ! (14 ∷ 15 ∷ []) $ free1 ! $ move ! (12 ∷ 13 ∷ []) $ free1 ! $ move ! (10 ∷ 11 ∷ []) $ free1 ! $ move ! (8 ∷ 9 ∷ []) $ free1 ! $ free0 ! $
-        keep ! (2 ∷ 1 ∷ 4 ∷ 5 ∷ 0 ∷ []) $ by ! (exits (ws .0) z₀ v₀ (zs .1 .0) (record { answer = y₃; word = e₀ .0; kept = record { step = take-steps h y₃ (ws .0) (e₃ .0) (e₀ .1); array = e₃ .1 } }))))))))))))))))))))))
+        owned ! T.the-row (Is T.the-row) ((LL.makes T.the-type T′.the-plain) 𝓤 H A) h (vh ∷ []) was $ move ! (5 ∷ 0 ∷ 6 ∷ 7 ∷ 8 ∷ []) $ closes ! tt T.the-row h (vh ∷ []) b o $
+        assigns ! (addr ! (from ! (hop ! (look ! 17 refl) (stop !)))) (from ! (stop !)) (init ! 7 refl (tt, tt)) $ hands ! fm (hand-take 𝓤 H A at-mem run W κ q b o γ h y₃ s₃) known-take (and-then ! (load ! (from ! (stop !)) (look ! 5 refl)) (and-then ! (load ! (from ! (stop !)) (look ! 11 refl)) (no-more !))) (λ v₀ z₀ ws e₀ i₀.
+        land ! (from ! (stop !)) (init ! 20 refl (sint-lawful 𝓤 H A W w64 .typed z₀ _ i₀ .0)) $
+        returns ! (look ! 20 refl) $
+        move ! (20 ∷ 21 ∷ []) $ frees-cell ! $ move ! (18 ∷ 19 ∷ []) $ frees-cell ! $ move ! (16 ∷ 17 ∷ []) $ frees-cell ! $ move ! (14 ∷ 15 ∷ []) $ frees-cell ! $ move ! (12 ∷ 13 ∷ []) $ frees-cell ! $ move ! (10 ∷ 11 ∷ []) $ frees-cell ! $ move ! (8 ∷ 9 ∷ []) $ frees-cell ! $ free0 ! $
+        keep ! (2 ∷ 1 ∷ 4 ∷ 5 ∷ 0 ∷ []) $ by ! (exits (ws .0) z₀ v₀ (zs .1 .0) (record { answer = y₃; word = e₀ .0; kept = record { step = take-steps h y₃ (ws .0) (e₃ .0) (e₀ .1); array = e₃ .1 } })))))))))))))))))
 
 module _ {M : Type 1} (𝓤 : URA M) (H : Heap 𝓤) (A : Atoms 𝓤) (W : Given 𝓤 H A) (at-mem : Memory → SProp 𝓤) (run : Routine → Fun 𝓤) where
   walks : (C : Calls 𝓤 H) (Λ : Loops 𝓤 H) → FmC 𝓤 H (W .laws) C → Triple 𝓤 (C #step) (Called 𝓤 H A at-mem run) → Triple 𝓤 (C #take) (take-contract 𝓤 H A at-mem run) → Walks 𝓤 H A f.ended stayed (WpFn 𝓤 H C Λ code.function) (f.clauses 𝓤 H A at-mem run)
