@@ -26,7 +26,7 @@ use denote.Enum.Laws as EL
 use denote.Triple.Statement.{Contract}
 use denote.Triple.Spec.{tripleOf}
 use denote.Triple.Clauses.{ensured, lasts}
-use Rattle.kept_pair.proofs.Walk.{Asked, told, Handed, told-last}
+use Rattle.reference_steps.proofs.Steps.{Asked, told, Handed, told-last}
 use Rattle.status.specs.declared.Answer.{Answer}
 use Rattle.status.specs.Answer.{answerWord, isDone}
 use Rattle.ends.specs.declared.Ends.{Ends}

@@ -36,7 +36,7 @@ use Rattle.ends.proofs.Outcome.Laws as K′
 use Rattle.places.specs.Table.{onlyWait}
 use Rattle.socket.specs.Pair.{isOne}
 use Rattle.socket.specs.Deferred.{needsVisit, visitedAll, withOutcome, withoutWaits, closedWaits}
-use Rattle.kept_pair.proofs.Walk.{One, Asked, told, Handed, told-last}
+use Rattle.reference_steps.proofs.Steps.{One, Asked, told, Handed, told-last}
 use Rattle.kept_pair.proofs.outcome_word as outcome-word
 use Rattle.kept_pair.proofs.fires as fires
 use Rattle.socket.proofs.needs_visit as needs-visit

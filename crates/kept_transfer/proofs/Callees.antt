@@ -25,7 +25,7 @@ use denote.Struct.Laws as LL
 use denote.Triple.Statement.{Contract}
 use denote.Triple.Spec.{tripleOf}
 use denote.Triple.Clauses.{ensured, lasts}
-use Rattle.kept_pair.proofs.Walk.{Asked, told, Handed, told-last}
+use Rattle.reference_steps.proofs.Steps.{Asked, told, Handed, told-last}
 use Rattle.status.specs.Answer.{answerWord}
 use Rattle.ends.specs.declared.Outcome.{Outcome}
 use Rattle.transfer.specs.declared.Transfer.{Transfer}

@@ -49,7 +49,7 @@ use Rattle.ends.proofs.Ends.Laws as E′
 use Rattle.status.proofs.Answer as N
 use Rattle.status.proofs.Answer.Laws as N′
 use Rattle.kept_pair.proofs.Callees.{pair-one, pair-lawful}
-use Rattle.kept_pair.proofs.Walk.{asks, hands, opened, put-back, fills, frees-cell}
+use Rattle.reference_steps.proofs.Steps.{asks, hands, opened, put-back, fills, frees-cell}
 use Rattle.host.proofs.Callees.{ends-lawful, ends-contract, ask-ends, wait-answer-contract, to-wait-answer, goes-wait-answer, wait-answer-told, wait-contract, hand-wait}
 use Rattle.answers.specs.Wait.{waitAnswer as waitAnswerOf}
 use Rattle.socket.specs.Pair.{isOne, own}

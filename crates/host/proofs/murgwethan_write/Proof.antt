@@ -54,7 +54,7 @@ use Rattle.ends.proofs.Ends as E
 use Rattle.ends.proofs.Ends.Laws as E′
 use Rattle.kept_transfer.proofs.Callees.{transfer-lawful}
 use Rattle.kept_pair.proofs.Callees.{pair-one, pair-lawful}
-use Rattle.kept_pair.proofs.Walk.{asks, hands, opened, fills, frees-cell}
+use Rattle.reference_steps.proofs.Steps.{asks, hands, opened, fills, frees-cell}
 use Rattle.host.proofs.Callees.{ends-lawful, ends-contract, ask-ends, wrote-contract, hand-wrote}
 use Rattle.socket.specs.Pair.{own, endsOf}
 use Rattle.host.specs.Host.{Answered}

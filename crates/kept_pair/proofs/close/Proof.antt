@@ -42,7 +42,7 @@ use Rattle.socket.proofs.Pair as T
 use Rattle.socket.proofs.Pair.Laws as T′
 use Rattle.ends.proofs.Outcome as K
 use Rattle.ends.proofs.Outcome.Laws as K′
-use Rattle.kept_pair.proofs.Walk.{asks, hands, opened, put-back, fills, overwrites, frees-cell}
+use Rattle.reference_steps.proofs.Steps.{asks, hands, opened, put-back, fills, overwrites, frees-cell}
 use Rattle.kept_pair.proofs.Callees.{pair-lawful, outcome-lawful, pair-one, with-outcome-contract, ask-with-outcome, close-waits-contract, hand-close-waits}
 use Rattle.socket.specs.Pair.{isOne, own}
 use Rattle.socket.specs.Deferred.{settledClose}

@@ -43,7 +43,7 @@ use Rattle.socket.proofs.Pair as T
 use Rattle.socket.proofs.Pair.Laws as T′
 use Rattle.ends.proofs.Outcome as K
 use Rattle.ends.proofs.Outcome.Laws as K′
-use Rattle.kept_pair.proofs.Walk.{asks, tests, opened, put-back, fills, overwrites, frees-cell, standing}
+use Rattle.reference_steps.proofs.Steps.{asks, tests, opened, put-back, fills, overwrites, frees-cell, standing}
 use Rattle.kept_pair.proofs.Callees.{pair-lawful, outcome-lawful, pair-one, outcome-word-contract, ask-outcome-word, fires-contract, ask-fires, by-value-close-waits-contract, ask-by-value-close-waits}
 use Rattle.socket.specs.Pair.{isOne, own}
 use Rattle.socket.specs.Deferred.{closedWaits}

@@ -41,7 +41,7 @@ use Rattle.socket.proofs.Pair as T
 use Rattle.socket.proofs.Pair.Laws as T′
 use Rattle.ends.proofs.Outcome as K
 use Rattle.ends.proofs.Outcome.Laws as K′
-use Rattle.kept_pair.proofs.Walk.{asks, hands, opened, put-back, fills, overwrites, frees-cell}
+use Rattle.reference_steps.proofs.Steps.{asks, hands, opened, put-back, fills, overwrites, frees-cell}
 use Rattle.kept_pair.proofs.Callees.{pair-lawful, outcome-lawful, pair-one, with-outcome-contract, ask-with-outcome, visit-contract, hand-visit}
 use Rattle.socket.specs.Pair.{own}
 use Rattle.socket.specs.Deferred.{settled}

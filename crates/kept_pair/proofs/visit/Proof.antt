@@ -44,7 +44,7 @@ use Rattle.socket.proofs.Pair as T
 use Rattle.socket.proofs.Pair.Laws as T′
 use Rattle.ends.proofs.Outcome as K
 use Rattle.ends.proofs.Outcome.Laws as K′
-use Rattle.kept_pair.proofs.Walk.{asks, tests, opened, put-back, fills, overwrites, frees-cell, standing}
+use Rattle.reference_steps.proofs.Steps.{asks, tests, opened, put-back, fills, overwrites, frees-cell, standing}
 use Rattle.kept_pair.proofs.Callees.{pair-lawful, outcome-lawful, pair-one, outcome-word-contract, ask-outcome-word, needs-visit-contract, ask-needs-visit, has-only-wait-contract, ask-has-only-wait, visit-only-contract, ask-visit-only, visit-each-contract, ask-visit-each}
 use Rattle.socket.specs.Pair.{own}
 use Rattle.socket.specs.Deferred.{visitedAll}

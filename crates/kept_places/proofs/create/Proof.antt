@@ -51,7 +51,7 @@ use Rattle.socket.proofs.Pair as T
 use Rattle.socket.proofs.Pair.Laws as T′
 use Rattle.status.proofs.Answer as N
 use Rattle.status.proofs.Answer.Laws as N′
-use Rattle.kept_places.proofs.Walk.{fills, overwrites, standing}
+use Rattle.reference_steps.proofs.Steps.{fills, overwrites, standing}
 use Rattle.kept_places.proofs.Callees.{pair-lawful, word-contract, to-word, goes-word, word-told, is-done-contract, to-is-done, goes-is-done, is-done-told, new-pair-contract, to-new-pair, goes-new-pair, new-pair-told}
 use Rattle.socket.specs.Pair.{own, newPair}
 use Rattle.kept_places.proofs.Stored.{made-on, made-off}

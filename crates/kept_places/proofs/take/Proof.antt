@@ -50,7 +50,7 @@ use Rattle.socket.proofs.Pair as T
 use Rattle.socket.proofs.Pair.Laws as T′
 use Rattle.status.proofs.Answer as N
 use Rattle.status.proofs.Answer.Laws as N′
-use Rattle.kept_places.proofs.Walk.{fills, overwrites, standing}
+use Rattle.reference_steps.proofs.Steps.{fills, overwrites, standing}
 use Rattle.kept_places.proofs.Callees.{pair-lawful, word-contract, to-word, goes-word, word-told, has-only-packet-contract, to-has-only-packet, goes-has-only-packet, has-only-packet-told, taken-only-contract, to-taken-only, goes-taken-only, taken-only-told, taken-contract, to-taken, goes-taken, taken-told}
 use Rattle.places.specs.Table.{onlyPacket}
 use Rattle.socket.specs.Pair.{own}

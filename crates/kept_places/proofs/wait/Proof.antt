@@ -50,7 +50,7 @@ use Rattle.socket.proofs.Pair as T
 use Rattle.socket.proofs.Pair.Laws as T′
 use Rattle.status.proofs.Answer as N
 use Rattle.status.proofs.Answer.Laws as N′
-use Rattle.kept_places.proofs.Walk.{fills, overwrites, standing}
+use Rattle.reference_steps.proofs.Steps.{fills, overwrites, standing}
 use Rattle.kept_places.proofs.Callees.{pair-lawful, word-contract, to-word, goes-word, word-told, is-unused-contract, to-is-unused, goes-is-unused, is-unused-told, registered-first-contract, to-registered-first, goes-registered-first, registered-first-told, registered-contract, to-registered, goes-registered, registered-told}
 use Rattle.places.specs.Table.{unused}
 use Rattle.socket.specs.Pair.{isOne, own}

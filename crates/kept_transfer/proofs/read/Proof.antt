@@ -48,7 +48,7 @@ use Rattle.transfer_read.specs.Transfer.{readBy}
 use Rattle.transfer.proofs.Transfer as X
 use Rattle.transfer.proofs.Transfer.Laws as X′
 use Rattle.kept_pair.proofs.Callees.{pair-one, pair-lawful, outcome-lawful}
-use Rattle.kept_pair.proofs.Walk.{asks, tests, opened, put-back, fills, overwrites, frees-cell, standing}
+use Rattle.reference_steps.proofs.Steps.{asks, tests, opened, put-back, fills, overwrites, frees-cell, standing}
 use Rattle.kept_transfer.proofs.Callees.{transfer-lawful, transfer-word-contract, ask-transfer-word, is-read-without-visit-contract, ask-is-read-without-visit, with-read-contract, ask-with-read, read-outcome-contract, ask-read-outcome, outcome-contract, to-outcome, goes-outcome}
 use Rattle.socket.specs.Pair.{endsOf}
 use Rattle.socket.specs.Deferred.{settled}

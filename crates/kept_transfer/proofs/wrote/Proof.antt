@@ -48,7 +48,7 @@ use Rattle.transfer_write.specs.Transfer.{wroteBy}
 use Rattle.transfer.proofs.Transfer as X
 use Rattle.transfer.proofs.Transfer.Laws as X′
 use Rattle.kept_pair.proofs.Callees.{pair-one, pair-lawful, outcome-lawful}
-use Rattle.kept_pair.proofs.Walk.{asks, tests, opened, put-back, fills, overwrites, frees-cell, standing}
+use Rattle.reference_steps.proofs.Steps.{asks, tests, opened, put-back, fills, overwrites, frees-cell, standing}
 use Rattle.kept_transfer.proofs.Callees.{transfer-lawful, transfer-word-contract, ask-transfer-word, is-write-without-visit-contract, ask-is-write-without-visit, with-write-contract, ask-with-write, write-outcome-contract, ask-write-outcome, outcome-contract, to-outcome, goes-outcome}
 use Rattle.socket.specs.Pair.{endsOf}
 use Rattle.socket.specs.Deferred.{settled}

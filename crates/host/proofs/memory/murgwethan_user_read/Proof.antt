@@ -51,7 +51,7 @@ use Rattle.ends.proofs.Outcome.Laws as K′
 use Rattle.ends.proofs.Ends as E
 use Rattle.ends.proofs.Ends.Laws as E′
 use Rattle.kept_pair.proofs.Callees.{pair-one, pair-lawful, outcome-lawful}
-use Rattle.kept_pair.proofs.Walk.{asks, hands, opened, fills, frees-cell}
+use Rattle.reference_steps.proofs.Steps.{asks, hands, opened, fills, frees-cell}
 use Rattle.host.proofs.Callees.{ends-lawful, ends-contract, ask-ends}
 use Rattle.kept_transfer.proofs.Callees.{outcome-contract, hand-outcome}
 use Rattle.socket.specs.Pair.{own}

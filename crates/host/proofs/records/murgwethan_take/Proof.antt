@@ -44,7 +44,7 @@ use Rattle.socket.proofs.Pair.Laws as T′
 use Rattle.status.proofs.Answer as N
 use Rattle.status.proofs.Answer.Laws as N′
 use Rattle.kept_pair.proofs.Callees.{pair-one, pair-lawful}
-use Rattle.kept_pair.proofs.Walk.{hands, opened, fills, frees-cell}
+use Rattle.reference_steps.proofs.Steps.{hands, opened, fills, frees-cell}
 use Rattle.host.proofs.Callees.{take-contract, hand-take}
 use Rattle.socket.specs.Pair.{own}
 use Rattle.host.specs.Host.{Answered}

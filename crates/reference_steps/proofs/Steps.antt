@@ -1,8 +1,8 @@
--- Steps that walks over a record behind a reference have in common. Assumes nothing.
+-- Steps that proofs by hand about a record behind a reference have in common. Assumes nothing.
 --     standing     the locals of a function, each with the block that it stands in
---     asks, tests  a function of plain arguments is called: what it needs is had for nothing, and the walk goes on at the value that it gives, and at what is said of it
+--     asks, tests  a function of plain arguments is called: what it needs is had for nothing, and the proof goes on at the value that it gives, and at what is said of it
 --     told         how what a function ensures is read for `asks`
---     hands        a function is handed the reference for good, at its own lifetime: the walk goes on at the value that it gives and at the last value that lies behind the reference
+--     hands        a function is handed the reference for good, at its own lifetime: the proof goes on at the value that it gives and at the last value that lies behind the reference
 --     told-last    how what such a function ensures is read for `hands`
 --     opened       a `&mut` is opened, and what lies there is one machine value
 --     put-back     it is closed again, at the value that lies there
