@@ -11,7 +11,8 @@ use Rattle.plain_call.specs.Rings.{Rings}
 use Rattle.buffer.specs.declared.Progress.{Progress}
 use Rattle.script.specs.Listing.{header}
 use Rattle.status.specs.Choice.{pick}
-use Rattle.feed.specs.Machine.{Machine, machine, startState, start}
+use Rattle.script_state.specs.Start.{startState}
+use Rattle.feed.specs.Machine.{Machine, machine, start}
 use Rattle.blocks.specs.Drain.{readsOn, ReadIn, Held, held, machineOf, inUse}
 use Rattle.blocks.specs.Run.{firstProgress, readsOnAt, Blocks, Stops, readsNoMore, inputEnded}
 use Rattle.blocks.proofs.Short.{stay-short}

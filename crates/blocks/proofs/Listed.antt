@@ -13,7 +13,8 @@ use Rattle.record.specs.Record.{recordOf}
 use Rattle.record.proofs.Records.{cases}
 use Rattle.plain_call.specs.Rings.{Rings}
 use Rattle.feed.specs.declared.Fed.{Fed}
-use Rattle.feed.specs.Machine.{Machine, machine, start, startState, stay, moveBy, moveOf}
+use Rattle.script_state.specs.Start.{startState}
+use Rattle.feed.specs.Machine.{Machine, machine, start, stay, moveBy, moveOf}
 use Rattle.feed.specs.Feed.{Block, noBlock, fedOf, allOf}
 use Rattle.script.specs.Listing.{run, closing, header, listing}
 use Rattle.script.proofs.Runs.{run-stay}

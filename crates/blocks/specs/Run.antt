@@ -8,7 +8,8 @@ use Rattle.text.specs.Put.{place}
 use Rattle.line.specs.Line.{LINE}
 use Rattle.plain_call.specs.Rings.{Rings}
 use Rattle.buffer.specs.declared.Progress.{Progress}
-use Rattle.feed.specs.Machine.{machine, start, startState}
+use Rattle.script_state.specs.Start.{startState}
+use Rattle.feed.specs.Machine.{machine, start}
 use Rattle.script.specs.Listing.{header, closing, listing}
 use Rattle.blocks.specs.Drain.{readsOn, ReadIn, Held, held, Drained, drainText}
 

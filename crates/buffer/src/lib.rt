@@ -3,7 +3,7 @@ use feed::State;
 ghost use mathlib.Core.Path.{_≡_};
 ghost use lib.ListN.{length};
 ghost use Rattle.plain_call.specs.Rings.{rings};
-ghost use Rattle.feed.specs.Machine.{startState};
+ghost use Rattle.script_state.specs.Start.{startState};
 ghost use Rattle.buffer.specs.Buffer.{frontOf, Advanced};
 
 // Where a script stands that is read into a buffer: the state, how many bytes came before the buffer, how many at its front are in use, and how many of
@@ -30,7 +30,7 @@ fn standing(state: State, offset: u64, used: usize, written: usize) -> Progress
 pub fn first() -> Progress
     ensures { λ r. ⌜ r ≡ record { state = startState; offset = 0; used = 0; written = 0 } ⌝ }
 {
-    let st = script::start();
+    let st = script_state::start();
     standing(st, 0, 0, 0)
 }
 

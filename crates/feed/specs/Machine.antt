@@ -4,10 +4,11 @@ use mathlib.Core.Bool.{true, false}
 use mathlib.Core.List.{List}
 use lib.ListN.{take, drop, replicate}
 use Rattle.status.specs.Choice.{pick}
-use Rattle.socket.specs.Pair.{noPair, shownBy}
+use Rattle.socket.specs.Pair.{shownBy}
 use Rattle.record.specs.declared.Decoded.{Decoded}
 use Rattle.record.specs.declared.Decoded.the-variants.{Whole, Bad, Cut}
 use Rattle.script_state.specs.declared.State.{State}
+use Rattle.script_state.specs.Start.{startState}
 use Rattle.record.specs.Record.{recordOf}
 use Rattle.record.specs.Order.{isMisplaced, isLast}
 use Rattle.line.specs.Line.{lineOf}
@@ -25,10 +26,6 @@ pub record Machine : Type 0 where
 -- the three together
 abbrev pub machine : State → (memory : List ℕ) → Rings → Machine
 machine st memory z = record { state = st; memory = memory; lent = z }
-
--- no pair is made, and no record has been run
-unfoldable pub startState : State
-startState = record { pair = noPair; number = 0; ended = false }
 
 -- 01 "Script program": rings and tables have 4096 entries, memory 4096 bytes, all 0
 abbrev pub zeros : List ℕ

@@ -20,7 +20,8 @@ use Rattle.feed.specs.declared.Fed.{Fed}
 use Rattle.line.specs.Line.{LINE}
 use Rattle.feed.specs.Turn.{LIMIT}
 use Rattle.plain_call.specs.Rings.{Rings}
-use Rattle.feed.specs.Machine.{Machine, machine, startState, moveOf, stay}
+use Rattle.script_state.specs.Start.{startState}
+use Rattle.feed.specs.Machine.{Machine, machine, moveOf, stay}
 use Rattle.script.specs.Listing.{header, run, closing}
 use Rattle.feed.specs.Feed.{isReady, Block, fedOf, FeedDone}
 use Rattle.script.proofs.Runs.{run-stay}

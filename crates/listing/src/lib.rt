@@ -2,7 +2,8 @@
 ghost use Prim.Native.Nat.{_≤_};
 ghost use lib.ListN.{length};
 ghost use Rattle.plain_call.specs.Rings.{rings};
-ghost use Rattle.feed.specs.Machine.{machine, start, startState};
+ghost use Rattle.script_state.specs.Start.{startState};
+ghost use Rattle.feed.specs.Machine.{machine, start};
 ghost use Rattle.listing.specs.Ran.{Ran, RanLent};
 
 // The header, the lines of the whole script as one block, and its end. Gives how many bytes were written.
@@ -19,7 +20,7 @@ fn run_on(
     ensures { λ r. ⌜ Ran (machine startState (now (memory .entry)) (rings (now («ring_one» .entry)) (now («table_one» .entry)) (now («ring_two» .entry)) (now («table_two» .entry)))) (now (script .entry)) r (now (out .entry)) (now (out .exit)) × RanLent (length (now (out .entry))) (machine startState (now (memory .entry)) (rings (now («ring_one» .entry)) (now («table_one» .entry)) (now («ring_two» .entry)) (now («table_two» .entry)))) (now (script .entry)) (now (memory .exit)) (rings (now («ring_one» .exit)) (now («table_one» .exit)) (now («ring_two» .exit)) (now («table_two» .exit))) ⌝ }
 {
     let n = script::header(out);
-    let st = script::start();
+    let st = script_state::start();
     let f = feed::feed(
         st,
         0,

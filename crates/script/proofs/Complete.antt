@@ -16,7 +16,8 @@ use Rattle.line.proofs.Lengths.{stop-most}
 use Rattle.line.specs.Line.{LINE}
 use Rattle.script_state.specs.declared.State.{State}
 use Rattle.feed.specs.declared.Fed.{Fed}
-use Rattle.feed.specs.Machine.{Machine, start, startState, stay, moveOf}
+use Rattle.script_state.specs.Start.{startState}
+use Rattle.feed.specs.Machine.{Machine, start, stay, moveOf}
 use Rattle.script.specs.Listing.{closing}
 use Rattle.feed.specs.Turn.{LIMIT}
 use Rattle.feed.specs.Feed.{isReady, Block, fedFrom, fedOf, FeedDone}

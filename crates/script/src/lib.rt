@@ -1,9 +1,7 @@
-// What comes before the first block of a script and behind its last: the header, the state that feeding begins with, the end of the input.
+// What comes before the first block of a script and behind its last: the header, the end of the input.
 use feed::State;
-use socket::Pair;
 ghost use mathlib.Core.Path.{_≡_};
 ghost use Rattle.text.specs.Put.{Written};
-ghost use Rattle.feed.specs.Machine.{startState};
 ghost use Rattle.script.specs.Listing.{closing};
 ghost use Rattle.script.specs.Listing.{header as Listing·header};
 ghost use Rattle.script.specs.Claims.{Claims};
@@ -13,21 +11,6 @@ pub fn header(out: &mut [u8]) -> usize
     ensures { λ r. ⌜ Written 22 0 Listing·header r (now (out .entry)) (now (out .exit)) ⌝ }
 {
     text::copy(out, 0, b"record word end1 end2\n")
-}
-
-// No record has been run. The pair is what a refused create hands back.
-pub fn start() -> State
-    ensures { λ r. ⌜ r ≡ startState ⌝ }
-{
-    let ring = [0u8; 1];
-    let table = [0u32; 1];
-    let s = Pair::create(0, 0, 0, 0, &ring, &table, &ring, &table);
-    let pair = s.pair;
-    State {
-        pair,
-        number: 0,
-        ended: false,
-    }
 }
 
 // The end of the input: bytes that are left are a record that is cut.

@@ -1,4 +1,4 @@
-// Where a script stands, and what a move leaves of it.
+// Where a script stands, before its first record and after a move.
 use pair_outcome::PairOutcome;
 use pair_outcome::unchanged;
 use socket::Pair;
@@ -6,6 +6,7 @@ use status::Answer;
 use status::Status;
 ghost use mathlib.Core.Path.{_≡_};
 ghost use Rattle.pair_outcome.specs.PairOutcome.{rebuildsTable};
+ghost use Rattle.script_state.specs.Start.{startState};
 ghost use Rattle.script_state.specs.Change.{changedState, withEndsState, withTableState};
 
 // Where a script stands: the pair, how many records have been run, and whether the script has ended.
@@ -20,6 +21,21 @@ pub struct StateChange {
     pub pair: PairOutcome,
     pub number: u64,
     pub ended: bool,
+}
+
+// No record has been run. The pair is what a refused create hands back.
+pub fn start() -> State
+    ensures { λ r. ⌜ r ≡ startState ⌝ }
+{
+    let ring = [0u8; 1];
+    let table = [0u32; 1];
+    let s = Pair::create(0, 0, 0, 0, &ring, &table, &ring, &table);
+    let pair = s.pair;
+    State {
+        pair,
+        number: 0,
+        ended: false,
+    }
 }
 
 // No record is run: the pair stays. The answer in it is not looked at.

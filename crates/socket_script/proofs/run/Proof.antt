@@ -8,7 +8,7 @@ use mathlib.Core.Logic.{⊎-elim}
 use mathlib.Core.Path.{_≡_, refl, sym, ap, _∙_}
 use native.Mathlib.Omega.{arith}
 use Rattle.status.proofs.Rules.{via-not, via-not-not}
-use Rattle.feed.specs.Machine.{startState}
+use Rattle.script_state.specs.Start.{startState}
 use Rattle.feed.specs.Turn.{LIMIT}
 use Rattle.buffer.specs.declared.Progress.{Progress}
 use Rattle.plain_call.specs.Rings.{rings}

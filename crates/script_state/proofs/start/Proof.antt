@@ -5,10 +5,10 @@ use Rattle.status.specs.Answer.{isDone, refuseIf, _then_}
 use Rattle.status.specs.Choice.{pick}
 use Rattle.create_answer.specs.Create.{numbersAnswer, createAnswer}
 use Rattle.socket.specs.declared.Pair.{Pair}
 use Rattle.script_state.proofs.States.{mkState}
-use Rattle.feed.specs.Machine.{startState}
-use Rattle.script.proofs.start.Statement.{statement}
-use Rattle.script.proofs.start.Tie as tie
+use Rattle.script_state.specs.Start.{startState}
+use Rattle.script_state.proofs.start.Statement.{statement}
+use Rattle.script_state.proofs.start.Tie as tie
 
 slice-aggregate-create : tie.Need-slice-aggregate-create
 slice-aggregate-create c = search needs
