@@ -46,7 +46,7 @@ closed q = end true 2 q
 
 abbrev pub pair : (datagram : Bool) → (C packets waits : ℕ) → (one two : Endpoint) → Pair
 pair dg C packets waits one two =
-    record { datagram = dg; capacity = C; one = one; two = two; places = record { packets = packets; waits = waits; table = replicate 128 free } }
+    record { datagram = dg; spare1 = 0; spare2 = 0; capacity = C; one = one; two = two; places = record { packets = packets; waits = waits; table = replicate 128 free } }
 
 -- with C = 8, and no place used
 abbrev pub eight : (datagram : Bool) → (one two : Endpoint) → Pair

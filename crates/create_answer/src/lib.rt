@@ -5,6 +5,7 @@ use status::Record;
 use status::Status;
 ghost use mathlib.Core.Path.{_≡_};
 ghost use Rattle.create_answer.specs.Create.{numbersAnswer, createAnswer};
+ghost use Rattle.create_answer.specs.Held.{heldRights};
 
 // The numbers of create: kind, capacity, rights.
 fn numbers_answer(kind: u32, capacity: u32, rights_one: u32, rights_two: u32) -> Answer
@@ -52,4 +53,14 @@ pub fn create_answer(
         return Answer::Refused(Status::InvalidArgs);
     }
     Answer::Done(Record::Empty)
+}
+
+// The rights word that an end holds in 16 bits. Create refuses a word above 7; of such a word this is 0.
+pub fn held_rights(rights: u32) -> u16
+    ensures { λ r. ⌜ r ≡ heldRights rights ⌝ }
+{
+    if 7 < rights {
+        return 0;
+    }
+    rights as u16
 }

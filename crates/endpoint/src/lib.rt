@@ -25,15 +25,15 @@ pub struct Queue {
     pub lengths: Span,
 }
 
-// The order leaves no gap before the thresholds and the queue: a new end is then stored where it stands.
+// The order and the widths leave no gap, so that every byte of the record is one of a field, and a new end is stored where it stands.
 #[repr(C)]
 pub struct Endpoint {
     pub closed: bool,
     pub read_disabled: bool,
-    pub rights: u32,
+    pub rights: u16,
+    pub signals: u32,
     pub thresholds: Thresholds,
     pub queue: Queue,
-    pub signals: u32,
 }
 
 // What an end shows: its signal word, or that it is closed.
@@ -147,7 +147,7 @@ pub fn short_slices(datagram: bool, capacity: u32, ring: usize, table: usize) ->
 }
 
 impl Endpoint {
-    pub fn new(rights: u32) -> Endpoint
+    pub fn new(rights: u16) -> Endpoint
         ensures { λ r. ⌜ r ≡ newEnd rights ⌝ }
     {
         let thresholds = Thresholds { read: 0, write: 0 };

@@ -17,6 +17,15 @@ fn flag_if(test: bool, yes: bool, no: bool) -> bool
     no
 }
 
+fn rights_if(test: bool, yes: u16, no: u16) -> u16
+    ensures { λ r. ⌜ r ≡ pick test yes no ⌝ }
+{
+    if test {
+        return yes;
+    }
+    no
+}
+
 fn number_if(test: bool, yes: u64, no: u64) -> u64
     ensures { λ r. ⌜ r ≡ pick test yes no ⌝ }
 {
@@ -62,7 +71,7 @@ pub fn end_if(test: bool, yes: Endpoint, no: Endpoint) -> Endpoint
     Endpoint {
         closed: flag_if(test, yes.closed, no.closed),
         read_disabled: flag_if(test, yes.read_disabled, no.read_disabled),
-        rights: word_if(test, yes.rights, no.rights),
+        rights: rights_if(test, yes.rights, no.rights),
         signals: word_if(test, yes.signals, no.signals),
         thresholds,
         queue,

@@ -35,6 +35,7 @@ use Rattle.socket.proofs.Pair.Laws as T′
 use Rattle.status.proofs.Answer as N
 use Rattle.status.proofs.Answer.Laws as N′
 use Rattle.places.specs.Table.{unused, onlyPacket}
+use Rattle.create_answer.specs.Held.{heldRights}
 use Rattle.socket.specs.Pair.{isOne, own, newPair}
 use Rattle.socket.specs.Deferred.{registeredPair, takenPair}
 use Rattle.status.proofs.word as word
@@ -69,8 +70,8 @@ module _ {M : Type 1} (𝓤 : URA M) (H : Heap 𝓤) (A : Atoms 𝓤) (at-mem : 
   abbrev pub new-pair-contract : Contract 𝓤
   new-pair-contract = tripleOf 𝓤 H A new-pair.signature (new-pair.spec 𝓤 H A at-mem run)
 
-  pub new-pair-told : (a₁ : ℕ) (a₂ : ℕ) (a₃ : ℕ) (a₄ : ℕ) (y : Pair) → ent 𝓤 (ensured 𝓤 H A new-pair.ended (new-pair.clauses 𝓤 H A at-mem run) tt (a₁, (a₂, (a₃, (a₄, tt)))) tt y) (fact 𝓤 (y ≡ newPair (eqb a₁ 1) a₂ a₃ a₄))
-  new-pair-told a₁ a₂ a₃ a₄ y = exE 𝓤 _ (λ ws. snd∗ 𝓤 (sem 𝓤 H A (lasts new-pair.ended tt (a₁, (a₂, (a₃, (a₄, tt)))) ws)) (fact 𝓤 (y ≡ newPair (eqb a₁ 1) a₂ a₃ a₄)))
+  pub new-pair-told : (a₁ : ℕ) (a₂ : ℕ) (a₃ : ℕ) (a₄ : ℕ) (y : Pair) → ent 𝓤 (ensured 𝓤 H A new-pair.ended (new-pair.clauses 𝓤 H A at-mem run) tt (a₁, (a₂, (a₃, (a₄, tt)))) tt y) (fact 𝓤 (y ≡ newPair (eqb a₁ 1) a₂ (heldRights a₃) (heldRights a₄)))
+  new-pair-told a₁ a₂ a₃ a₄ y = exE 𝓤 _ (λ ws. snd∗ 𝓤 (sem 𝓤 H A (lasts new-pair.ended tt (a₁, (a₂, (a₃, (a₄, tt)))) ws)) (fact 𝓤 (y ≡ newPair (eqb a₁ 1) a₂ (heldRights a₃) (heldRights a₄))))
 
   abbrev pub to-new-pair : ℕ → ℕ → ℕ → ℕ → new-pair-contract .Ghost
   to-new-pair a₁ a₂ a₃ a₄ = ((tt, tt, tt, (a₁, (a₂, (a₃, (a₄, tt)))), (vint w32 a₁ ∷ [], (vint w32 a₂ ∷ [], (vint w32 a₃ ∷ [], (vint w32 a₄ ∷ [], tt))))), tt)

@@ -6,6 +6,7 @@ ghost use mathlib.Core.Path.{_≡_};
 ghost use lib.Dec.{eqb};
 ghost use Rattle.status.specs.Choice.{pick};
 ghost use Rattle.status.specs.Answer.{isDone, answerWord};
+ghost use Rattle.create_answer.specs.Held.{heldRights};
 ghost use Rattle.socket.specs.Pair.{isOne, newPair};
 ghost use Rattle.socket.specs.Deferred.{registeredPair, takenPair};
 
@@ -18,7 +19,7 @@ pub fn create(
     rights_one: u32,
     rights_two: u32,
 ) -> i64
-    ensures { λ w. ⌜ (w ≡ answerWord a) × (now (p .exit) ≡ pick (isDone a) (newPair (eqb kind 1) capacity «rights_one» «rights_two») (now (p .entry))) ⌝ }
+    ensures { λ w. ⌜ (w ≡ answerWord a) × (now (p .exit) ≡ pick (isDone a) (newPair (eqb kind 1) capacity (heldRights «rights_one») (heldRights «rights_two»)) (now (p .entry))) ⌝ }
 {
     let w = status::word(a);
     if status::is_done(a) {

@@ -6,8 +6,6 @@ use lib.ListN.{length}
 use Rattle.status.specs.declared.Answer.{Answer}
 use Rattle.status.specs.Choice.{pick, _and_}
 use Rattle.status.specs.Answer.{isDone}
-use Rattle.places.specs.declared.Places.{Places}
-use Rattle.places.specs.Table.{newPlaces}
 use Rattle.endpoint.specs.declared.Endpoint.{Endpoint}
 use Rattle.ends.specs.declared.Outcome.{Outcome}
 use Rattle.ends.specs.Outcome.{unchangedEnds}
@@ -64,12 +62,11 @@ module _ (p : Pair) (a : Answer) where
       by true = refl
       by false = refl
 
--- the pair is q, whose table is new
-pub new-step : (p q : Pair) (a : Answer) → q .places ≡ newPlaces
+-- the pair is q, whose table is new and whose spare fields are 0
+pub new-step : (p q : Pair) (a : Answer) → renewedPair (q .datagram) (q .capacity) q ≡ q
     → outcomeStep (mk (unchangedEnds (endsOf q) a) (New (q .datagram) (q .capacity))) p ≡ record { pair = q; answer = a }
 unfolding outcomeStep nextPair rebuildsTable withTable rebuildsBy tableBy renewedPair unchangedEnds withEnds pick
-new-step p q a e =
-    ap (λ (t : Places). record { pair = record { datagram = q .datagram; capacity = q .capacity; one = q .one; two = q .two; places = t }; answer = a }) (sym e)
+new-step p q a e = ap (λ (k : Pair). record { pair = k; answer = a }) e
 
 -- ---- the ends
 

@@ -22,7 +22,7 @@ unchangedPair p a = record { outcome = unchangedEnds (endsOf p) a; change = Visi
 
 -- a pair of this kind and capacity with the ends of another, and a new table
 unfoldable pub renewedPair : (datagram : Bool) → (C : ℕ) → Pair → Pair
-renewedPair datagram C p = record { datagram = datagram; capacity = C; one = p .one; two = p .two; places = newPlaces }
+renewedPair datagram C p = record { datagram = datagram; spare1 = 0; spare2 = 0; capacity = C; one = p .one; two = p .two; places = newPlaces }
 
 -- ---- by the change, of a pair whose ends are replaced
 

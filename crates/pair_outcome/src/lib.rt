@@ -84,6 +84,8 @@ fn renewed(p: Pair, datagram: bool, capacity: u32) -> Pair
     let two = p.two;
     Pair {
         datagram,
+        spare1: 0,
+        spare2: 0,
         capacity,
         one,
         two,

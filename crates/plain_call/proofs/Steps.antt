@@ -1,7 +1,7 @@
 -- What a call that changes neither memory nor a ring says is what its definition says. Assumes nothing.
 use Prim.Native.Nat.{ℕ, _+_, _≤_}
 use native.Mathlib.Omega.{arith}
-use mathlib.Core.Path.{_≡_, refl, ap, _∙_}
+use mathlib.Core.Path.{_≡_, refl, sym, ap, subst, _∙_}
 use mathlib.Core.Bool.{Bool, true, false}
 use mathlib.Core.List.{List}
 use lib.ListN.{length, getD}
@@ -11,7 +11,6 @@ use Rattle.status.specs.Choice.{pick}
 use Rattle.status.specs.Answer.{isDone}
 use Rattle.socket.specs.declared.Pair.{Pair}
 use Rattle.socket.specs.declared.Step.{Step}
-use Rattle.places.specs.Table.{newPlaces}
 use Rattle.ends.specs.declared.Ends.{Ends}
 use Rattle.ends.specs.declared.Outcome.{Outcome}
 use Rattle.ends.specs.Outcome.{unchangedEnds}
@@ -24,7 +23,7 @@ use Rattle.socket.proofs.Steps.{steps-same}
 use Rattle.socket.proofs.Waits.{wait-steps}
 use Rattle.pair_outcome.specs.declared.PairOutcome.{PairOutcome}
 use Rattle.pair_outcome.specs.declared.TableChange.the-variants.{New, Visit, Wait}
-use Rattle.pair_outcome.specs.PairOutcome.{unchangedPair, outcomeStep}
+use Rattle.pair_outcome.specs.PairOutcome.{unchangedPair, renewedPair, outcomeStep}
 use Rattle.pair_outcome.proofs.Steps.{visit-step, unchanged-is, wait-step, new-step}
 use Rattle.pair_outcome.proofs.Steps.{mk as mkOutcome}
 use Rattle.plain_call.specs.Rings.{Rings, rings, ownRing, ownTable, peerRing, peerTable, withPeer}
@@ -62,22 +61,25 @@ wait-is p b h key mask edge e a r eh ek em ee f g i =
     ∙ wait-step p a h key mask edge
     ∙ steps-are (wait-steps p h key mask edge a _ (g ∙ ap (λ (k : Ends). E.waitAnswer k h edge) f) refl))
 
+abbrev renewed : Pair → Pair
+renewed p = renewedPair (p .datagram) (p .capacity) p
+
 -- the pair is the one that a create gave
-made-table : (b datagram : Bool) (C one two : ℕ) → pick b (newPair datagram C one two) noPair .places ≡ newPlaces
-unfolding pick newPair noPair
-made-table true datagram C one two = refl
-made-table false datagram C one two = refl
+made-new : (b datagram : Bool) (C one two : ℕ) → renewed (pick b (newPair datagram C one two) noPair) ≡ pick b (newPair datagram C one two) noPair
+unfolding pick newPair noPair renewedPair
+made-new true datagram C one two = refl
+made-new false datagram C one two = refl
 
 pub created-is : (z : Rings) (b : List ℕ) (s : Step) (e : Ends) (r : Outcome) → s ≡ createStep z b → e ≡ endsOf (s .pair) → r ≡ unchangedEnds e (s .answer)
     → Creates z b (mkOutcome r (New (s .pair .datagram) (s .pair .capacity)))
 unfolding createStep stepOf
 created-is z b s e r f g h p =
     ap (λ (k : Outcome). outcomeStep (mkOutcome k (New (s .pair .datagram) (s .pair .capacity))) p) (h ∙ ap (λ (k : Ends). unchangedEnds k (s .answer)) g)
-    ∙ new-step p (s .pair) (s .answer) (ap (λ (k : Step). k .pair .places) f ∙ table)
+    ∙ new-step p (s .pair) (s .answer) (subst (λ (k : Step). renewed (k .pair) ≡ k .pair) (sym f) new)
     ∙ f
   where
-    table : createStep z b .pair .places ≡ newPlaces
-    table = made-table _ _ _ _ _
+    new : renewed (createStep z b .pair) ≡ createStep z b .pair
+    new = made-new _ _ _ _ _
 
 -- ---- by the handle
 

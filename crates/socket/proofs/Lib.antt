@@ -6,3 +6,4 @@ pub mod Settled
 pub mod Disposed
 pub mod Closed
 pub mod Waits
+pub mod Created

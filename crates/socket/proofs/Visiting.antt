@@ -166,4 +166,4 @@ settled-moved p t a d l =
 -- ---- the places of a pair that is owned
 
 pub places-128 : (p : Pair) (vs : List Val) → Is T.the-row p vs → length (p .places .table) ≡ 128
-places-128 p vs g = table-128 (p .places) _ (LL.owed T.the-type T′.the-laws p vs g .1 .1 .1 .1 .0)
+places-128 p vs g = table-128 (p .places) _ (LL.owed T.the-type T′.the-laws p vs g .1 .1 .1 .1 .1 .1 .0)

@@ -30,7 +30,7 @@ needsVisit r t = r .fires and (onlyWait t or anyDue r t)
 
 -- the pair with both ends replaced
 unfoldable pub withEnds : (one two : Endpoint) → Pair → Pair
-withEnds a b p = record { datagram = p .datagram; capacity = p .capacity; one = a; two = b; places = p .places }
+withEnds a b p = record { datagram = p .datagram; spare1 = p .spare1; spare2 = p .spare2; capacity = p .capacity; one = a; two = b; places = p .places }
 
 -- the pair with the ends of an outcome
 abbrev pub withOutcome : Outcome → Pair → Pair

@@ -41,12 +41,12 @@ peer t p = E.peer t (endsOf p)
 
 -- the pair with one end replaced
 unfoldable pub withEnd : Bool → Endpoint → Pair → Pair
-withEnd true e p = record { datagram = p .datagram; capacity = p .capacity; one = e; two = p .two; places = p .places }
-withEnd false e p = record { datagram = p .datagram; capacity = p .capacity; one = p .one; two = e; places = p .places }
+withEnd true e p = record { datagram = p .datagram; spare1 = p .spare1; spare2 = p .spare2; capacity = p .capacity; one = e; two = p .two; places = p .places }
+withEnd false e p = record { datagram = p .datagram; spare1 = p .spare1; spare2 = p .spare2; capacity = p .capacity; one = p .one; two = e; places = p .places }
 
 -- the pair with its places replaced
 unfoldable pub withPlaces : Places → Pair → Pair
-withPlaces ts p = record { datagram = p .datagram; capacity = p .capacity; one = p .one; two = p .two; places = ts }
+withPlaces ts p = record { datagram = p .datagram; spare1 = p .spare1; spare2 = p .spare2; capacity = p .capacity; one = p .one; two = p .two; places = ts }
 
 -- the pair with a changed word of one end, and with the places that the change left
 unfoldable pub withChange : Bool → Change → Pair → Pair
@@ -68,11 +68,11 @@ switchReading t off p = withEnd t (withReadDisabled off (own t p)) p
 -- 01 "Status and answer word", create: a new pair
 unfoldable pub newPair : Bool → (C rights1 rights2 : ℕ) → Pair
 newPair datagram C rights1 rights2 =
-    record { datagram = datagram; capacity = C; one = newEnd rights1; two = newEnd rights2; places = newPlaces }
+    record { datagram = datagram; spare1 = 0; spare2 = 0; capacity = C; one = newEnd rights1; two = newEnd rights2; places = newPlaces }
 
 -- what a refused create hands back: a record of capacity 0, on which every call answers −1
 unfoldable pub noPair : Pair
-noPair = record { datagram = false; capacity = 0; one = noEnd; two = noEnd; places = newPlaces }
+noPair = record { datagram = false; spare1 = 0; spare2 = 0; capacity = 0; one = noEnd; two = noEnd; places = newPlaces }
 
 -- 01 "Script program": the word that the end of a handle shows; none for another handle. This shows the record and answers no status.
 unfoldable pub shownBy : Pair → ℕ → SignalWord

@@ -2,6 +2,7 @@
 use crate::Pair;
 use crate::Step;
 use bits::bit_if;
+use create_answer::held_rights;
 use endpoint::Endpoint;
 use places::Places;
 ghost use mathlib.Core.Path.{_≡_};
@@ -11,15 +12,16 @@ ghost use lib.Dec.{eqb};
 ghost use Rattle.status.specs.Choice.{pick};
 ghost use Rattle.endpoint.specs.Endpoint.{newEnd, noEnd};
 ghost use Rattle.create_answer.specs.Create.{createAnswer};
+ghost use Rattle.create_answer.specs.Held.{heldRights};
 ghost use Rattle.socket.specs.Pair.{newPair, noPair};
 ghost use Rattle.socket.specs.Tests.{Steps};
 
 // A new end, or one that was never made.
 fn end_if(made: bool, rights: u32) -> Endpoint
-    ensures { λ r. ⌜ r ≡ pick made (newEnd rights) noEnd ⌝ }
+    ensures { λ r. ⌜ r ≡ pick made (newEnd (heldRights rights)) noEnd ⌝ }
 {
     if made {
-        return Endpoint::new(rights);
+        return Endpoint::new(held_rights(rights));
     }
     Endpoint::none()
 }
@@ -35,12 +37,14 @@ fn datagram_if(made: bool, datagram: bool) -> bool
 
 // A new pair, or the record of a refused create. Both are put together by the same statements, so that the compiler fills the table where it is to stand.
 fn pair_if(made: bool, datagram: bool, capacity: u32, rights_one: u32, rights_two: u32) -> Pair
-    ensures { λ r. ⌜ r ≡ pick made (newPair datagram capacity «rights_one» «rights_two») noPair ⌝ }
+    ensures { λ r. ⌜ r ≡ pick made (newPair datagram capacity (heldRights «rights_one») (heldRights «rights_two»)) noPair ⌝ }
 {
     let one = end_if(made, rights_one);
     let two = end_if(made, rights_two);
     Pair {
         datagram: datagram_if(made, datagram),
+        spare1: 0,
+        spare2: 0,
         capacity: bit_if(made, capacity),
         one,
         two,
@@ -48,15 +52,17 @@ fn pair_if(made: bool, datagram: bool, capacity: u32, rights_one: u32, rights_tw
     }
 }
 
-// A new pair of this kind, 1 for datagram.
+// A new pair of this kind, 1 for datagram. A rights word above 7, which create refuses, is taken as 0.
 pub fn new_pair(kind: u32, capacity: u32, rights_one: u32, rights_two: u32) -> Pair
-    ensures { λ r. ⌜ r ≡ newPair (eqb kind 1) capacity «rights_one» «rights_two» ⌝ }
+    ensures { λ r. ⌜ r ≡ newPair (eqb kind 1) capacity (heldRights «rights_one») (heldRights «rights_two») ⌝ }
 {
     Pair {
         datagram: kind == 1,
+        spare1: 0,
+        spare2: 0,
         capacity,
-        one: Endpoint::new(rights_one),
-        two: Endpoint::new(rights_two),
+        one: Endpoint::new(held_rights(rights_one)),
+        two: Endpoint::new(held_rights(rights_two)),
         places: Places::new(),
     }
 }

@@ -59,6 +59,8 @@ pub fn with_outcome(p: Pair, r: Outcome) -> Pair
     let places = p.places;
     Pair {
         datagram: p.datagram,
+        spare1: p.spare1,
+        spare2: p.spare2,
         capacity: p.capacity,
         one,
         two,

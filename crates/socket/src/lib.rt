@@ -35,12 +35,15 @@ pub use wait::taken;
 pub use wait::taken_only;
 
 // Both ends of a pair, and the places of its waits and packets. It holds no byte that was written.
-// A number stands before the places, not an end, which has a gap behind its last field: a new table is then filled where it stands.
+// The two spare fields, of one and of two bytes, stand where the record would have a gap, so that every byte of it is one of a field. Create sets
+// them to 0; no call looks at them, and every other call leaves them as they are.
 #[repr(C)]
 pub struct Pair {
     pub one: Endpoint,
     pub two: Endpoint,
     pub datagram: bool,
+    pub spare1: u8,
+    pub spare2: u16,
     pub capacity: u32,
     pub places: Places,
 }

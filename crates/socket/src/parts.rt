@@ -44,6 +44,8 @@ pub fn with_places(p: Pair, places: Places) -> Pair
     let two = p.two;
     Pair {
         datagram: p.datagram,
+        spare1: p.spare1,
+        spare2: p.spare2,
         capacity: p.capacity,
         one,
         two,

@@ -27,6 +27,8 @@ abbrev pub pairOf : Ends → Pair
 pairOf e =
     record {
       datagram = e .datagram;
+      spare1 = 0;
+      spare2 = 0;
       capacity = e .capacity;
       one = e .one;
       two = e .two;

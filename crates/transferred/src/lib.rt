@@ -47,6 +47,8 @@ fn with_transfer(p: Pair, one: bool, takes: bool, t: Transfer) -> Pair
     );
     Pair {
         datagram: p.datagram,
+        spare1: p.spare1,
+        spare2: p.spare2,
         capacity: p.capacity,
         one: first,
         two: second,

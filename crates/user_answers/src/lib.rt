@@ -13,11 +13,11 @@ ghost use Rattle.user_answers.specs.Lookup;
 ghost use Rattle.user_answers.specs.Control.{dispositionOf, userDisposeAnswer, userShutdownAnswer};
 
 // The rights of an end, as bits of its rights word.
-pub const RIGHT_READ: u32 = 1;
+pub const RIGHT_READ: u16 = 1;
 
-pub const RIGHT_WRITE: u32 = 2;
+pub const RIGHT_WRITE: u16 = 2;
 
-pub const RIGHT_MANAGE: u32 = 4;
+pub const RIGHT_MANAGE: u16 = 4;
 
 // Where the bytes and the count of a write or read lie: `count` bytes from an address on, in memory of `size` bytes.
 pub struct Buffer {
@@ -29,7 +29,7 @@ pub struct Buffer {
 }
 
 // The handle, then the right.
-pub fn lookup(p: Ends, handle: u32, right: u32) -> Answer
+pub fn lookup(p: Ends, handle: u32, right: u16) -> Answer
     ensures { λ r. ⌜ r ≡ Lookup.lookup p handle right ⌝ }
 {
     let opened = handle_test(p, handle);

@@ -50,10 +50,11 @@ use Rattle.status.proofs.Answer as N
 use Rattle.status.proofs.Answer.Laws as N′
 use Rattle.host.proofs.Callees.{create-contract, to-create, goes-create}
 use Rattle.create_answer.specs.Create.{createAnswer}
+use Rattle.create_answer.specs.Held.{heldRights}
 use Rattle.socket.specs.Pair.{own, newPair}
 use Rattle.host.specs.Host.{Answered}
 use Rattle.socket.specs.Tests.{Steps}
-use Rattle.kept_places.proofs.Stored.{made-steps}
+use Rattle.kept_places.proofs.Stored.{created-steps}
 use Rattle.host_values.proofs.create_answer as step
 use Rattle.host_values.proofs.create_answer.Symbol as step-def
 use Rattle.host_values.proofs.create_answer.Symbol.{name as #step}
@@ -138,11 +139,11 @@ module _ {M : Type 1} (𝓤 : URA M) (H : Heap 𝓤) (A : Atoms 𝓤) (W : Given
         peeks ! N.the-row (Is N.the-row) (shows 𝓤 H A N.the-row) y₁₀ (v₁₀ ∷ []) (λ i₁₀. land ! (from ! (stop !)) (init ! 13 refl (EL.lawful N.the-type N′.the-laws 𝓤 H A W tt .typed y₁₀ _ i₁₀ .0)) $ rewrite ! 13 (λ (u : Val). ‵ (fat fullShare N′.mir l₁₀ 0 u)) (ap only (EL.tells N.the-type N′.the-laws y₁₀ (v₁₀ ∷ []) i₁₀)) refl $ rewrite ! 0 (λ (us : List Val). ‵ (N.the-row .own y₁₀ us)) (EL.tells N.the-type N′.the-laws y₁₀ (v₁₀ ∷ []) i₁₀) refl $ peeks ! N.the-row (Is N.the-row) (shows 𝓤 H A N.the-row) y₁₀ ((EL.vals N.the-type N′.the-laws) y₁₀) (λ s₁₀. drop ! $
         assigns ! (addr ! (from ! (hop ! (look ! 30 refl) (stop !)))) (from ! (stop !)) (init ! 10 refl (tt, tt)) $ move ! (34 ∷ 35 ∷ []) $ feqI ! (List Val) (vptr b o ∷ []) (vptr b o ∷ []) refl $ fjoin3 ! $ nothing ! $ move ! (41 ∷ 0 ∷ []) $ join ! $ move ! (1 ∷ 0 ∷ []) $ join ! $ use1 W (raw (create-contract 𝓤 H A at-mem run .pre (to-create 𝓤 H A at-mem run κ q b o γ h y₁₀ x₁ x₂ x₃ x₄))) (goes-create 𝓤 H A at-mem run W κ q b o γ h y₁₀ x₁ x₂ x₃ x₄ s₁₀ g₁ g₂ g₃ g₄) $
         calls-at ! fm (create-contract 𝓤 H A at-mem run) known-create (to-create 𝓤 H A at-mem run κ q b o γ h y₁₀ x₁ x₂ x₃ x₄) (and-then ! (load ! (from ! (stop !)) (look ! 11 refl)) (and-then ! (load ! (from ! (stop !)) (look ! 13 refl)) (and-then ! (load ! (from ! (stop !)) (look ! 29 refl)) (and-then ! (load ! (from ! (stop !)) (look ! 27 refl)) (and-then ! (load ! (from ! (stop !)) (look ! 25 refl)) (and-then ! (load ! (from ! (stop !)) (look ! 23 refl)) (no-more !))))))) (λ v₀.
-        use1 W (later (some (λ (z₀ : ℤ). ((‵ (flft κ q) ⊛ ‵ ftrue) ⊛ ‵ (i64 .own z₀ (v₀ ∷ []))) ⊛ raw (ensured 𝓤 H A create.ended (create.clauses 𝓤 H A at-mem run) (κ, tt) (record { ptr = (b, o); name = γ; now = h }, (y₁₀, (x₁, (x₂, (x₃, (x₄, tt)))))) tt z₀)))) (id⊢ 𝓤 _) $ await ! tt $ pick ! (λ z₀. split ! $ move ! (1 ∷ []) $ use1 W (some (λ (ws : (Pair × (Unit {0} × (Unit {0} × (Unit {0} × (Unit {0} × (Unit {0} × Unit {0}))))))). ‵ (lasts create.ended (κ, tt) (record { ptr = (b, o); name = γ; now = h }, (y₁₀, (x₁, (x₂, (x₃, (x₄, tt)))))) ws) ⊛ raw (fact 𝓤 ((z₀ ≡ answerWord y₁₀) × (ws .0 ≡ choose (isDone y₁₀) (newPair (eqb x₁ 1) x₂ x₃ x₄) h))))) (id⊢ 𝓤 _) $ pick ! (λ ws. split ! $ move ! (1 ∷ []) $ heard ! ((z₀ ≡ answerWord y₁₀) × (ws .0 ≡ choose (isDone y₁₀) (newPair (eqb x₁ 1) x₂ x₃ x₄) h)) (λ e₀. fsplit ! $
+        use1 W (later (some (λ (z₀ : ℤ). ((‵ (flft κ q) ⊛ ‵ ftrue) ⊛ ‵ (i64 .own z₀ (v₀ ∷ []))) ⊛ raw (ensured 𝓤 H A create.ended (create.clauses 𝓤 H A at-mem run) (κ, tt) (record { ptr = (b, o); name = γ; now = h }, (y₁₀, (x₁, (x₂, (x₃, (x₄, tt)))))) tt z₀)))) (id⊢ 𝓤 _) $ await ! tt $ pick ! (λ z₀. split ! $ move ! (1 ∷ []) $ use1 W (some (λ (ws : (Pair × (Unit {0} × (Unit {0} × (Unit {0} × (Unit {0} × (Unit {0} × Unit {0}))))))). ‵ (lasts create.ended (κ, tt) (record { ptr = (b, o); name = γ; now = h }, (y₁₀, (x₁, (x₂, (x₃, (x₄, tt)))))) ws) ⊛ raw (fact 𝓤 ((z₀ ≡ answerWord y₁₀) × (ws .0 ≡ choose (isDone y₁₀) (newPair (eqb x₁ 1) x₂ (heldRights x₃) (heldRights x₄)) h))))) (id⊢ 𝓤 _) $ pick ! (λ ws. split ! $ move ! (1 ∷ []) $ heard ! ((z₀ ≡ answerWord y₁₀) × (ws .0 ≡ choose (isDone y₁₀) (newPair (eqb x₁ 1) x₂ (heldRights x₃) (heldRights x₄)) h)) (λ e₀. fsplit ! $
         move ! (2 ∷ []) $ split ! $ move ! (1 ∷ []) $ peeks ! i64 (Is i64) (shows 𝓤 H A i64) z₀ (v₀ ∷ []) (λ i₀. land ! (from ! (stop !)) (init ! 36 refl (sint-lawful 𝓤 H A W w64 .typed z₀ _ i₀ .0)) $
         returns ! (look ! 36 refl) $ forget ! 14 refl $ forget ! 16 refl $ forget ! 18 refl $ forget ! 20 refl $ forget ! 22 refl $ forget ! 24 refl $ forget ! 26 refl $ forget ! 28 refl $ forget ! 30 refl $ forget ! 32 refl $ forget ! 34 refl $ forget ! 36 refl $
         move ! (36 ∷ 37 ∷ []) $ free1 ! $ move ! (34 ∷ 35 ∷ []) $ free1 ! $ move ! (32 ∷ 33 ∷ []) $ free1 ! $ move ! (30 ∷ 31 ∷ []) $ free1 ! $ move ! (28 ∷ 29 ∷ []) $ free1 ! $ move ! (26 ∷ 27 ∷ []) $ free1 ! $ move ! (24 ∷ 25 ∷ []) $ free1 ! $ move ! (22 ∷ 23 ∷ []) $ free1 ! $ move ! (20 ∷ 21 ∷ []) $ free1 ! $ move ! (18 ∷ 19 ∷ []) $ free1 ! $ move ! (16 ∷ 17 ∷ []) $ free1 ! $ move ! (14 ∷ 15 ∷ []) $ free1 ! $ free0 ! $
-        keep ! (2 ∷ 1 ∷ 4 ∷ 0 ∷ []) $ by ! (exits (ws .0) z₀ v₀ (record { answer = y₁₀; word = e₀ .0; kept = made-steps h _ y₁₀ (newPair (eqb x₁ 1) x₂ x₃ x₄) (ws .0) e₁₀ (e₀ .1) })))))))))))))))))))))))))))))
+        keep ! (2 ∷ 1 ∷ 4 ∷ 0 ∷ []) $ by ! (exits (ws .0) z₀ v₀ (record { answer = y₁₀; word = e₀ .0; kept = created-steps h x₁ x₂ x₃ x₄ _ _ _ _ y₁₀ (ws .0) e₁₀ (e₀ .1) })))))))))))))))))))))))))))))
 
 module _ {M : Type 1} (𝓤 : URA M) (H : Heap 𝓤) (A : Atoms 𝓤) (W : Given 𝓤 H A) (at-mem : Memory → SProp 𝓤) (run : Routine → Fun 𝓤) where
   walks : (C : Calls 𝓤 H) (Λ : Loops 𝓤 H) → FmC 𝓤 H (W .laws) C → Triple 𝓤 (C #step) (Called 𝓤 H A at-mem run) → Triple 𝓤 (C #create) (create-contract 𝓤 H A at-mem run) → Walks 𝓤 H A f.ended stayed (WpFn 𝓤 H C Λ code.function) (f.clauses 𝓤 H A at-mem run)

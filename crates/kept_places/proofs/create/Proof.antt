@@ -53,6 +53,7 @@ use Rattle.status.proofs.Answer as N
 use Rattle.status.proofs.Answer.Laws as N′
 use Rattle.reference_steps.proofs.Steps.{fills, overwrites, standing}
 use Rattle.kept_places.proofs.Callees.{pair-lawful, word-contract, to-word, goes-word, word-told, is-done-contract, to-is-done, goes-is-done, is-done-told, new-pair-contract, to-new-pair, goes-new-pair, new-pair-told}
+use Rattle.create_answer.specs.Held.{heldRights}
 use Rattle.socket.specs.Pair.{own, newPair}
 use Rattle.kept_places.proofs.Stored.{made-on, made-off}
 use Rattle.status.proofs.word as word
@@ -88,7 +89,7 @@ module _ {M : Type 1} (𝓤 : URA M) (H : Heap 𝓤) (A : Atoms 𝓤) (W : Given
   abbrev Post : Val → SProp 𝓤
   Post = walkOf 𝓤 H A f.ended stayed (f.clauses 𝓤 H A at-mem run) .post ((bound, (q, tt), tt, x, at), tt)
 
-  exits : (p′ : Pair) (z : ℤ) (v : Val) → (z ≡ answerWord a) × (p′ ≡ choose (isDone a) (newPair (eqb x₂ 1) x₃ x₄ x₅) h)
+  exits : (p′ : Pair) (z : ℤ) (v : Val) → (z ≡ answerWord a) × (p′ ≡ choose (isDone a) (newPair (eqb x₂ 1) x₃ (heldRights x₄) (heldRights x₅)) h)
       → ent 𝓤 (⋆ 𝓤 H A (‵ (fobs γ (T.the-row .coded .code p′)) ∷ ‵ (fbor κ (Body (mem T.the-row) b o γ)) ∷ ‵ (flft κ q) ∷ ‵ ftrue ∷ ‵ (i64 .own z (v ∷ [])) ∷ [])) (Post v)
   exits p′ z v ens =
       qed W (‵ (fobs γ (T.the-row .coded .code p′)) ∷ ‵ (fbor κ (Body (mem T.the-row) b o γ)) ∷ ‵ (flft κ q) ∷ ‵ ftrue ∷ ‵ (i64 .own z (v ∷ [])) ∷ []) ∵
@@ -112,7 +113,7 @@ module _ {M : Type 1} (𝓤 : URA M) (H : Heap 𝓤) (A : Atoms 𝓤) (W : Given
         first ! $ branches ! (load ! (from ! (stop !)) (look ! 3 refl))
         (λ on₈. nothing ! $ use1 W (raw (new-pair-contract 𝓤 H A at-mem run .pre (to-new-pair 𝓤 H A at-mem run x₂ x₃ x₄ x₅))) (goes-new-pair 𝓤 H A at-mem run W x₂ x₃ x₄ x₅ g₂ g₃ g₄ g₅) $
         calls-at ! fm (new-pair-contract 𝓤 H A at-mem run) known-new-pair (to-new-pair 𝓤 H A at-mem run x₂ x₃ x₄ x₅) (and-then ! (load ! (from ! (stop !)) (look ! 14 refl)) (and-then ! (load ! (from ! (stop !)) (look ! 12 refl)) (and-then ! (load ! (from ! (stop !)) (look ! 10 refl)) (and-then ! (load ! (from ! (stop !)) (look ! 8 refl)) (no-more !))))) (λ v₉.
-        use1 W (later (some (λ (y₉ : Pair). (‵ ftrue ⊛ ‵ (T.the-row .own y₉ (v₉ ∷ []))) ⊛ raw (ensured 𝓤 H A new-pair.ended (new-pair.clauses 𝓤 H A at-mem run) tt (x₂, (x₃, (x₄, (x₅, tt)))) tt y₉)))) (id⊢ 𝓤 _) $ await ! tt $ pick ! (λ y₉. split ! $ move ! (1 ∷ []) $ use1 W (raw (fact 𝓤 (y₉ ≡ newPair (eqb x₂ 1) x₃ x₄ x₅))) (new-pair-told 𝓤 H A at-mem run x₂ x₃ x₄ x₅ y₉) $ heard ! (y₉ ≡ newPair (eqb x₂ 1) x₃ x₄ x₅) (λ e₉. split ! $ drop ! $
+        use1 W (later (some (λ (y₉ : Pair). (‵ ftrue ⊛ ‵ (T.the-row .own y₉ (v₉ ∷ []))) ⊛ raw (ensured 𝓤 H A new-pair.ended (new-pair.clauses 𝓤 H A at-mem run) tt (x₂, (x₃, (x₄, (x₅, tt)))) tt y₉)))) (id⊢ 𝓤 _) $ await ! tt $ pick ! (λ y₉. split ! $ move ! (1 ∷ []) $ use1 W (raw (fact 𝓤 (y₉ ≡ newPair (eqb x₂ 1) x₃ (heldRights x₄) (heldRights x₅)))) (new-pair-told 𝓤 H A at-mem run x₂ x₃ x₄ x₅ y₉) $ heard ! (y₉ ≡ newPair (eqb x₂ 1) x₃ (heldRights x₄) (heldRights x₅)) (λ e₉. split ! $ drop ! $
         peeks ! T.the-row (Is T.the-row) (shows 𝓤 H A T.the-row) y₉ (v₉ ∷ []) (λ i₉. land ! (from ! (stop !)) (fills ! 2 T.the-row (pair-lawful 𝓤 H A at-mem run W) y₉ v₉ i₉ refl refl) $ rewrite ! 2 (λ (u : Val). ‵ (fat fullShare T′.mir l₉ 0 u)) (ap only (LL.tells T.the-type T′.the-laws y₉ (v₉ ∷ []) i₉)) refl $ rewrite ! 0 (λ (us : List Val). ‵ (T.the-row .own y₉ us)) (LL.tells T.the-type T′.the-laws y₉ (v₉ ∷ []) i₉) refl $ peeks ! T.the-row (Is T.the-row) (shows 𝓤 H A T.the-row) y₉ ((LL.vals T.the-type T′.the-laws) y₉) (λ s₉. drop ! $
         move ! (21 ∷ 22 ∷ 29 ∷ []) $ opens ! tt T.the-row {h = h} b o (λ vs. spelt ! T.the-row (Is T.the-row) (shows 𝓤 H A T.the-row) (LL.vals T.the-type T′.the-laws) (LL.tells T.the-type T′.the-laws) fullShare h vs b o $ move ! (1 ∷ []) $ peeks ! T.the-row (Is T.the-row) (shows 𝓤 H A T.the-row) h (LL.vals T.the-type T′.the-laws h) (λ was. drop ! $
         assigns-last ! (of-opd ! (load ! (from ! (stop !)) (look ! 5 refl))) (from ! (hop ! (look ! 21 refl) (stop !))) (overwrites ! 0 T.the-row (pair-lawful 𝓤 H A at-mem run W) y₉ (only (LL.vals T.the-type T′.the-laws y₉)) s₉ refl refl) $
@@ -120,11 +121,11 @@ module _ {M : Type 1} (𝓤 : URA M) (H : Heap 𝓤) (A : Atoms 𝓤) (W : Given
         owned ! T.the-row (Is T.the-row) ((LL.makes T.the-type T′.the-plain) 𝓤 H A) y₉ _ s₉ $ move ! (1 ∷ 0 ∷ 2 ∷ 3 ∷ 4 ∷ []) $ closes ! tt T.the-row y₉ (LL.vals T.the-type T′.the-laws y₉) b o $
         returns ! (look ! 22 refl) $ forget ! 4 refl $ forget ! 6 refl $ forget ! 8 refl $ forget ! 10 refl $ forget ! 12 refl $ forget ! 14 refl $ forget ! 16 refl $ forget ! 18 refl $ forget ! 20 refl $ forget ! 22 refl $
         move ! (22 ∷ 23 ∷ []) $ free1 ! $ move ! (20 ∷ 21 ∷ []) $ free1 ! $ move ! (18 ∷ 19 ∷ []) $ free1 ! $ move ! (16 ∷ 17 ∷ []) $ free1 ! $ move ! (14 ∷ 15 ∷ []) $ free1 ! $ move ! (12 ∷ 13 ∷ []) $ free1 ! $ move ! (10 ∷ 11 ∷ []) $ free1 ! $ move ! (8 ∷ 9 ∷ []) $ free1 ! $ move ! (6 ∷ 7 ∷ []) $ free1 ! $ move ! (4 ∷ 5 ∷ []) $ free1 ! $ free0 ! $
-        keep ! (0 ∷ 1 ∷ 2 ∷ 10 ∷ 3 ∷ []) $ by ! (exits y₉ y₇ v₇ (e₇, made-on a (newPair (eqb x₂ 1) x₃ x₄ x₅) h y₈ y₉ e₈ on₈ e₉))))))))))
+        keep ! (0 ∷ 1 ∷ 2 ∷ 10 ∷ 3 ∷ []) $ by ! (exits y₉ y₇ v₇ (e₇, made-on a (newPair (eqb x₂ 1) x₃ (heldRights x₄) (heldRights x₅)) h y₈ y₉ e₈ on₈ e₉))))))))))
         (λ off₈. skips ! $ exec ! C Λ (standing code.Mir.locals (l₀ ∷ l₁ ∷ l₂ ∷ l₃ ∷ l₄ ∷ l₅ ∷ l₆ ∷ l₇ ∷ l₈ ∷ l₉ ∷ [])) code.Mir.t-4 (atRet (standing code.Mir.locals (l₀ ∷ l₁ ∷ l₂ ∷ l₃ ∷ l₄ ∷ l₅ ∷ l₆ ∷ l₇ ∷ l₈ ∷ l₉ ∷ [])) Post) $ assigns ! (of-opd ! (load ! (from ! (stop !)) (look ! 5 refl))) (from ! (stop !)) (init ! 19 refl (sint-lawful 𝓤 H A W w64 .typed y₇ _ i₇ .0)) $
         returns ! (look ! 19 refl) $ forget ! 3 refl $ forget ! 5 refl $ forget ! 7 refl $ forget ! 9 refl $ forget ! 11 refl $ forget ! 13 refl $ forget ! 15 refl $ forget ! 17 refl $ forget ! 19 refl $
         move ! (19 ∷ 20 ∷ []) $ free1 ! $ move ! (17 ∷ 18 ∷ []) $ free1 ! $ move ! (15 ∷ 16 ∷ []) $ free1 ! $ move ! (13 ∷ 14 ∷ []) $ free1 ! $ move ! (11 ∷ 12 ∷ []) $ free1 ! $ move ! (9 ∷ 10 ∷ []) $ free1 ! $ move ! (7 ∷ 8 ∷ []) $ free1 ! $ move ! (5 ∷ 6 ∷ []) $ free1 ! $ move ! (3 ∷ 4 ∷ []) $ free1 ! $ move ! (1 ∷ 2 ∷ []) $ free1 ! $ free0 ! $
-        keep ! (1 ∷ 2 ∷ 9 ∷ 10 ∷ 0 ∷ []) $ by ! (exits h y₇ v₇ (e₇, made-off a (newPair (eqb x₂ 1) x₃ x₄ x₅) h y₈ e₈ off₈))))))))))))))))))))))))))
+        keep ! (1 ∷ 2 ∷ 9 ∷ 10 ∷ 0 ∷ []) $ by ! (exits h y₇ v₇ (e₇, made-off a (newPair (eqb x₂ 1) x₃ (heldRights x₄) (heldRights x₅)) h y₈ e₈ off₈))))))))))))))))))))))))))
 
 module _ {M : Type 1} (𝓤 : URA M) (H : Heap 𝓤) (A : Atoms 𝓤) (W : Given 𝓤 H A) (at-mem : Memory → SProp 𝓤) (run : Routine → Fun 𝓤) where
   walks : (C : Calls 𝓤 H) (Λ : Loops 𝓤 H) → FmC 𝓤 H (W .laws) C → Triple 𝓤 (C #word) (word-contract 𝓤 H A at-mem run) → Triple 𝓤 (C #is-done) (is-done-contract 𝓤 H A at-mem run) → Triple 𝓤 (C #new-pair) (new-pair-contract 𝓤 H A at-mem run) → Walks 𝓤 H A f.ended stayed (WpFn 𝓤 H C Λ code.function) (f.clauses 𝓤 H A at-mem run)

@@ -15,14 +15,14 @@ flag-if-requires c κs = search needs
 flag-if-requires-2 : tie.Need-flag-if-requires-2
 flag-if-requires-2 c κs = search needs
 
+rights-if-requires : tie.Need-rights-if-requires
+rights-if-requires c κs = search needs
+
 word-if-requires : tie.Need-word-if-requires
 word-if-requires c κs = search needs
 
-word-if-requires-2 : tie.Need-word-if-requires-2
-word-if-requires-2 c κs = search needs
-
 returns : tie.Need-returns
-returns c = rw (c .before .before .before .before .before .thresholds-if .ensures, c .before .before .before .before .queue-if .ensures, c .before .before .before .flag-if .ensures, c .before .before .flag-if2 .ensures, c .before .word-if .ensures, c .word-if2 .ensures) (end-chosen _ _ _)
+returns c = rw (c .before .before .before .before .before .thresholds-if .ensures, c .before .before .before .before .queue-if .ensures, c .before .before .before .flag-if .ensures, c .before .before .flag-if2 .ensures, c .before .rights-if .ensures, c .word-if .ensures) (end-chosen _ _ _)
 
 pub end-if-spec : {M : Type 1} → statement M
-end-if-spec = tie.close (tie.spec thresholds-if-requires queue-if-requires flag-if-requires flag-if-requires-2 word-if-requires word-if-requires-2 returns)
+end-if-spec = tie.close (tie.spec thresholds-if-requires queue-if-requires flag-if-requires flag-if-requires-2 rights-if-requires word-if-requires returns)

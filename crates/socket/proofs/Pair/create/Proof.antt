@@ -3,6 +3,7 @@ use mathlib.Core.Bool.{Bool}
 use Rattle.status.specs.Choice.{pick}
 use Rattle.status.specs.Answer.{isDone}
 use Rattle.socket.specs.Pair.{noPair}
+use Rattle.socket.proofs.Created.{new-held}
 use borrow.Author.Needs.{needs}
 use Rattle.socket.proofs.Pair.create.Statement.{statement}
 use Rattle.socket.proofs.Pair.create.Tie as tie
@@ -19,7 +20,7 @@ pair-if-requires c κs = tt
 returns : tie.Need-returns
 returns c =
     let a = c .before .before .create-answer .ensures in
-    record { answer = a; pair = rw (c .before .is-done .ensures, a) at (c .pair-if .ensures) }
+    record { answer = a; pair = (rw (c .before .is-done .ensures, a) at (c .pair-if .ensures)) ∙ new-held _ _ _ _ _ _ _ _ _ }
 
 pub create-spec : {M : Type 1} → statement M
 create-spec = tie.close (tie.spec create-answer-requires is-done-requires pair-if-requires returns)

@@ -11,7 +11,7 @@ use Rattle.socket.proofs.create.pair_if.Tie as tie
 
 -- field by field
 whole : (made datagram : Bool) (C r s : ℕ)
-    → record { datagram = pick made datagram false; capacity = bitIf made C; one = pick made (newEnd r) noEnd; two = pick made (newEnd s) noEnd; places = newPlaces }
+    → record { datagram = pick made datagram false; spare1 = 0; spare2 = 0; capacity = bitIf made C; one = pick made (newEnd r) noEnd; two = pick made (newEnd s) noEnd; places = newPlaces }
     ≡ pick made (newPair datagram C r s) noPair
 unfolding newPair noPair pick bitIf
 whole true datagram C r s = refl
