@@ -65,13 +65,13 @@ pub struct Endpoint {
     /// Whether its reading is disabled.
     pub read_disabled: bool,
     /// Its rights word.
-    pub rights: u32,
+    pub rights: u16,
+    /// Its signal word.
+    pub signals: u32,
     /// Its thresholds.
     pub thresholds: Thresholds,
     /// What it can read.
     pub queue: Queue,
-    /// Its signal word.
-    pub signals: u32,
 }
 
 /// A wait or its packet.
@@ -100,7 +100,8 @@ pub struct Places {
     pub table: [Place; 128],
 }
 
-/// Both ends of a pair, and the places of its waits and packets. It holds no byte that was written.
+/// Both ends of a pair, and the places of its waits and packets. It holds no byte that was written, and
+/// no padding: every byte is one of a field.
 #[repr(C)]
 #[derive(Clone, Copy, Debug, Eq, PartialEq)]
 pub struct Pair {
@@ -110,6 +111,10 @@ pub struct Pair {
     pub two: Endpoint,
     /// Whether the pair carries datagrams or a stream.
     pub datagram: bool,
+    /// One byte where the record would have a gap: 0 by [`create`], and kept by every other call.
+    pub spare1: u8,
+    /// Two bytes more of the same.
+    pub spare2: u16,
     /// The bytes that each queue holds.
     pub capacity: u32,
     /// The waits and packets.
@@ -125,13 +130,13 @@ impl Pair {
             closed: true,
             read_disabled: false,
             rights: 0,
+            signals: 0,
             thresholds: Thresholds { read: 0, write: 0 },
             queue: Queue { bytes: none, lengths: none },
-            signals: 0,
         };
         let free = Place { key: 0, mask: 0, observed: 0, end: 0 };
         let places = Places { packets: 0, waits: 0, table: [free; 128] };
-        Pair { one: end, two: end, datagram: false, capacity: 0, places }
+        Pair { one: end, two: end, datagram: false, spare1: 0, spare2: 0, capacity: 0, places }
     };
 }
 
