@@ -8,7 +8,6 @@ use mathlib.Core.List.{List, [], _∷_, _++_, map}
 use lib.ListN.{length, replicate}
 use Rattle.endpoint.specs.declared.Queue.{Queue}
 use Rattle.endpoint.specs.declared.Endpoint.{Endpoint}
-use Rattle.endpoint.specs.declared.Disposition.the-variants.{Unchanged, Enable}
 use Rattle.runs.specs.Calls.{plainDisposition, control}
 use Rattle.runs.specs.State.{State, state}
 use Rattle.cases.specs.States.{stream, datagram, queue, empty, queued, end, opened, closed, pair, eight, slices, long, Row, is, no, rowWord}
@@ -101,8 +100,8 @@ backlog closed = state (eight stream (opened empty) (end closed 16 (queue 0 1 0 
 
 unfoldable pub backlogRows : List Row
 backlogRows =
-    no (backlog false) (control (plainDisposition 1 Enable Unchanged)) 20
-    ∷ is (backlog true) (control (plainDisposition 1 Enable Unchanged)) 0
+    no (backlog false) (control (plainDisposition 1 2 0)) 20
+    ∷ is (backlog true) (control (plainDisposition 1 2 0)) 0
     ∷ []
 
 -- ---- the claim

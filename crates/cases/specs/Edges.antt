@@ -3,7 +3,6 @@
 use Prim.Native.Nat.{ℕ}
 use mathlib.Core.Bool.{true, false}
 use mathlib.Core.List.{List, [], _∷_}
-use Rattle.endpoint.specs.declared.Disposition.the-variants.{Unchanged, Disable, Enable}
 use Rattle.runs.specs.Calls.{setDisposition, shutdown, plainDisposition, plainShutdown, setWriteThreshold, wait, takePacket, close, Input}
 use Rattle.cases.specs.Lines.{Line}
 use Rattle.cases.specs.Scripts.{stream, datagram, on, c, w, r, wp, rp, ok, no, got, took, ok1, no1, Script, script, Show}
@@ -42,7 +41,7 @@ table =
     ∷ case stream (c (shutdown 1 2) ∷ r 1 1 ∷ on (close 2) ∷ r 1 1 ∷ []) (ok 0 0x12 0x20 ∷ no 20 0x12 0x20 ∷ ok1 0 0x14 ∷ no1 24 0x14 ∷ [])
     ∷ case stream (c (shutdown 2 1) ∷ r 1 1 ∷ on (close 2) ∷ r 1 1 ∷ []) (ok 0 0x12 0x20 ∷ no 20 0x12 0x20 ∷ ok1 0 0x14 ∷ no1 24 0x14 ∷ [])
     ∷ case stream (on (close 2) ∷ c (setDisposition 1 0 1) ∷ r 1 1 ∷ []) (ok1 0 0x4 ∷ ok1 0 0x4 ∷ no1 24 0x4 ∷ [])
-    ∷ case datagram (c (plainDisposition 1 Unchanged Disable) ∷ rp 1 1 ∷ on (close 2) ∷ rp 1 1 ∷ [])
+    ∷ case datagram (c (plainDisposition 1 0 1) ∷ rp 1 1 ∷ on (close 2) ∷ rp 1 1 ∷ [])
     (ok 0 0x12 0x20 ∷ no 20 0x12 0x20 ∷ ok1 0 0x14 ∷ no1 24 0x14 ∷ [])
     -- P9: a write threshold of 9, then with the peer closed
     ∷ case stream (c (setWriteThreshold 1 9) ∷ on (close 2) ∷ c (setWriteThreshold 1 9) ∷ []) (no 10 0x2 0x2 ∷ ok1 0 0x4 ∷ no1 24 0x4 ∷ [])
@@ -53,7 +52,7 @@ table =
     ∷ case stream (c (plainShutdown 1 false false) ∷ []) (ok 0 0x2 0x30 ∷ [])
     -- P11: a byte queued at the peer, own disable, then own enable
     ∷ case stream (w 1 4096 1 ∷ c (setDisposition 1 1 0) ∷ c (setDisposition 1 2 0) ∷ []) (ok 1 0x2 0x3 ∷ ok 0 0x20 0x13 ∷ no 20 0x20 0x13 ∷ [])
-    ∷ case stream (w 1 4096 1 ∷ c (plainDisposition 1 Disable Unchanged) ∷ c (plainDisposition 1 Enable Unchanged) ∷ [])
+    ∷ case stream (w 1 4096 1 ∷ c (plainDisposition 1 1 0) ∷ c (plainDisposition 1 2 0) ∷ [])
     (ok 1 0x2 0x3 ∷ ok 0 0x20 0x13 ∷ no 20 0x20 0x13 ∷ [])
     -- P12: waits of keys 1 and 2 on READABLE, then a byte
     ∷ case stream (c (wait 2 1 1 0) ∷ c (wait 2 2 1 0) ∷ w 1 4096 1 ∷ c takePacket ∷ c takePacket ∷ c takePacket ∷ [])

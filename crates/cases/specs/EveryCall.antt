@@ -6,7 +6,6 @@ use lib.Dec.{eqb}
 use Rattle.status.specs.declared.Answer.{Answer}
 use Rattle.status.specs.declared.Answer.the-variants.{Done, Refused}
 use Rattle.status.specs.Answer.{statusNumber}
-use Rattle.endpoint.specs.declared.Disposition.the-variants.{Enable}
 use Rattle.runs.specs.Calls.{setDisposition, shutdown, plainDisposition, plainShutdown, setReadThreshold, setWriteThreshold, getThresholds, getInfo, wait, takePacket, Call, write, read, plainWrite, plainRead, close, control}
 use Rattle.runs.specs.State.{State}
 use Rattle.runs.specs.Step.{answerOf}
@@ -18,7 +17,7 @@ abbrev pub callsBy : (h : ℕ) → List Call
 callsBy h =
     write h 1 0 1 1 ∷ write h 0 4096 3 0 ∷ read h 1 0 1 1 ∷ read h 0 4096 3 0 ∷ read h 8 4096 3 0 ∷ plainWrite h ∷ plainRead h false ∷ plainRead h true ∷ close h
     ∷ map control
-    (setDisposition h 3 3 ∷ shutdown h 0 ∷ plainDisposition h Enable Enable ∷ plainShutdown h true true ∷ setReadThreshold h 9
+    (setDisposition h 3 3 ∷ shutdown h 0 ∷ plainDisposition h 3 3 ∷ plainShutdown h true true ∷ setReadThreshold h 9
     ∷ setWriteThreshold h 9 ∷ getThresholds h ∷ getInfo h ∷ wait h 0 0 2 ∷ [])
 
 unfoldable pub everyCall : List Call

@@ -6,7 +6,6 @@ use mathlib.Core.List.{List, [], _∷_, _++_, map}
 use lib.IntN.{ℤ, pos, negℤ}
 use Rattle.endpoint.specs.declared.Queue.{Queue}
 use Rattle.endpoint.specs.declared.Endpoint.{Endpoint}
-use Rattle.endpoint.specs.declared.Disposition.the-variants.{Unchanged}
 use Rattle.runs.specs.Calls.{setDisposition, shutdown, plainDisposition, plainShutdown, setReadThreshold, setWriteThreshold, getThresholds, getInfo, wait, Call, write, read, plainWrite, plainRead, close, control}
 use Rattle.runs.specs.State.{Slices, State, state}
 use Rattle.cases.specs.States.{queued, opened, eight, slices, none, Row, row, no}
@@ -62,5 +61,5 @@ abbrev pub others : (h : ℕ) → List Call
 others h =
     close h
     ∷ map control
-    (setDisposition h 0 0 ∷ shutdown h 3 ∷ plainDisposition h Unchanged Unchanged ∷ plainShutdown h true true ∷ setReadThreshold h 8
+    (setDisposition h 0 0 ∷ shutdown h 3 ∷ plainDisposition h 0 0 ∷ plainShutdown h true true ∷ setReadThreshold h 8
     ∷ setWriteThreshold h 8 ∷ getThresholds h ∷ wait h 1 1 1 ∷ [])

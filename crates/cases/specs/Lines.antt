@@ -33,7 +33,6 @@ use Rattle.bits.specs.Bits.{lostByReader, gainedByWriter, reached, missed, bitI
 use Rattle.sizes.specs.Read.{emptyAnswer, availableIn, readSize}
 use Rattle.write_size.specs.Write.{datagramSize, writeSize}
 use Rattle.create_answer.specs.Create.{numbersAnswer, createAnswer}
-use Rattle.answers.specs.Disposition.{disposeAnswer}
 use Rattle.answers.specs.Info.{infoAnswer}
 use Rattle.read_answer.specs.Read.{readAnswer}
 use Rattle.transfer_read.specs.Read.{leaving, drainedQueue, bufferRead}
@@ -49,7 +48,7 @@ use Rattle.socket.specs.Tests.{lentOf, slicesTest, tableTest}
 use Rattle.socket.specs.Threshold.{readThresholdSet, writeThresholdSet}
 use Rattle.socket.specs.Wait.{waited, takeAnswer, took, closeAnswer, closed}
 use Rattle.socket.specs.Write.{wrote, pairWritten}
-use Rattle.user_answers.specs.Control.{dispositionOf, userDisposeAnswer, userShutdownAnswer}
+use Rattle.user_answers.specs.Control.{dispositionOf, plainDisposeAnswer, userDisposeAnswer, userShutdownAnswer}
 use Rattle.user_memory.specs.Memory.{fits, countFits, isNull, littleEndian, countLanded}
 use Rattle.user_answers.specs.Lookup.{lookup}
 use Rattle.user_read_answer.specs.Read.{userReadAnswer}
@@ -83,7 +82,7 @@ shownLines x os = lineOf x [] ∷ map (λ (o : Outcome). lineOf (o .seen) (o .de
 
 -- the lines of a run, computed. To unfold it is to unfold all that a call computes with.
 unfoldable pub linesOf : Create → (one two : Slices) → List Input → List Line
-unfolding recordOf statusNumber recordCount answerWord countOf isDone refuseIf refuseUnless _then_ pick _and_ _or_ place front put filter firedOf insertedOf appendedOf registeredOf takenOf droppedOf changeOf changedWord meets packetsOf waitsOf unusedOf tableOf newPlaces endNumber waitOf observe packetOf fires fired kept ofOther others enables hasBacklog hasOpenBacklog enablesOver disposeChecks newEnd noEnd withQueue withSignals withReadDisabled withThresholds closedEnd shown unlessClosed infoOf noQueue soundLengths soundQueue shortTable shortSlices hasLength firstLength badFirst emptyAnswer availableIn readSize lostByReader gainedByWriter datagramSize writeSize reached missed bitIf gainedByPeer lostByWriter numbersAnswer createAnswer disposeAnswer switchWriting disposeOwn disposePeer disposedOwn disposedPeer disposed shutdownAnswer shutEnd shut infoAnswer isHandle withEnd withPlaces withChange signalChange putBit switchReading newPair noPair readAnswer leaving drainedQueue consumed pairRead bufferRead soundEnds soundTest lentOf slicesTest tableTest isOpen handleTest openingTest readThresholdAnswer writeThresholdAnswer readThresholdSet writeThresholdSet thresholdsAnswer waitAnswer waited takeAnswer took closeAnswer closed writeAnswer fedQueue wrote pairWritten ringFed ringWritten tableFed tableWritten dispositionOf userDisposeAnswer userShutdownAnswer fits countFits isNull lookup littleEndian countLanded userReadAnswer bytesLanded writeRanges userWriteAnswer controlAnswer answerTo controlled pairAfter written stateAfter landed counted deliveredIn after outcome outcomes pairCreated
+unfolding recordOf statusNumber recordCount answerWord countOf isDone refuseIf refuseUnless _then_ pick _and_ _or_ place front put filter firedOf insertedOf appendedOf registeredOf takenOf droppedOf changeOf changedWord meets packetsOf waitsOf unusedOf tableOf newPlaces endNumber waitOf observe packetOf fires fired kept ofOther others enables hasBacklog hasOpenBacklog enablesOver disposeChecks newEnd noEnd withQueue withSignals withReadDisabled withThresholds closedEnd shown unlessClosed infoOf noQueue soundLengths soundQueue shortTable shortSlices hasLength firstLength badFirst emptyAnswer availableIn readSize lostByReader gainedByWriter datagramSize writeSize reached missed bitIf gainedByPeer lostByWriter numbersAnswer createAnswer switchWriting disposeOwn disposePeer disposedOwn disposedPeer disposed shutdownAnswer shutEnd shut infoAnswer isHandle withEnd withPlaces withChange signalChange putBit switchReading newPair noPair readAnswer leaving drainedQueue consumed pairRead bufferRead soundEnds soundTest lentOf slicesTest tableTest isOpen handleTest openingTest readThresholdAnswer writeThresholdAnswer readThresholdSet writeThresholdSet thresholdsAnswer waitAnswer waited takeAnswer took closeAnswer closed writeAnswer fedQueue wrote pairWritten ringFed ringWritten tableFed tableWritten dispositionOf plainDisposeAnswer userDisposeAnswer userShutdownAnswer fits countFits isNull lookup littleEndian countLanded userReadAnswer bytesLanded writeRanges userWriteAnswer controlAnswer answerTo controlled pairAfter written stateAfter landed counted deliveredIn after outcome outcomes pairCreated
 linesOf c one two is = shownLines (seenOf (createdBy c one two) (pairCreated c (createdBy c one two))) (outcomes (start c one two) is)
 
 -- the answer word of one call, computed

@@ -7,7 +7,7 @@ use mathlib.Core.Option.{some}
 use lib.IntN.{pos}
 use Rattle.status.specs.declared.Record.the-variants.{Info, Limits}
 use Rattle.endpoint.specs.declared.SignalWord.the-variants.{Closed, Word}
-use Rattle.runs.specs.Calls.{setDisposition, shutdown, setReadThreshold, setWriteThreshold, getThresholds, getInfo, write, read, close}
+use Rattle.runs.specs.Calls.{setDisposition, shutdown, plainDisposition, setReadThreshold, setWriteThreshold, getThresholds, getInfo, write, read, close}
 use Rattle.runs.specs.State.{Outcome}
 use Rattle.runs.specs.Step.{outcomes, start}
 use Rattle.cases.specs.Lines.{Line, linesOf}
@@ -44,6 +44,28 @@ orderScripts =
     ∷ script stream 4 (w 1 4096 1 ∷ c (shutdown 1 1) ∷ r 1 1 ∷ c (setDisposition 1 1 0) ∷ []) (no 30 0x2 0x2 ∷ no 30 0x2 0x2 ∷ no 30 0x2 0x2 ∷ ok 0 0x20 0x12 ∷ [])
     ∷ script stream 0 (wp 1 (97 ∷ []) ∷ rp 2 1 ∷ c (setReadThreshold 1 1) ∷ on (close 2) ∷ w 2 4096 1 ∷ [])
     (ok 1 0x2 0x3 ∷ got 1 0x2 0x2 (97 ∷ []) ∷ ok 0 0x2 0x2 ∷ ok1 0 0x4 ∷ no1 11 0x4 ∷ [])
+    -- the plain disposition by its numbers: the handle, then a number above 2 for either end, then the checks; no right is asked
+    ∷ script stream 0
+    (wp 1 (97 ∷ [])
+    ∷ c (plainDisposition 1 1 0)
+    ∷ c (plainDisposition 3 3 3)
+    ∷ c (plainDisposition 1 3 0)
+    ∷ c (plainDisposition 1 0 3)
+    ∷ c (plainDisposition 1 2 3)
+    ∷ c (plainDisposition 1 2 0)
+    ∷ on (close 2)
+    ∷ c (plainDisposition 2 3 0)
+    ∷ [])
+    (ok 1 0x2 0x3
+    ∷ ok 0 0x20 0x13
+    ∷ no 11 0x20 0x13
+    ∷ no 10 0x20 0x13
+    ∷ no 10 0x20 0x13
+    ∷ no 10 0x20 0x13
+    ∷ no 20 0x20 0x13
+    ∷ ok1 0 0x24
+    ∷ no1 11 0x24
+    ∷ [])
     -- thresholds: both are asked for, zero clears the bit; a write and a read move the bits of both ends
     ∷ script stream 7 (c (setReadThreshold 1 3) ∷ c (setWriteThreshold 1 5) ∷ c (getThresholds 1) ∷ c (setWriteThreshold 1 0) ∷ c (setReadThreshold 1 9) ∷ c (getThresholds 3) ∷ [])
     (ok 0 0x2 0x2 ∷ ok 0 0x802 0x2 ∷ limits 3 5 0x802 0x2 ∷ ok 0 0x2 0x2 ∷ no 10 0x2 0x2 ∷ no 11 0x2 0x2 ∷ [])

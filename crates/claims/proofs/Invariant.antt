@@ -206,7 +206,7 @@ module _ (f : Origin → Option ℕ) (dg : Bool) (z1 z2 : Size) where
     unfolding controlAnswer controlled
     control-kept (setDisposition h a b) e = Kept.disposed-kept (isOne h) (dispositionOf a) (dispositionOf b) (s .pair)
     control-kept (shutdown h o) e = Kept.shut-kept (isOne h) (shutsRead o) (shutsWrite o) (s .pair)
-    control-kept (plainDisposition h a b) e = Kept.disposed-kept (isOne h) a b (s .pair)
+    control-kept (plainDisposition h a b) e = Kept.disposed-kept (isOne h) (dispositionOf a) (dispositionOf b) (s .pair)
     control-kept (plainShutdown h a b) e = Kept.shut-kept (isOne h) a b (s .pair)
     control-kept (setReadThreshold h n) e = Kept.read-threshold-kept (isOne h) n (s .pair)
     control-kept (setWriteThreshold h n) e = Kept.write-threshold-kept (isOne h) n (s .pair)

@@ -10,7 +10,6 @@ use Rattle.status.specs.declared.Answer.{Answer}
 use Rattle.status.specs.declared.Answer.the-variants.{Refused}
 use Rattle.status.specs.Choice.{_and_}
 use Rattle.status.specs.Answer.{refuseUnless, _then_}
-use Rattle.answers.specs.Disposition.{disposeAnswer}
 use Rattle.answers.specs.Info.{infoAnswer}
 use Rattle.read_answer.specs.Read.{readAnswer}
 use Rattle.ends_tests.specs.Tests.{soundEnds, soundTest, openingTest}
@@ -23,7 +22,7 @@ use Rattle.socket.specs.Disposition.{shutdownAnswer}
 use Rattle.socket.specs.Wait.{takeAnswer, closeAnswer}
 use Rattle.user_write_answer.specs.Write.{userWriteAnswer}
 use Rattle.user_read_answer.specs.Read.{userReadAnswer}
-use Rattle.user_answers.specs.Control.{userDisposeAnswer, userShutdownAnswer}
+use Rattle.user_answers.specs.Control.{plainDisposeAnswer, userDisposeAnswer, userShutdownAnswer}
 use Rattle.runs.specs.Calls.{Control, setDisposition, shutdown, plainDisposition, plainShutdown, setReadThreshold, setWriteThreshold, getThresholds, getInfo, wait, takePacket, Call, write, read, plainWrite, plainRead, close, control, Input, Public, public}
 use Rattle.runs.specs.State.{Slices, State, state, seenOf}
 use Rattle.runs.specs.Answers.{View, view, controlAnswer, answerTo, pairAfter}
@@ -37,7 +36,7 @@ abbrev no-view : (z1 z2 : Lent) → View
 no-view z1 z2 = record { pair = noPair; one = z1; two = z2 }
 
 control-internal : (z1 z2 : Lent) (c : Control) → controlAnswer (no-view z1 z2) c ≡ Refused Internal
-unfolding controlAnswer noPair soundEnds soundTest openingTest refuseUnless _then_ _and_ readThresholdAnswer writeThresholdAnswer thresholdsAnswer disposeAnswer shutdownAnswer infoAnswer waitAnswer takeAnswer userDisposeAnswer userShutdownAnswer
+unfolding controlAnswer noPair soundEnds soundTest openingTest refuseUnless _then_ _and_ readThresholdAnswer writeThresholdAnswer thresholdsAnswer shutdownAnswer infoAnswer waitAnswer takeAnswer plainDisposeAnswer userDisposeAnswer userShutdownAnswer
 control-internal z1 z2 (setDisposition h a b) = refl
 control-internal z1 z2 (shutdown h o) = refl
 control-internal z1 z2 (plainDisposition h a b) = refl

@@ -22,7 +22,6 @@ use Rattle.endpoint.specs.Queue.{shortSlices, firstLength, badFirst}
 use Rattle.write_size.specs.Write.{datagramSize, writeSize}
 use Rattle.sizes.specs.Read.{emptyAnswer, readSize}
 use Rattle.endpoint.specs.Disposition.{disposeChecks}
-use Rattle.answers.specs.Disposition.{disposeAnswer}
 use Rattle.answers.specs.Info.{infoAnswer}
 use Rattle.read_answer.specs.Read.{readAnswer}
 use Rattle.ends_tests.specs.Tests.{soundEnds, isOpen, soundTest as endsSoundTest, handleTest as endsHandleTest, openingTest as endsOpeningTest}
@@ -37,7 +36,7 @@ use Rattle.socket.specs.Wait.{takeAnswer, closeAnswer}
 use Rattle.user_answers.specs.Lookup.{lookup}
 use Rattle.user_write_answer.specs.Write.{writeRanges, userWriteAnswer}
 use Rattle.user_read_answer.specs.Read.{userReadAnswer}
-use Rattle.user_answers.specs.Control.{userDisposeAnswer, userShutdownAnswer}
+use Rattle.user_answers.specs.Control.{plainDisposeAnswer, userDisposeAnswer, userShutdownAnswer}
 use Rattle.runs.specs.Calls.{Control, setDisposition, shutdown, plainDisposition, plainShutdown, setReadThreshold, setWriteThreshold, getThresholds, getInfo, wait, takePacket, Call, write, read, plainWrite, plainRead, close, control, Input}
 use Rattle.runs.specs.State.{State, state, ownSlices, Outcome}
 use Rattle.runs.specs.Run.{createdBy}
@@ -164,13 +163,15 @@ module _ (v : View) (g : Good v) where
   opening-not h = then-not _ _ sound-not (handle-not (v .pair) h)
 
   control-not : (c : Control) → Not (controlAnswer v c)
-  unfolding controlAnswer readThresholdAnswer writeThresholdAnswer thresholdsAnswer disposeAnswer shutdownAnswer infoAnswer waitAnswer takeAnswer userDisposeAnswer userShutdownAnswer Not internal
+  unfolding controlAnswer readThresholdAnswer writeThresholdAnswer thresholdsAnswer shutdownAnswer infoAnswer waitAnswer takeAnswer plainDisposeAnswer userDisposeAnswer userShutdownAnswer Not internal
   control-not (setDisposition h a b) =
       then-not _ _ sound-not
       (then-not _ _ (if-not _ InvalidArgs refl)
       (then-not _ _ (if-not _ InvalidArgs refl) (then-not _ _ (lookup-not (v .pair) h _) (dispose-not _ _ _ _))))
   control-not (shutdown h o) = then-not _ _ sound-not (lookup-not (v .pair) h _)
-  control-not (plainDisposition h a b) = then-not _ _ (opening-not h) (dispose-not _ _ a b)
+  control-not (plainDisposition h a b) =
+      then-not _ _ (opening-not h)
+      (then-not _ _ (if-not _ InvalidArgs refl) (then-not _ _ (if-not _ InvalidArgs refl) (dispose-not _ _ _ _)))
   control-not (plainShutdown h a b) = opening-not h
   control-not (setReadThreshold h n) = then-not _ _ (opening-not h) (if-not _ InvalidArgs refl)
   control-not (setWriteThreshold h n) = then-not _ _ (opening-not h) (then-not _ _ (if-not _ PeerClosed refl) (if-not _ InvalidArgs refl))

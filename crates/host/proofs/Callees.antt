@@ -44,7 +44,7 @@ use Rattle.ends.proofs.Ends.Laws as E′
 use Rattle.status.proofs.Answer as N
 use Rattle.status.proofs.Answer.Laws as N′
 use Rattle.answers.specs.Wait.{waitAnswer as waitAnswerOf}
-use Rattle.control_disposition.specs.Disposition.{disposeEnds}
+use Rattle.host_values.specs.Disposition.{plainDisposeEnds}
 use Rattle.control.specs.Shutdown.{shutEnds}
 use Rattle.control_threshold.specs.Threshold.{readThresholdEnds, writeThresholdEnds}
 use Rattle.control.specs.Close.{closeEnds}
@@ -52,7 +52,6 @@ use Rattle.socket.specs.Pair.{own, isOne, endsOf}
 use Rattle.socket.specs.Deferred.{settled, settledClose, registeredPair, takenPair}
 use Rattle.transfer_write.specs.Transfer.{wroteBy}
 use Rattle.transfer_read.specs.Transfer.{readBy}
-use Rattle.syscall.specs.Control.{dispositionOf}
 use Rattle.syscall.specs.Ends.{userDisposeEnds, userShutEnds}
 use Rattle.socket.proofs.ends_of as ends
 use Rattle.answers.proofs.wait_answer as wait-answer
@@ -219,11 +218,11 @@ module _ {M : Type 1} (𝓤 : URA M) (H : Heap 𝓤) (A : Atoms 𝓤) (at-mem : 
     pub goes-dispose-ends : (a₁ : Ends) (a₂ : ℕ) (a₃ : ℕ) (a₄ : ℕ) (v₁ : Val) → Is E.the-row a₁ (v₁ ∷ []) → Is u32 a₂ (vint w32 a₂ ∷ []) → Is u32 a₃ (vint w32 a₃ ∷ []) → Is u32 a₄ (vint w32 a₄ ∷ []) → ent 𝓤 (sem 𝓤 H A ftrue) (dispose-ends-contract .pre (to-dispose-ends a₁ a₂ a₃ a₄ v₁))
     goes-dispose-ends a₁ a₂ a₃ a₄ v₁ i₁ i₂ i₃ i₄ = qed W (‵ ftrue ∷ []) ∵ owned ! u32 (Is u32) (uint-makes 𝓤 H A W w32) a₄ _ i₄ $ join ! $ owned ! u32 (Is u32) (uint-makes 𝓤 H A W w32) a₃ _ i₃ $ join ! $ owned ! u32 (Is u32) (uint-makes 𝓤 H A W w32) a₂ _ i₂ $ join ! $ owned ! E.the-row (Is E.the-row) ((LL.makes E.the-type E′.the-plain) 𝓤 H A) a₁ (v₁ ∷ []) i₁ $ join ! $ nothing ! $ join ! $ frame ! $ done !
 
-    pub gives-dispose-ends : (a₁ : Ends) (a₂ : ℕ) (a₃ : ℕ) (a₄ : ℕ) (v₁ : Val) (v : Val) → ent 𝓤 (dispose-ends-contract .post (to-dispose-ends a₁ a₂ a₃ a₄ v₁) v) (mean 𝓤 H A (later (some (λ (y : Outcome). ‵ (K.the-row .own y (v ∷ [])) ⊛ raw (fact 𝓤 (y ≡ disposeEnds a₁ a₂ (dispositionOf a₃) (dispositionOf a₄)))))))
-    gives-dispose-ends a₁ a₂ a₃ a₄ v₁ = told W K.the-row (λ y. ensured 𝓤 H A dispose-ends.ended (dispose-ends.clauses 𝓤 H A at-mem run) tt (a₁, (a₂, (a₃, (a₄, tt)))) tt y) (λ y. y ≡ disposeEnds a₁ a₂ (dispositionOf a₃) (dispositionOf a₄)) (λ y. exE 𝓤 _ (λ ws. snd∗ 𝓤 (sem 𝓤 H A (lasts dispose-ends.ended tt (a₁, (a₂, (a₃, (a₄, tt)))) ws)) (fact 𝓤 (y ≡ disposeEnds a₁ a₂ (dispositionOf a₃) (dispositionOf a₄)))))
+    pub gives-dispose-ends : (a₁ : Ends) (a₂ : ℕ) (a₃ : ℕ) (a₄ : ℕ) (v₁ : Val) (v : Val) → ent 𝓤 (dispose-ends-contract .post (to-dispose-ends a₁ a₂ a₃ a₄ v₁) v) (mean 𝓤 H A (later (some (λ (y : Outcome). ‵ (K.the-row .own y (v ∷ [])) ⊛ raw (fact 𝓤 (y ≡ plainDisposeEnds a₁ a₂ a₃ a₄))))))
+    gives-dispose-ends a₁ a₂ a₃ a₄ v₁ = told W K.the-row (λ y. ensured 𝓤 H A dispose-ends.ended (dispose-ends.clauses 𝓤 H A at-mem run) tt (a₁, (a₂, (a₃, (a₄, tt)))) tt y) (λ y. y ≡ plainDisposeEnds a₁ a₂ a₃ a₄) (λ y. exE 𝓤 _ (λ ws. snd∗ 𝓤 (sem 𝓤 H A (lasts dispose-ends.ended tt (a₁, (a₂, (a₃, (a₄, tt)))) ws)) (fact 𝓤 (y ≡ plainDisposeEnds a₁ a₂ a₃ a₄))))
 
     abbrev pub ask-dispose-ends : (a₁ : Ends) (a₂ : ℕ) (a₃ : ℕ) (a₄ : ℕ) (v₁ : Val) → Is E.the-row a₁ (v₁ ∷ []) → Is u32 a₂ (vint w32 a₂ ∷ []) → Is u32 a₃ (vint w32 a₃ ∷ []) → Is u32 a₄ (vint w32 a₄ ∷ []) → Asked 𝓤 H A
-    ask-dispose-ends a₁ a₂ a₃ a₄ v₁ i₁ i₂ i₃ i₄ = record { contract = dispose-ends-contract; ghost = to-dispose-ends a₁ a₂ a₃ a₄ v₁; row = K.the-row; says = λ (y : Outcome). y ≡ disposeEnds a₁ a₂ (dispositionOf a₃) (dispositionOf a₄); needs = goes-dispose-ends a₁ a₂ a₃ a₄ v₁ i₁ i₂ i₃ i₄; gives = gives-dispose-ends a₁ a₂ a₃ a₄ v₁ }
+    ask-dispose-ends a₁ a₂ a₃ a₄ v₁ i₁ i₂ i₃ i₄ = record { contract = dispose-ends-contract; ghost = to-dispose-ends a₁ a₂ a₃ a₄ v₁; row = K.the-row; says = λ (y : Outcome). y ≡ plainDisposeEnds a₁ a₂ a₃ a₄; needs = goes-dispose-ends a₁ a₂ a₃ a₄ v₁ i₁ i₂ i₃ i₄; gives = gives-dispose-ends a₁ a₂ a₃ a₄ v₁ }
 
     pub goes-user-dispose-ends : (a₁ : Ends) (a₂ : ℕ) (a₃ : ℕ) (a₄ : ℕ) (v₁ : Val) → Is E.the-row a₁ (v₁ ∷ []) → Is u32 a₂ (vint w32 a₂ ∷ []) → Is u32 a₃ (vint w32 a₃ ∷ []) → Is u32 a₄ (vint w32 a₄ ∷ []) → ent 𝓤 (sem 𝓤 H A ftrue) (user-dispose-ends-contract .pre (to-user-dispose-ends a₁ a₂ a₃ a₄ v₁))
     goes-user-dispose-ends a₁ a₂ a₃ a₄ v₁ i₁ i₂ i₃ i₄ = qed W (‵ ftrue ∷ []) ∵ owned ! u32 (Is u32) (uint-makes 𝓤 H A W w32) a₄ _ i₄ $ join ! $ owned ! u32 (Is u32) (uint-makes 𝓤 H A W w32) a₃ _ i₃ $ join ! $ owned ! u32 (Is u32) (uint-makes 𝓤 H A W w32) a₂ _ i₂ $ join ! $ owned ! E.the-row (Is E.the-row) ((LL.makes E.the-type E′.the-plain) 𝓤 H A) a₁ (v₁ ∷ []) i₁ $ join ! $ nothing ! $ join ! $ frame ! $ done !

@@ -1,18 +1,18 @@
 // The calls that a kernel links, over a pair that it keeps: each takes the pair behind a reference, leaves the next one there and
-// returns the answer's word, or the word that an end shows.
+// returns the answer's word, or the signal word of an end.
 use socket::Pair;
 ghost use mathlib.Core.Path.{_≡_};
 ghost use lib.ListN.{length};
 ghost use lib.Dec.{eqb};
 ghost use Rattle.create_answer.specs.Create.{createAnswer};
-ghost use Rattle.socket.specs.Pair.{isOne, newPair, shownBy};
+ghost use Rattle.socket.specs.Pair.{isOne, newPair};
 ghost use Rattle.socket.specs.Tests.{Steps};
 ghost use Rattle.socket.specs.Write.{Wrote};
 ghost use Rattle.socket.specs.Read.{Read};
-ghost use Rattle.socket.specs.Disposition.{disposeAnswer, disposed, shutdownAnswer, shut};
+ghost use Rattle.socket.specs.Disposition.{disposed, shutdownAnswer, shut};
 ghost use Rattle.socket.specs.Threshold.{readThresholdAnswer, readThresholdSet, writeThresholdAnswer, writeThresholdSet};
 ghost use Rattle.socket.specs.Wait.{waitAnswer, waited, closeAnswer, closed};
-ghost use Rattle.syscall.specs.Control.{dispositionOf};
+ghost use Rattle.syscall.specs.Control.{dispositionOf, plainDisposeAnswer};
 ghost use Rattle.host_values.specs.Signal.{signalNumber};
 ghost use Rattle.host.specs.Host.{Answered};
 
@@ -78,7 +78,8 @@ pub extern "C" fn murgwethan_read(
     kept_transfer::read(p, handle, t)
 }
 
-// Disables or enables the writing of an end and of its peer: 1 disables, 2 enables, any other number changes nothing. No right is asked.
+// Disables or enables the writing of an end and of its peer: 0 leaves it as it is, 1 disables it, 2 enables it, a number above 2 is refused. No right is
+// asked.
 #[no_mangle]
 pub extern "C" fn murgwethan_set_disposition(
     p: &mut Pair,
@@ -86,7 +87,7 @@ pub extern "C" fn murgwethan_set_disposition(
     disposition: u32,
     peer_disposition: u32,
 ) -> i64
-    ensures { λ w. ⌜ Answered (Steps (now (p .entry)) (disposeAnswer (now (p .entry)) handle (dispositionOf disposition) (dispositionOf «peer_disposition»)) (disposed (isOne handle) (dispositionOf disposition) (dispositionOf «peer_disposition») (now (p .entry)))) (now (p .exit)) w ⌝ }
+    ensures { λ w. ⌜ Answered (Steps (now (p .entry)) (plainDisposeAnswer (now (p .entry)) handle disposition «peer_disposition») (disposed (isOne handle) (dispositionOf disposition) (dispositionOf «peer_disposition») (now (p .entry)))) (now (p .exit)) w ⌝ }
 {
     let r = host_values::dispose_ends(socket::ends_of(*p), handle, disposition, peer_disposition);
     kept_pair::outcome(p, r)
@@ -137,10 +138,10 @@ pub extern "C" fn murgwethan_close(p: &mut Pair, handle: u32) -> i64
     kept_pair::close(p, handle, r)
 }
 
-// The signal word that an end shows; −11 for a closed end and for another handle.
+// The signal word of an end, after the tests of the record and of the handle. The pair stays as it is.
 #[no_mangle]
 pub extern "C" fn murgwethan_signal(p: &mut Pair, handle: u32) -> i64
-    ensures { λ w. ⌜ (w ≡ signalNumber (shownBy (now (p .entry)) handle)) × (now (p .exit) ≡ now (p .entry)) ⌝ }
+    ensures { λ w. ⌜ (w ≡ signalNumber (now (p .entry)) handle) × (now (p .exit) ≡ now (p .entry)) ⌝ }
 {
     host_values::signal(*p, handle)
 }

@@ -68,7 +68,7 @@ some-call s x (to-read h peek buffer) =
           {p = pairRead (s .pair) h peek (firstLength (s .pair .datagram) (own (isOne h) (s .pair) .queue) table) (countOf r)} {w = answerWord r}
           (record { answer = r; word = refl; kept = record { answer = refl; pair = refl; bytes = refl } });
     }
-some-call s x (to-set-disposition h a b) = record { state = _; gives = _; call = murgwethan-set-disposition a b (answered (s .pair) _ _) }
+some-call s x (to-set-disposition h a b) = record { state = _; gives = _; call = murgwethan-set-disposition (answered (s .pair) _ _) }
 some-call s x (to-shutdown h reading writing) = record { state = _; gives = _; call = murgwethan-shutdown (answered (s .pair) _ _) }
 some-call s x (to-set-read-threshold h n) = record { state = _; gives = _; call = murgwethan-set-read-threshold (answered (s .pair) _ _) }
 some-call s x (to-set-write-threshold h n) = record { state = _; gives = _; call = murgwethan-set-write-threshold (answered (s .pair) _ _) }

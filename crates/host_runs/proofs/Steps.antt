@@ -59,7 +59,7 @@ calls-are-steps s x s′ y (murgwethan-read {h} {peek} {buffer} {buffer′} {p} 
       memory = refl;
       array = refl;
     }
-calls-are-steps s x s′ y (murgwethan-set-disposition a b {p} {w} k) = plain s _ _ p (k .answer) w [] (did-plain-dispose (k .kept)) (k .word) refl
+calls-are-steps s x s′ y (murgwethan-set-disposition {p = p} {w = w} k) = plain s _ _ p (k .answer) w [] (did-plain-dispose (k .kept)) (k .word) refl
 calls-are-steps s x s′ y (murgwethan-shutdown {p = p} {w = w} k) = plain s _ _ p (k .answer) w [] (did-plain-shutdown (k .kept)) (k .word) refl
 calls-are-steps s x s′ y (murgwethan-set-read-threshold {p = p} {w = w} k) = plain s _ _ p (k .answer) w [] (did-read-threshold (k .kept)) (k .word) refl
 calls-are-steps s x s′ y (murgwethan-set-write-threshold {p = p} {w = w} k) = plain s _ _ p (k .answer) w [] (did-write-threshold (k .kept)) (k .word) refl

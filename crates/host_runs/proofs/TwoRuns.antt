@@ -5,7 +5,6 @@ use mathlib.Core.Option.{some}
 use Rattle.status.specs.declared.Answer.{Answer}
 use Rattle.status.specs.Answer.{answerWord}
 use Rattle.socket.specs.declared.Pair.{Pair}
-use Rattle.socket.specs.Pair.{shownBy}
 use Rattle.host_values.specs.Signal.{signalNumber}
 use Rattle.runs.specs.Calls.{Call, Input, Public, public}
 use Rattle.runs.specs.State.{Seen, seenOf, Outcome}
@@ -53,7 +52,7 @@ exported-two-runs c one two one′ two′ e k xs xs′ same p p′ ys ys′ r r�
       create = ap (λ (x : Seen). x .pair) (t .create);
       words = a .gives .words ∙ ap (map answerWord) rs ∙ sym (b .gives .words);
       pairs = ps;
-      signals = λ h. ap (map (λ (x : Pair). signalNumber (shownBy x h))) ps;
+      signals = λ h. ap (map (λ (x : Pair). signalNumber x h)) ps;
       answers = answers os;
       answered = a .gives .words;
       arrays = a .gives .arrays;

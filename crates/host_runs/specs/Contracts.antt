@@ -8,17 +8,17 @@ use mathlib.Core.List.{List, []}
 use lib.IntN.{ℤ}
 use lib.Dec.{eqb}
 use Rattle.socket.specs.declared.Pair.{Pair}
-use Rattle.socket.specs.Pair.{isOne, own, newPair, shownBy}
+use Rattle.socket.specs.Pair.{isOne, own, newPair}
 use Rattle.socket.specs.Tests.{lentOf, Steps}
 use Rattle.socket.specs.Write.{Wrote}
 use Rattle.socket.specs.Read.{Read}
 use Rattle.socket.specs.Threshold.{readThresholdAnswer, readThresholdSet, writeThresholdAnswer, writeThresholdSet, thresholdsAnswer}
-use Rattle.socket.specs.Disposition.{disposeAnswer, disposed, shutdownAnswer, shut}
+use Rattle.socket.specs.Disposition.{disposed, shutdownAnswer, shut}
 use Rattle.socket.specs.Info.{infoAnswer}
 use Rattle.socket.specs.Wait.{waitAnswer, waited, takeAnswer, took, closeAnswer, closed}
 use Rattle.syscall.specs.Write.{UserWrote}
 use Rattle.syscall.specs.Read.{UserRead}
-use Rattle.syscall.specs.Control.{dispositionOf, userDisposeAnswer, shutsRead, shutsWrite, userShutdownAnswer}
+use Rattle.syscall.specs.Control.{dispositionOf, plainDisposeAnswer, userDisposeAnswer, shutsRead, shutsWrite, userShutdownAnswer}
 use Rattle.host.specs.Host.{Answered}
 use Rattle.host_values.specs.Signal.{signalNumber}
 use Rattle.host_values.specs.Records.{thresholdNumbers, infoNumbers, packetNumbers, Recorded}
@@ -39,10 +39,10 @@ Writes p h ring ring′ table table′ bytes p′ w = Answered (Wrote p h bytes 
 abbrev pub Reads : Pair → (h : ℕ) → (peek : Bool) → (ring table buffer buffer′ : List ℕ) → Pair → ℤ → Type 0
 Reads p h peek ring table buffer buffer′ p′ w = Answered (Read p h peek ring table buffer buffer′) p′ w
 
--- the plain disposition is given by numbers too, without a right
+-- the plain disposition by its numbers, without a right
 abbrev pub Disposes : Pair → (h a b : ℕ) → Pair → ℤ → Type 0
 Disposes p h a b p′ w =
-    Answered (Steps p (disposeAnswer p h (dispositionOf a) (dispositionOf b)) (disposed (isOne h) (dispositionOf a) (dispositionOf b) p)) p′ w
+    Answered (Steps p (plainDisposeAnswer p h a b) (disposed (isOne h) (dispositionOf a) (dispositionOf b) p)) p′ w
 
 -- shutdown by its two flags
 abbrev pub Shuts : Pair → (h : ℕ) → (reading writing : Bool) → Pair → ℤ → Type 0
@@ -63,9 +63,9 @@ Waits p h key mask edge p′ w = Answered (Steps p (waitAnswer p h edge) (waited
 abbrev pub Closes : Pair → (h : ℕ) → Pair → ℤ → Type 0
 Closes p h p′ w = Answered (Steps p (closeAnswer p h) (closed (isOne h) p)) p′ w
 
--- the word that an end shows. It is no call of a run: the pair stays as it is.
+-- the signal word of an end. It is no call of a run: the pair stays as it is.
 abbrev pub Signals : Pair → (h : ℕ) → Pair → ℤ → Type 0
-Signals p h p′ w = (w ≡ signalNumber (shownBy p h)) × (p′ ≡ p)
+Signals p h p′ w = (w ≡ signalNumber p h) × (p′ ≡ p)
 
 -- ---- the calls whose record goes to an array
 

@@ -5,7 +5,6 @@ use mathlib.Core.Bool.{Bool, true}
 use mathlib.Core.List.{List, [], _∷_}
 use Rattle.status.specs.Answer.{isDone}
 use Rattle.socket.specs.declared.Pair.{Pair}
-use Rattle.syscall.specs.Control.{dispositionOf}
 use Rattle.runs.specs.Calls.{Create, setDisposition, shutdown, plainDisposition, plainShutdown, setReadThreshold, setWriteThreshold, getThresholds, getInfo, wait, takePacket, write, read, plainWrite, plainRead, close, control}
 use Rattle.runs.specs.State.{Slices}
 use Rattle.runs.specs.Run.{createdBy}
@@ -16,7 +15,7 @@ use Rattle.host_runs.specs.Runs.{ExportedRun}
 pub data Passable : Passed → Type 0 where
   to-write : (h : ℕ) (bytes : List ℕ) → Passable (passed (plainWrite h) 0 bytes [])
   to-read : (h : ℕ) (peek : Bool) (buffer : List ℕ) → Passable (passed (plainRead h peek) 0 buffer [])
-  to-set-disposition : (h a b : ℕ) → Passable (passed (control (plainDisposition h (dispositionOf a) (dispositionOf b))) 0 [] [])
+  to-set-disposition : (h a b : ℕ) → Passable (passed (control (plainDisposition h a b)) 0 [] [])
   to-shutdown : (h : ℕ) (reading writing : Bool) → Passable (passed (control (plainShutdown h reading writing)) 0 [] [])
   to-set-read-threshold : (h n : ℕ) → Passable (passed (control (setReadThreshold h n)) 0 [] [])
   to-set-write-threshold : (h n : ℕ) → Passable (passed (control (setWriteThreshold h n)) 0 [] [])

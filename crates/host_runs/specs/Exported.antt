@@ -8,7 +8,6 @@ use lib.ListN.{take, drop}
 use Rattle.socket.specs.declared.Pair.{Pair}
 use Rattle.socket.specs.Pair.{isOne}
 use Rattle.syscall.specs.Read.{bytesLanded}
-use Rattle.syscall.specs.Control.{dispositionOf}
 use Rattle.runs.specs.Calls.{setDisposition, shutdown, plainDisposition, plainShutdown, setReadThreshold, setWriteThreshold, getThresholds, getInfo, wait, takePacket, write, read, plainWrite, plainRead, close, control}
 use Rattle.runs.specs.State.{State, ownSlices, peerSlices, withPair, withPeer}
 use Rattle.run_steps.specs.Code.{slicesOf}
@@ -25,9 +24,9 @@ pub data Exported (s : State) : Passed → State → Returned → Type 0 where
   murgwethan-read : {h : ℕ} {peek : Bool} {buffer buffer′ : List ℕ} {p : Pair} {w : ℤ}
       → Reads (s .pair) h peek (ownSlices (isOne h) s .ring) (ownSlices (isOne h) s .table) buffer buffer′ p w
       → Exported s (passed (plainRead h peek) 0 buffer []) (withPair p s) (returned w p (take (countIn w) buffer′) buffer′ [])
-  murgwethan-set-disposition : {h : ℕ} (a b : ℕ) {p : Pair} {w : ℤ}
+  murgwethan-set-disposition : {h a b : ℕ} {p : Pair} {w : ℤ}
       → Disposes (s .pair) h a b p w
-      → Exported s (passed (control (plainDisposition h (dispositionOf a) (dispositionOf b))) 0 [] []) (withPair p s) (returned w p [] [] [])
+      → Exported s (passed (control (plainDisposition h a b)) 0 [] []) (withPair p s) (returned w p [] [] [])
   murgwethan-shutdown : {h : ℕ} {reading writing : Bool} {p : Pair} {w : ℤ}
       → Shuts (s .pair) h reading writing p w
       → Exported s (passed (control (plainShutdown h reading writing)) 0 [] []) (withPair p s) (returned w p [] [] [])

@@ -9,7 +9,6 @@ use lib.Dec.{eqb}
 use Rattle.status.specs.declared.Answer.{Answer}
 use Rattle.status.specs.Answer.{answerWord}
 use Rattle.socket.specs.declared.Pair.{Pair}
-use Rattle.socket.specs.Pair.{shownBy}
 use Rattle.host_values.specs.Signal.{signalNumber}
 use Rattle.runs.specs.Calls.{Create, public}
 use Rattle.runs.specs.State.{Slices}
@@ -27,7 +26,7 @@ CreatesAlike =
     → w ≡ w′
 
 abbrev pub signalsOf : (h : ℕ) → List Returned → List ℤ
-signalsOf h ys = map (λ (p : Pair). signalNumber (shownBy p h)) (pairsOf ys)
+signalsOf h ys = map (λ (p : Pair). signalNumber p h) (pairsOf ys)
 
 -- What is claimed of two runs that were passed xs and xs′, whose create left p and p′ and whose calls gave ys and ys′:
 pub record ExportedAlike (datagram : Bool) (xs xs′ : List Passed) (p p′ : Pair) (ys ys′ : List Returned) : Type 0 where

@@ -1,1 +1,3 @@
 pub mod Recorded
+pub mod Disposed
+pub mod Worded

@@ -1,30 +1,52 @@
 // By value, what the exported calls need beside the calls of the pair: numbers for enums, records put into a lent array, and the answer of
 // create by the lengths of its slices.
-use endpoint::SignalWord;
 use ends::Ends;
 use ends::Outcome;
+use ends_tests::opening_test;
 use socket::Pair;
 use status::Answer;
 use status::Record;
+use status::Status;
 use user_answers::disposition_of;
 ghost use mathlib.Core.Path.{_≡_};
 ghost use mathlib.Core.List.{[]};
-ghost use Rattle.socket.specs.Pair.{isOne, own, shownBy};
+ghost use Rattle.socket.specs.Pair.{isOne, own};
 ghost use Rattle.socket.specs.Tests.{lentOf};
-ghost use Rattle.control_disposition.specs.Disposition.{disposeEnds};
 ghost use Rattle.socket.specs.Info.{infoAnswer};
 ghost use Rattle.socket.specs.Threshold.{thresholdsAnswer};
 ghost use Rattle.socket.specs.Wait.{takeAnswer};
 ghost use Rattle.create_answer.specs.Create.{createAnswer};
 ghost use lib.ListN.{length};
-ghost use Rattle.user_answers.specs.Control.{dispositionOf};
+ghost use Rattle.status.specs.Answer.{_then_};
+ghost use Rattle.status.specs.declared.Status.the-variants.{InvalidArgs};
+ghost use Rattle.status.specs.declared.Answer.the-variants.{Refused};
+ghost use Rattle.ends.specs.Outcome.{unchangedEnds};
+ghost use Rattle.ends_tests.specs.Tests.{openingTest};
 ghost use Rattle.host_values.specs.Signal.{signalNumber};
+ghost use Rattle.host_values.specs.Disposition.{plainDisposeEnds};
 ghost use Rattle.host_values.specs.Records.{thresholdNumbers, infoNumbers, packetNumbers, arrayOf, Recorded};
+
+// A number above 2 is refused; the record and the handle are tested before it.
+fn bad_number(e: Ends, handle: u32) -> Outcome
+    ensures { λ r. ⌜ r ≡ unchangedEnds e (openingTest e handle then Refused InvalidArgs) ⌝ }
+{
+    let a = opening_test(e, handle);
+    if !status::is_done(a) {
+        return ends::unchanged(e, a);
+    }
+    ends::unchanged(e, Answer::Refused(Status::InvalidArgs))
+}
 
 // Disposition by its numbers, but for the visit of the waits.
 pub fn dispose_ends(e: Ends, handle: u32, disposition: u32, peer_disposition: u32) -> Outcome
-    ensures { λ r. ⌜ r ≡ disposeEnds e handle (dispositionOf disposition) (dispositionOf «peer_disposition») ⌝ }
+    ensures { λ r. ⌜ r ≡ plainDisposeEnds e handle disposition «peer_disposition» ⌝ }
 {
+    if disposition > 2 {
+        return bad_number(e, handle);
+    }
+    if peer_disposition > 2 {
+        return bad_number(e, handle);
+    }
     control_disposition::dispose_ends(
         e,
         handle,
@@ -33,15 +55,17 @@ pub fn dispose_ends(e: Ends, handle: u32, disposition: u32, peer_disposition: u3
     )
 }
 
-// The word that an end shows, as a number.
+// The signal word of an end, after the tests of the record and of the handle, as a number.
 pub fn signal(p: Pair, handle: u32) -> i64
-    ensures { λ r. ⌜ r ≡ signalNumber (shownBy p handle) ⌝ }
+    ensures { λ r. ⌜ r ≡ signalNumber p handle ⌝ }
 {
-    let s = p.signal(handle);
-    match s {
-        SignalWord::Closed => -11,
-        SignalWord::Word(w) => w as i64,
+    let e = socket::ends_of(p);
+    let a = opening_test(e, handle);
+    if !status::is_done(a) {
+        return status::word(a);
     }
+    let own = e.own(handle == 1);
+    own.signals as i64
 }
 
 // The numbers of thresholds, put into the array; of another record none.

@@ -10,6 +10,7 @@ ghost use lib.ListN.{take};
 ghost use Rattle.status.specs.Answer.{countOf};
 ghost use Rattle.runs.specs.Calls.{input, control};
 ghost use Rattle.runs.specs.Calls;
+ghost use Rattle.user_answers.specs.Control.{dispositionNumber};
 ghost use Rattle.run_steps.specs.Code.{slicesOf, StepOf, OwnLent, ReadLent, PeerLent, Starts};
 
 pub fn create(
@@ -158,13 +159,15 @@ pub fn plain_read(
     p.read(handle, peek, ring, table, buffer)
 }
 
+// The plain disposition by value takes an enum, so that no number above 2 can be passed. A run has such a call too: `murgwethan_set_disposition` of the
+// crate host makes it, and the crate host_runs shows that it is a step of `Does`.
 pub fn plain_disposition(
     p: Pair,
     handle: u32,
     disposition: Disposition,
     peer_disposition: Disposition,
 ) -> Step
-    ensures { λ r. ⌜ StepOf p (control (Calls.plainDisposition handle disposition «peer_disposition»)) r ⌝ }
+    ensures { λ r. ⌜ StepOf p (control (Calls.plainDisposition handle (dispositionNumber disposition) (dispositionNumber «peer_disposition»))) r ⌝ }
 {
     p.set_disposition(handle, disposition, peer_disposition)
 }

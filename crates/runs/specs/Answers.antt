@@ -11,12 +11,12 @@ use Rattle.socket.specs.Tests.{Lent, lentOf}
 use Rattle.socket.specs.Write.{writeAnswer, pairWritten}
 use Rattle.socket.specs.Read.{readAnswer, pairRead}
 use Rattle.socket.specs.Threshold.{readThresholdAnswer, readThresholdSet, writeThresholdAnswer, writeThresholdSet, thresholdsAnswer}
-use Rattle.socket.specs.Disposition.{disposeAnswer, disposed, shutdownAnswer, shut}
+use Rattle.socket.specs.Disposition.{disposed, shutdownAnswer, shut}
 use Rattle.socket.specs.Info.{infoAnswer}
 use Rattle.socket.specs.Wait.{waitAnswer, waited, takeAnswer, took, closeAnswer, closed}
 use Rattle.syscall.specs.Write.{userWriteAnswer}
 use Rattle.syscall.specs.Read.{isPeek, userReadAnswer}
-use Rattle.syscall.specs.Control.{dispositionOf, userDisposeAnswer, shutsRead, shutsWrite, userShutdownAnswer}
+use Rattle.syscall.specs.Control.{dispositionOf, plainDisposeAnswer, userDisposeAnswer, shutsRead, shutsWrite, userShutdownAnswer}
 use Rattle.runs.specs.Calls.{Control, setDisposition, shutdown, plainDisposition, plainShutdown, setReadThreshold, setWriteThreshold, getThresholds, getInfo, wait, takePacket, Call, write, read, plainWrite, plainRead, close, control}
 use Rattle.runs.specs.State.{State}
 
@@ -51,7 +51,7 @@ tableOnly z = record { ring = 0; table = z .table; first = z .first }
 unfoldable pub controlAnswer : View → Control → Answer
 controlAnswer v (setDisposition h a b) = userDisposeAnswer (v .pair) h a b
 controlAnswer v (shutdown h o) = userShutdownAnswer (v .pair) h
-controlAnswer v (plainDisposition h a b) = disposeAnswer (v .pair) h a b
+controlAnswer v (plainDisposition h a b) = plainDisposeAnswer (v .pair) h a b
 controlAnswer v (plainShutdown h r w) = shutdownAnswer (v .pair) h
 controlAnswer v (setReadThreshold h n) = readThresholdAnswer (v .pair) h n
 controlAnswer v (setWriteThreshold h n) = writeThresholdAnswer (v .pair) h n
@@ -75,7 +75,7 @@ answerTo v base size (control c) = controlAnswer v c
 unfoldable pub controlled : Control → Pair → Pair
 controlled (setDisposition h a b) p = disposed (isOne h) (dispositionOf a) (dispositionOf b) p
 controlled (shutdown h o) p = shut (isOne h) (shutsRead o) (shutsWrite o) p
-controlled (plainDisposition h a b) p = disposed (isOne h) a b p
+controlled (plainDisposition h a b) p = disposed (isOne h) (dispositionOf a) (dispositionOf b) p
 controlled (plainShutdown h a b) p = shut (isOne h) a b p
 controlled (setReadThreshold h n) p = readThresholdSet (isOne h) n p
 controlled (setWriteThreshold h n) p = writeThresholdSet (isOne h) n p

@@ -3,7 +3,6 @@ use Prim.Native.Nat.{ℕ, _-_}
 use mathlib.Core.Bool.{Bool}
 use mathlib.Core.List.{List}
 use lib.ListN.{length, drop}
-use Rattle.endpoint.specs.declared.Disposition.{Disposition}
 
 -- the arguments of create, but for its slices. 01 "Status and answer word", create.
 pub record Create : Type 0 where
@@ -12,12 +11,13 @@ pub record Create : Type 0 where
   pub rights1 : ℕ
   pub rights2 : ℕ
 
--- The calls that move no byte. Disposition and shutdown are there twice: by their numbers, with a lookup of the right, and plain.
+-- The calls that move no byte. Disposition and shutdown are there twice: with a lookup of the right, and plain. Both dispositions are by 01's numbers, so
+-- that one above 2 is a call of a run too, refused with −10; the plain one by value takes an enum, whose cases are 0, 1 and 2.
 -- 01 "Signal word and packets", "Delivered bytes", "Info record", "Calls over user memory".
 pub data Control : Type 0 where
   setDisposition : (handle disposition peerDisposition : ℕ) → Control
   shutdown : (handle options : ℕ) → Control
-  plainDisposition : (handle : ℕ) → (disposition peerDisposition : Disposition) → Control
+  plainDisposition : (handle disposition peerDisposition : ℕ) → Control
   plainShutdown : (handle : ℕ) → (reading writing : Bool) → Control
   setReadThreshold : (handle threshold : ℕ) → Control
   setWriteThreshold : (handle threshold : ℕ) → Control

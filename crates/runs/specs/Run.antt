@@ -7,7 +7,6 @@ use lib.ListN.{length, take, drop}
 use lib.Dec.{eqb}
 use Rattle.status.specs.declared.Answer.{Answer}
 use Rattle.status.specs.Answer.{countOf}
-use Rattle.endpoint.specs.declared.Disposition.{Disposition}
 use Rattle.create_answer.specs.Create.{createAnswer}
 use Rattle.socket.specs.declared.Step.{Step}
 use Rattle.socket.specs.Pair.{isOne, own, newPair, noPair}
@@ -15,12 +14,12 @@ use Rattle.socket.specs.Tests.{lentOf, Steps}
 use Rattle.socket.specs.Write.{Wrote}
 use Rattle.socket.specs.Read.{Read}
 use Rattle.socket.specs.Threshold.{readThresholdAnswer, readThresholdSet, writeThresholdAnswer, writeThresholdSet, thresholdsAnswer}
-use Rattle.socket.specs.Disposition.{disposeAnswer, disposed, shutdownAnswer, shut}
+use Rattle.socket.specs.Disposition.{disposed, shutdownAnswer, shut}
 use Rattle.socket.specs.Info.{infoAnswer}
 use Rattle.socket.specs.Wait.{waitAnswer, waited, takeAnswer, took, closeAnswer, closed}
 use Rattle.syscall.specs.Write.{UserWrote}
 use Rattle.syscall.specs.Read.{BytesRead, UserRead}
-use Rattle.syscall.specs.Control.{dispositionOf, userDisposeAnswer, shutsRead, shutsWrite, userShutdownAnswer}
+use Rattle.syscall.specs.Control.{dispositionOf, plainDisposeAnswer, userDisposeAnswer, shutsRead, shutsWrite, userShutdownAnswer}
 use Rattle.runs.specs.Calls.{Create, setDisposition, shutdown, plainDisposition, plainShutdown, setReadThreshold, setWriteThreshold, getThresholds, getInfo, wait, takePacket, write, read, plainWrite, plainRead, close, control, Input, input}
 use Rattle.runs.specs.State.{Slices, State, state, ownSlices, peerSlices, withPair, withPeer, Seen, seenOf, Outcome, gives}
 
@@ -48,8 +47,8 @@ pub data Does (s : State) : Input → State → Outcome → Type 0 where
   did-plain-read : {h base : ℕ} {peek : Bool} {buffer buffer′ : List ℕ} {r : Step}
       → Read (s .pair) h peek (ownSlices (isOne h) s .ring) (ownSlices (isOne h) s .table) buffer buffer′ r
       → Does s (input (plainRead h peek) base buffer) (withPair (r .pair) s) (gives r (take (countOf (r .answer)) buffer′) buffer′)
-  did-plain-dispose : {h base : ℕ} {a b : Disposition} {memory : List ℕ} {r : Step}
-      → Steps (s .pair) (disposeAnswer (s .pair) h a b) (disposed (isOne h) a b (s .pair)) r
+  did-plain-dispose : {h a b base : ℕ} {memory : List ℕ} {r : Step}
+      → Steps (s .pair) (plainDisposeAnswer (s .pair) h a b) (disposed (isOne h) (dispositionOf a) (dispositionOf b) (s .pair)) r
       → Does s (input (control (plainDisposition h a b)) base memory) (withPair (r .pair) s) (gives r [] memory)
   did-plain-shutdown : {h base : ℕ} {reading writing : Bool} {memory : List ℕ} {r : Step}
       → Steps (s .pair) (shutdownAnswer (s .pair) h) (shut (isOne h) reading writing (s .pair)) r

@@ -11,6 +11,10 @@ unfoldable pub use Rattle.user_answers.specs.Control.{dispositionOf}
 abbrev pub userDisposeAnswer : Pair → (h disposition peerDisposition : ℕ) → Answer
 userDisposeAnswer p h a b = A.userDisposeAnswer (endsOf p) h a b
 
+-- 01 "Delivered bytes", disposition, by its numbers: the answer
+abbrev pub plainDisposeAnswer : Pair → (h disposition peerDisposition : ℕ) → Answer
+plainDisposeAnswer p h a b = A.plainDisposeAnswer (endsOf p) h a b
+
 -- 01 "Calls over user memory", shutdown: the answer
 abbrev pub userShutdownAnswer : Pair → (h : ℕ) → Answer
 userShutdownAnswer p h = A.userShutdownAnswer (endsOf p) h

@@ -6,11 +6,11 @@ use mathlib.Core.List.{List}
 use lib.ListN.{length}
 use lib.Dec.{eqb}
 use lib.Seq.{paste}
-use borrow.Author.Tests.{eq-eqb}
+use borrow.Author.Tests.{eq-eqb, ne-eqb}
 use Rattle.status.specs.declared.Answer.{Answer}
 use Rattle.status.specs.Choice.{pick, _and_, _or_}
 use Rattle.status.specs.Answer.{countOf}
-use Rattle.status.proofs.Rules.{pick-on, or-on, or-off}
+use Rattle.status.proofs.Rules.{pick-on, pick-off, or-on, or-off}
 use Rattle.ring.specs.Ring.{front}
 use Rattle.endpoint.specs.declared.Endpoint.{Endpoint}
 use Rattle.endpoint.specs.Queue.{firstLength}
@@ -28,18 +28,32 @@ use Rattle.read_answer.specs.Read.{readAnswer}
 use Rattle.transfer_read.specs.Read.{leaving, bufferRead, drainedEnds, readEnds, EndsRead}
 use Rattle.transfer.proofs.Outcomes.{kept-unchanged}
 
+-- the first length matters only where bytes are delivered, and is looked at only there
+looked : {A : Type 0} (peek none : Bool) (a : A) (f : ℕ → A) (m : ℕ) → pick (peek or none) a (f (pick none 0 m)) ≡ pick (peek or none) a (f m)
+unfolding pick _or_
+looked true none a f m = refl
+looked false true a f m = refl
+looked false false a f m = refl
+
+pub delivered-first : (k first m : ℕ) → first ≡ pick (eqb k 0) 0 m → (k ≡ 0 → ⊥) → first ≡ m
+delivered-first k first m e z = e ∙ sym (pick-off _ _ _ _ _ (ne-eqb k 0 z) refl)
+
 pub ends-read : (e : Ends) (h : ℕ) (peek : Bool) (ring table buffer buffer′ : List ℕ) (x : Answer) (k : ℕ) (o t : Endpoint) (first : ℕ) (d : Moved) (r : Outcome)
     → x ≡ readAnswer e (lentOf (e .datagram) (own (isOne h) e .queue) ring table) h (length buffer) → k ≡ countOf x
-    → o ≡ own (isOne h) e → t ≡ peer (isOne h) e → first ≡ firstLength (e .datagram) (o .queue) table
+    → o ≡ own (isOne h) e → t ≡ peer (isOne h) e → first ≡ pick (eqb k 0) 0 (firstLength (e .datagram) (o .queue) table)
     → buffer′ ≡ pick (eqb k 0) buffer (paste buffer 0 (front (e .capacity) (o .queue .bytes .start) k ring) k)
     → d ≡ pick (peek or eqb k 0) (keptEnds o t) (drainedEnds (e .datagram) (e .capacity) (isOne h) o t (leaving (e .datagram) first k))
     → r ≡ outcomeOf (e .waits) (isOne h) x d noVisits → EndsRead e h peek ring table buffer buffer′ r
 unfolding outcomeOf readEnds bufferRead
 ends-read e h peek ring table buffer buffer′ x k o t first d r fx fk fo ft fl fb fd f =
     let a : r .answer ≡ x = ap (λ (z : Outcome). z .answer) f in
+    let m : ℕ = firstLength (e .datagram) (o .queue) table in
+    let made : ℕ → Moved = λ n. drainedEnds (e .datagram) (e .capacity) (isOne h) o t (leaving (e .datagram) n k) in
+    let fd′ : d ≡ pick (peek or eqb k 0) (keptEnds o t) (made m)
+    = fd ∙ ap (λ (n : ℕ). pick (peek or eqb k 0) (keptEnds o t) (made n)) fl ∙ looked peek (eqb k 0) (keptEnds o t) made m in
     record {
       answer = a ∙ fx;
-      next = f ∙ rw (a, ← fk, ← fo, ← ft, ← fl, ← fd) refl;
+      next = f ∙ rw (a, ← fk, ← fo, ← ft, ← fd′) refl;
       bytes = rw (a, ← fk, ← fo) fb;
     }
 
@@ -79,14 +93,23 @@ read-changes e h peek first x d f = f ∙ ap (readTransfer e h peek first) (sym 
 
 pub transfer-read : (e : Ends) (h : ℕ) (peek : Bool) (ring table buffer buffer′ : List ℕ) (x : Answer) (k : ℕ) (o t : Endpoint) (first : ℕ) (d : Transfer)
     → x ≡ readAnswer e (lentOf (e .datagram) (own (isOne h) e .queue) ring table) h (length buffer) → k ≡ countOf x
-    → o ≡ own (isOne h) e → t ≡ peer (isOne h) e → first ≡ firstLength (e .datagram) (o .queue) table
+    → o ≡ own (isOne h) e → t ≡ peer (isOne h) e → first ≡ pick (eqb k 0) 0 (firstLength (e .datagram) (o .queue) table)
     → buffer′ ≡ pick (eqb k 0) buffer (paste buffer 0 (front (e .capacity) (o .queue .bytes .start) k ring) k)
     → d ≡ pick (peek or eqb k 0) (keptTransfer (o .queue) x) (drainedTransfer (e .datagram) (e .capacity) o t x (leaving (e .datagram) first k))
     → TransferRead e h peek ring table buffer buffer′ d
 unfolding readTransfer
 transfer-read e h peek ring table buffer buffer′ x k o t first d fx fk fo ft fl fb fd =
-    record { changes = read-changes e h peek _ x d (rw (fl, fk, fo, ft) at fd); outcome = outcome }
+    record { changes = read-changes e h peek _ x d (rw (fk, fo, ft) at fd′); outcome = outcome }
   where
+    m : ℕ
+    m = firstLength (e .datagram) (o .queue) table
+
+    made : ℕ → Transfer
+    made n = drainedTransfer (e .datagram) (e .capacity) o t x (leaving (e .datagram) n k)
+
+    fd′ : d ≡ pick (peek or eqb k 0) (keptTransfer (o .queue) x) (made m)
+    fd′ = fd ∙ ap (λ (n : ℕ). pick (peek or eqb k 0) (keptTransfer (o .queue) x) (made n)) fl ∙ looked peek (eqb k 0) (keptTransfer (o .queue) x) made m
+
     outcome : EndsRead e h peek ring table buffer buffer′ (readBy e h d)
     outcome = ends-read e h peek ring table buffer buffer′ x k (own (isOne h) e) (peer (isOne h) e) first _ (readBy e h d) fx fk refl refl (rw fo at fl)
         (rw fo at fb) refl

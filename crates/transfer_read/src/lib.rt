@@ -24,6 +24,7 @@ ghost use lib.Dec.{eqb};
 ghost use lib.Seq.{paste};
 ghost use Rattle.status.specs.Choice.{pick, _and_, _or_};
 ghost use Rattle.ring.specs.Ring.{front};
+ghost use Rattle.endpoint.specs.Queue.{firstLength};
 ghost use Rattle.ends.specs.Ends.{isOne, own, peer};
 ghost use Rattle.ends_tests.specs.Tests.{lentOf};
 ghost use Rattle.ends.specs.Outcome.{keptEnds, canFire};
@@ -146,6 +147,16 @@ fn deliver(capacity: u32, start: u32, k: u32, ring: &[u8], buffer: &mut [u8])
     ring::copy_out(ring, capacity as usize, start as usize, k as usize, buffer);
 }
 
+// The first length of the queue, looked at only where bytes are delivered: the record has then passed its tests, so that no entry from C on is read.
+fn first_delivered(datagram: bool, q: Queue, table: &[u32], k: u32) -> u32
+    ensures { λ r. ⌜ r ≡ pick (eqb k 0) 0 (firstLength datagram q (now (table .entry))) ⌝ }
+{
+    if k == 0 {
+        return 0;
+    }
+    q.first_length(datagram, table)
+}
+
 // A read or peek by the end of a handle, but for the visit of the waits. The ring and the table are the reader's.
 pub fn read_ends(
     p: Ends,
@@ -163,7 +174,7 @@ pub fn read_ends(
     let own = p.own(one);
     let peer = p.peer(one);
     let q = own.queue;
-    let first = q.first_length(p.datagram, table);
+    let first = first_delivered(p.datagram, q, table, k);
     deliver(p.capacity, q.bytes.start, k, ring, buffer);
     let moved = consumed_ends(p.datagram, p.capacity, one, own, peer, peek, first, k);
     ends::put_back(p.waits, one, a, moved, ends::no_visits())
@@ -237,7 +248,7 @@ pub fn read_transfer(
     let own = p.own(one);
     let peer = p.peer(one);
     let q = own.queue;
-    let first = q.first_length(p.datagram, table);
+    let first = first_delivered(p.datagram, q, table, k);
     deliver(p.capacity, q.bytes.start, k, ring, buffer);
     drain_transfer(p.datagram, p.capacity, own, peer, a, peek, first, k)
 }

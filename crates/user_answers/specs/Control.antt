@@ -1,4 +1,4 @@
--- Disposition and shutdown by their numbers. 01 "Calls over user memory", disposition and shutdown.
+-- Disposition and shutdown by their numbers. 01 "Calls over user memory", disposition and shutdown; 01 "Delivered bytes", disposition.
 use Prim.Native.Nat.{ℕ}
 use mathlib.Core.Bool.{Bool}
 use lib.Dec.{ltb, eqb}
@@ -12,13 +12,27 @@ use Rattle.endpoint.specs.declared.Disposition.the-variants.{Unchanged, Disable
 use Rattle.endpoint.specs.Disposition.{disposeChecks}
 use Rattle.ends.specs.declared.Ends.{Ends}
 use Rattle.ends.specs.Ends.{isOne, own, peer}
-use Rattle.ends_tests.specs.Tests.{soundTest}
+use Rattle.ends_tests.specs.Tests.{soundTest, openingTest}
 use Rattle.user_answers.specs.Lookup.{RIGHT-WRITE, RIGHT-MANAGE, lookup}
 
--- 01 "Delivered bytes", disposition: 0 leaves an end's writing unchanged, 1 disables it, 2 enables it. `userDisposeAnswer` refuses numbers above
--- 2. The host's plain call has no −10 (docs/DECISIONS.md): it takes them as 0.
+-- 01 "Delivered bytes", disposition: 0 leaves an end's writing unchanged, 1 disables it, 2 enables it. Every call by numbers refuses those above 2.
 unfoldable pub dispositionOf : ℕ → Disposition
 dispositionOf n = pick (eqb n 1) Disable (pick (eqb n 2) Enable Unchanged)
+
+-- 01 "Delivered bytes", disposition: the number of each case
+unfoldable pub dispositionNumber : Disposition → ℕ
+dispositionNumber Unchanged = 0
+dispositionNumber Disable = 1
+dispositionNumber Enable = 2
+
+-- 01 "Delivered bytes", disposition, by its numbers and without user memory: the record and the handle, then both numbers, then the checks. No right
+-- is asked; −11 comes before its other statuses (01 "Calls over user memory").
+unfoldable pub plainDisposeAnswer : Ends → (h disposition peerDisposition : ℕ) → Answer
+plainDisposeAnswer e h a b =
+    openingTest e h
+    then refuseIf (ltb 2 a) InvalidArgs
+    then refuseIf (ltb 2 b) InvalidArgs
+    then disposeChecks (own (isOne h) e) (peer (isOne h) e) (dispositionOf a) (dispositionOf b)
 
 -- 01 "Calls over user memory", disposition: both numbers, then the lookup with manage, then the checks of a disposition
 unfoldable pub userDisposeAnswer : Ends → (h disposition peerDisposition : ℕ) → Answer

@@ -43,7 +43,7 @@ pub fn lookup(p: Ends, handle: u32, right: u16) -> Answer
     Answer::Done(Record::Empty)
 }
 
-// What a number asks for an end's writing. A number above 2 asks for nothing: `dispose_answer` refuses it, and the host's plain call takes it as 0.
+// What a number asks for an end's writing. A number above 2 asks for nothing: each call by numbers refuses it.
 pub fn disposition_of(n: u32) -> Disposition
     ensures { λ r. ⌜ r ≡ dispositionOf n ⌝ }
 {

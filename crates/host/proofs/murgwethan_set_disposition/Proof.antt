@@ -48,13 +48,13 @@ use Rattle.reference_steps.proofs.Steps.{asks, hands, opened, put-back, fills, 
 use Rattle.host.proofs.Callees.{ends-lawful, ends-contract, ask-ends, dispose-ends-contract, ask-dispose-ends}
 use Rattle.kept_transfer.proofs.Callees.{outcome-contract, hand-outcome}
 use Rattle.socket.specs.Pair.{isOne, own}
-use Rattle.syscall.specs.Control.{dispositionOf}
+use Rattle.syscall.specs.Control.{dispositionOf, plainDisposeAnswer}
 use Rattle.host.specs.Host.{Answered}
 use Rattle.socket.specs.Tests.{Steps}
 use Rattle.socket.proofs.Visiting.{places-128}
 use Rattle.kept_pair.proofs.Stored.{settled-as}
-use Rattle.socket.specs.Disposition.{disposeAnswer, disposed}
-use Rattle.socket.proofs.Disposed.{dispose-whole}
+use Rattle.socket.specs.Disposition.{disposed}
+use Rattle.host_values.proofs.Disposed.{dispose-whole}
 use Rattle.socket.proofs.ends_of as ends
 use Rattle.socket.proofs.ends_of.Symbol as ends-def
 use Rattle.socket.proofs.ends_of.Symbol.{name as #ends}
@@ -88,7 +88,7 @@ module _ {M : Type 1} (𝓤 : URA M) (H : Heap 𝓤) (A : Atoms 𝓤) (W : Given
   abbrev Post : Val → SProp 𝓤
   Post = walkOf 𝓤 H A f.ended stayed (f.clauses 𝓤 H A at-mem run) .post ((bound, (q, tt), tt, x, at), tt)
 
-  exits : (p′ : Pair) (z : ℤ) (v : Val) → Answered (Steps h (disposeAnswer h x₁ (dispositionOf x₂) (dispositionOf x₃)) (disposed (isOne x₁) (dispositionOf x₂) (dispositionOf x₃) h)) p′ z
+  exits : (p′ : Pair) (z : ℤ) (v : Val) → Answered (Steps h (plainDisposeAnswer h x₁ x₂ x₃) (disposed (isOne x₁) (dispositionOf x₂) (dispositionOf x₃) h)) p′ z
       → ent 𝓤 (⋆ 𝓤 H A (‵ (fres γ (T.the-row .coded .code p′)) ∷ (‵ (flft κ q) ⊛ ‵ ftrue) ∷ ‵ ftrue ∷ ‵ (i64 .own z (v ∷ [])) ∷ [])) (Post v)
   exits p′ z v ens =
       qed W (‵ (fres γ (T.the-row .coded .code p′)) ∷ (‵ (flft κ q) ⊛ ‵ ftrue) ∷ ‵ ftrue ∷ ‵ (i64 .own z (v ∷ [])) ∷ []) ∵
@@ -112,7 +112,7 @@ module _ {M : Type 1} (𝓤 : URA M) (H : Heap 𝓤) (A : Atoms 𝓤) (W : Given
         land ! (from ! (stop !)) (init ! 20 refl (sint-lawful 𝓤 H A W w64 .typed z₀ _ i₀ .0)) $
         returns ! (look ! 20 refl) $
         move ! (20 ∷ 21 ∷ []) $ frees-cell ! $ move ! (18 ∷ 19 ∷ []) $ frees-cell ! $ move ! (16 ∷ 17 ∷ []) $ frees-cell ! $ move ! (14 ∷ 15 ∷ []) $ frees-cell ! $ move ! (12 ∷ 13 ∷ []) $ frees-cell ! $ move ! (10 ∷ 11 ∷ []) $ frees-cell ! $ move ! (8 ∷ 9 ∷ []) $ frees-cell ! $ move ! (6 ∷ 7 ∷ []) $ frees-cell ! $ move ! (4 ∷ 5 ∷ []) $ frees-cell ! $ free0 ! $
-        keep ! (2 ∷ 1 ∷ 8 ∷ 0 ∷ []) $ by ! (exits (ws .0) z₀ v₀ (record { answer = y₅ .answer; word = e₀ .0; kept = subst (λ (k : Step). Steps h (disposeAnswer h x₁ (dispositionOf x₂) (dispositionOf x₃)) (disposed (isOne x₁) (dispositionOf x₂) (dispositionOf x₃) h) k) (settled-as y₅ h (ws .0) (e₀ .1)) (dispose-whole h x₁ (dispositionOf x₂) (dispositionOf x₃) y₆ y₅ (places-128 h _ was) e₆ e₅) }))))))))))))))))))
+        keep ! (2 ∷ 1 ∷ 8 ∷ 0 ∷ []) $ by ! (exits (ws .0) z₀ v₀ (record { answer = y₅ .answer; word = e₀ .0; kept = subst (λ (k : Step). Steps h (plainDisposeAnswer h x₁ x₂ x₃) (disposed (isOne x₁) (dispositionOf x₂) (dispositionOf x₃) h) k) (settled-as y₅ h (ws .0) (e₀ .1)) (dispose-whole h x₁ x₂ x₃ y₆ y₅ (places-128 h _ was) e₆ e₅) }))))))))))))))))))
 
 module _ {M : Type 1} (𝓤 : URA M) (H : Heap 𝓤) (A : Atoms 𝓤) (W : Given 𝓤 H A) (at-mem : Memory → SProp 𝓤) (run : Routine → Fun 𝓤) where
   walks : (C : Calls 𝓤 H) (Λ : Loops 𝓤 H) → FmC 𝓤 H (W .laws) C → Triple 𝓤 (C #ends) (ends-contract 𝓤 H A at-mem run) → Triple 𝓤 (C #dispose-ends) (dispose-ends-contract 𝓤 H A at-mem run) → Triple 𝓤 (C #outcome) (outcome-contract 𝓤 H A at-mem run) → Walks 𝓤 H A f.ended stayed (WpFn 𝓤 H C Λ code.function) (f.clauses 𝓤 H A at-mem run)

@@ -51,7 +51,6 @@ use Rattle.socket.specs.declared.Pair.{Pair}
 use Rattle.host_values.specs.Signal.{signalNumber}
 use Rattle.socket.proofs.Pair as T
 use Rattle.socket.proofs.Pair.Laws as T′
-use Rattle.socket.specs.Pair.{shownBy}
 use Rattle.host_values.proofs.signal as step
 use Rattle.host_values.proofs.signal.Symbol as step-def
 use Rattle.host_values.proofs.signal.Symbol.{name as #step}
@@ -88,7 +87,7 @@ module _ {M : Type 1} (𝓤 : URA M) (H : Heap 𝓤) (A : Atoms 𝓤) (W : Given
   abbrev Post : Val → SProp 𝓤
   Post = walkOf 𝓤 H A f.ended stayed (f.clauses 𝓤 H A at-mem run) .post ((bound, (q, tt), tt, x, at), tt)
 
-  exits : (z : ℤ) (v : Val) → z ≡ signalNumber (shownBy h x₁)
+  exits : (z : ℤ) (v : Val) → z ≡ signalNumber h x₁
       → ent 𝓤 (⋆ 𝓤 H A (‵ (fobs γ (T.the-row .coded .code h)) ∷ ‵ (fbor κ (Body (mem T.the-row) b o γ)) ∷ ‵ (flft κ q) ∷ ‵ (i64 .own z (v ∷ [])) ∷ [])) (Post v)
   exits z v e =
       qed W (‵ (fobs γ (T.the-row .coded .code h)) ∷ ‵ (fbor κ (Body (mem T.the-row) b o γ)) ∷ ‵ (flft κ q) ∷ ‵ (i64 .own z (v ∷ [])) ∷ []) ∵
@@ -117,8 +116,8 @@ module _ {M : Type 1} (𝓤 : URA M) (H : Heap 𝓤) (A : Atoms 𝓤) (W : Given
         -- [pre; cell; open; obs; auth; _3; d_3; _2; d_2; _1; d_1; _0; d_0; ownhandle; …]
         calls-at ! fm (Called 𝓤 H A at-mem run) known-step to-step (and-then ! (load ! (from ! (stop !)) (look ! 5 refl)) (and-then ! (load ! (from ! (stop !)) (look ! 7 refl)) (no-more !))) (λ v.
         use1 W (later (some (λ (z : ℤ). (‵ ftrue ⊛ ‵ (i64 .own z (v ∷ []))) ⊛ raw (ensured 𝓤 H A step.ended (step.clauses 𝓤 H A at-mem run) tt (h, (x₁, tt)) tt z)))) (id⊢ 𝓤 _) $ await ! tt $ pick ! (λ z. split ! $ move ! (1 ∷ []) $
-        use1 W (some (λ (zs : (Unit {0} × (Unit {0} × Unit {0}))). ‵ (lasts step.ended tt (h, (x₁, tt)) zs) ⊛ raw (fact 𝓤 (z ≡ signalNumber (shownBy h x₁))))) (id⊢ 𝓤 _) $ pick ! (λ zs. split ! $ move ! (1 ∷ []) $
-        heard ! (z ≡ signalNumber (shownBy h x₁)) (λ e. move ! (1 ∷ []) $ split ! $ move ! (1 ∷ []) $
+        use1 W (some (λ (zs : (Unit {0} × (Unit {0} × Unit {0}))). ‵ (lasts step.ended tt (h, (x₁, tt)) zs) ⊛ raw (fact 𝓤 (z ≡ signalNumber h x₁)))) (id⊢ 𝓤 _) $ pick ! (λ zs. split ! $ move ! (1 ∷ []) $
+        heard ! (z ≡ signalNumber h x₁) (λ e. move ! (1 ∷ []) $ split ! $ move ! (1 ∷ []) $
         -- [r; toks2; lasts; cell; open; obs; auth; _3; d_3; _2; d_2; _1; d_1; _0; …]
         peeks ! i64 (Is i64) (shows 𝓤 H A i64) z (v ∷ []) (λ is. land ! (from ! (stop !)) (init ! 13 refl (sint-lawful 𝓤 H A W w64 .typed z _ is .0)) $
         owned ! T.the-row (Is T.the-row) ((LL.makes T.the-type T′.the-plain) 𝓤 H A) h _ was $ move ! (4 ∷ 0 ∷ 5 ∷ 6 ∷ 7 ∷ []) $ closes ! tt T.the-row h (vals h) b o $ returns ! (look ! 12 refl) $ forget ! 6 refl $ forget ! 8 refl $ forget ! 10 refl $ forget ! 12 refl $

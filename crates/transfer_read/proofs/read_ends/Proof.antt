@@ -1,6 +1,6 @@
 use denote.Ref.{now}
 use Rattle.transfer_read.proofs.Moved.{read-drains}
-use Rattle.transfer_read.proofs.Outcomes.{ends-read}
+use Rattle.transfer_read.proofs.Outcomes.{delivered-first, ends-read}
 use borrow.Author.Needs.{needs}
 use Rattle.transfer_read.proofs.read_ends.Statement.{statement}
 use Rattle.transfer_read.proofs.read_ends.Tie as tie
@@ -17,8 +17,8 @@ own-requires c κs = search needs
 peer-requires : tie.Need-peer-requires
 peer-requires c κs = search needs
 
-first-length-requires : tie.Need-first-length-requires
-first-length-requires c κs = search needs
+first-delivered-requires : tie.Need-first-delivered-requires
+first-delivered-requires c κs = search needs
 
 deliver-requires : tie.Need-deliver-requires
 deliver-requires c κs = let a = c .before .before .before .before .before .before .before .before .before .before .args in
@@ -27,7 +27,8 @@ deliver-requires c κs = let a = c .before .before .before .before .before .befo
 
 consumed-ends-requires : tie.Need-consumed-ends-requires
 consumed-ends-requires c κs = let a = c .before .before .before .before .before .before .before .before .before .before .before .before .before .args in
-    λ z. rw (c .before .before .before .before .first-length .ensures, c .before .before .before .before .before .before .before .own .ensures) (read-drains (a .p) (a .handle) (now (a .ring)) (now (a .table)) (now (a .buffer)) _ _ (c .before .before .before .before .before .before .before .before .before .read-answer .ensures) (c .before .before .before .before .before .before .before .before .count-of .ensures) z .drain)
+    λ z. let l = delivered-first _ _ _ (c .before .before .before .before .first-delivered .ensures) z in
+    rw (l, c .before .before .before .before .before .before .before .own .ensures) (read-drains (a .p) (a .handle) (now (a .ring)) (now (a .table)) (now (a .buffer)) _ _ (c .before .before .before .before .before .before .before .before .before .read-answer .ensures) (c .before .before .before .before .before .before .before .before .count-of .ensures) z .drain)
 
 no-visits-requires : tie.Need-no-visits-requires
 no-visits-requires c κs = search needs
@@ -41,7 +42,7 @@ same-length c = search needs
 returns : tie.Need-returns
 returns c = let a = c .before .before .before .before .before .before .before .before .before .before .before .before .before .before .before .before .args in
     ends-read (a .p) (a .handle) (a .peek) (now (a .ring)) (now (a .table)) (now (a .buffer)) _ _ _ _ _ _ _ _ (c .before .before .before .before .before .before .before .before .before .before .before .before .read-answer .ensures) (c .before .before .before .before .before .before .before .before .before .before .before .count-of .ensures) (c .before .before .before .before .before .before .before .before .before .before .own .ensures) (c .before .before .before .before .before .before .before .before .before .peer .ensures)
-    (c .before .before .before .before .before .before .before .first-length .ensures) (c .before .before .before .before .before .deliver .ensures) (c .before .before .consumed-ends .ensures) (rw (c .before .no-visits .ensures) at (c .put-back .ensures))
+    (c .before .before .before .before .before .before .before .first-delivered .ensures) (c .before .before .before .before .before .deliver .ensures) (c .before .before .consumed-ends .ensures) (rw (c .before .no-visits .ensures) at (c .put-back .ensures))
 
 pub read-ends-spec : {M : Type 1} → statement M
-read-ends-spec = tie.close (tie.spec read-answer-requires count-of-requires own-requires peer-requires first-length-requires deliver-requires consumed-ends-requires no-visits-requires put-back-requires same-length returns)
+read-ends-spec = tie.close (tie.spec read-answer-requires count-of-requires own-requires peer-requires first-delivered-requires deliver-requires consumed-ends-requires no-visits-requires put-back-requires same-length returns)

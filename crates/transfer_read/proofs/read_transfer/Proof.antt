@@ -1,6 +1,6 @@
 use denote.Ref.{now}
 use Rattle.transfer_read.proofs.Moved.{read-drains}
-use Rattle.transfer_read.proofs.Outcomes.{transfer-read}
+use Rattle.transfer_read.proofs.Outcomes.{delivered-first, transfer-read}
 use borrow.Author.Needs.{needs}
 use Rattle.transfer_read.proofs.read_transfer.Statement.{statement}
 use Rattle.transfer_read.proofs.read_transfer.Tie as tie
@@ -17,8 +17,8 @@ own-requires c κs = search needs
 peer-requires : tie.Need-peer-requires
 peer-requires c κs = search needs
 
-first-length-requires : tie.Need-first-length-requires
-first-length-requires c κs = search needs
+first-delivered-requires : tie.Need-first-delivered-requires
+first-delivered-requires c κs = search needs
 
 deliver-requires : tie.Need-deliver-requires
 deliver-requires c κs = let a = c .before .before .before .before .before .before .before .before .before .before .args in
@@ -27,7 +27,8 @@ deliver-requires c κs = let a = c .before .before .before .before .before .befo
 
 drain-transfer-requires : tie.Need-drain-transfer-requires
 drain-transfer-requires c κs = let a = c .before .before .before .before .before .before .before .before .before .before .before .before .before .args in
-    λ z. rw (c .before .before .before .before .first-length .ensures, c .before .before .before .before .before .before .before .own .ensures) (read-drains (a .p) (a .handle) (now (a .ring)) (now (a .table)) (now (a .buffer)) _ _ (c .before .before .before .before .before .before .before .before .before .plain-read-answer .ensures) (c .before .before .before .before .before .before .before .before .count-of .ensures) z .drain)
+    λ z. let l = delivered-first _ _ _ (c .before .before .before .before .first-delivered .ensures) z in
+    rw (l, c .before .before .before .before .before .before .before .own .ensures) (read-drains (a .p) (a .handle) (now (a .ring)) (now (a .table)) (now (a .buffer)) _ _ (c .before .before .before .before .before .before .before .before .before .plain-read-answer .ensures) (c .before .before .before .before .before .before .before .before .count-of .ensures) z .drain)
 
 same-length : tie.Need-same-length
 same-length c = search needs
@@ -35,7 +36,7 @@ same-length c = search needs
 returns : tie.Need-returns
 returns c = let a = c .before .before .before .before .before .before .before .before .before .before .before .before .before .before .args in
     transfer-read (a .p) (a .handle) (a .peek) (now (a .ring)) (now (a .table)) (now (a .buffer)) _ _ _ _ _ _ _ (c .before .before .before .before .before .before .before .before .before .before .plain-read-answer .ensures) (c .before .before .before .before .before .before .before .before .before .count-of .ensures) (c .before .before .before .before .before .before .before .before .own .ensures) (c .before .before .before .before .before .before .before .peer .ensures)
-    (c .before .before .before .before .before .first-length .ensures) (c .before .before .before .deliver .ensures) (c .drain-transfer .ensures)
+    (c .before .before .before .before .before .first-delivered .ensures) (c .before .before .before .deliver .ensures) (c .drain-transfer .ensures)
 
 pub read-transfer-spec : {M : Type 1} → statement M
 read-transfer-spec =
@@ -45,7 +46,7 @@ read-transfer-spec =
     count-of-requires
     own-requires
     peer-requires
-    first-length-requires
+    first-delivered-requires
     deliver-requires
     drain-transfer-requires
     same-length
