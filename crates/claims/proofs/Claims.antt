@@ -5,7 +5,7 @@ use Rattle.runs.proofs.Whole.{runs-match}
 use Rattle.runs.proofs.Exists.{runs-exist}
 use Rattle.claims.proofs.TwoRuns.{two-runs}
 use Rattle.claims.proofs.Example.{differ}
-use Rattle.claims.proofs.Refused.{refused-changes-nothing}
+use Rattle.claims.proofs.Refused.{refused-changes-nothing, memory-at-exit}
 use Rattle.claims.proofs.RunsSound.{runs-are-sound}
 use Rattle.cases.proofs.Lines.{lines-match}
 use Rattle.cases.proofs.Edges.{at-the-edges, in-order, packets-in-order}
@@ -18,6 +18,7 @@ claims =
       runsExist = runs-exist;
       example = differ;
       refused = refused-changes-nothing;
+      memory = memory-at-exit;
       sound = runs-are-sound;
       calls = calls-match;
       runs = runs-match;

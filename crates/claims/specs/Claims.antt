@@ -1,7 +1,7 @@
 -- All that is claimed of runs of calls, as one record. proofs/Claims has its proof. 01 "Two runs", "Status and answer word", "At the edges".
 use Rattle.runs.specs.Match.{CallsMatch, RunsMatch, RunsExist}
 use Rattle.claims.specs.TwoRuns.{TwoRuns}
-use Rattle.claims.specs.Laws.{RefusedChangesNothing, RunsAreSound}
+use Rattle.claims.specs.Laws.{RefusedChangesNothing, MemoryAtExit, RunsAreSound}
 use Rattle.cases.specs.Lines.{LinesMatch}
 use Rattle.cases.specs.Edges.{AtTheEdges}
 use Rattle.cases.specs.Orders.{Orders}
@@ -20,6 +20,8 @@ pub record Claims : Type 0 where
   pub example : Differ
   -- 01 "Status and answer word": a refused call changes nothing, and no run leaves a record on which a call is INTERNAL
   pub refused : RefusedChangesNothing
+  -- 01 "Calls over user memory": memory at exit
+  pub memory : MemoryAtExit
   pub sound : RunsAreSound
   -- a run of the code is the computed one
   pub calls : CallsMatch

@@ -1,5 +1,5 @@
--- Two laws of all calls: a refused call changes nothing, and no call of a run meets a record that no run leaves.
--- 01 "Status and answer word".
+-- Laws of all calls: a refused call changes nothing, memory at exit, and no call of a run meets a record that no run leaves.
+-- 01 "Status and answer word", "Calls over user memory".
 use mathlib.Core.Path.{_≡_}
 use mathlib.Core.Bool.{Bool, true, false}
 use mathlib.Core.List.{List, [], _∷_}
@@ -15,6 +15,7 @@ use Rattle.socket.specs.Pair.{own, newPair, noPair}
 use Rattle.socket.specs.Tests.{soundPair, Steps}
 use Rattle.runs.specs.Calls.{Create, Input}
 use Rattle.runs.specs.State.{Slices, State, state, ownSlices, Outcome}
+use Rattle.runs.specs.Memory.{memoryAfter}
 use Rattle.runs.specs.Run.{Does, createdBy}
 
 -- ---- refused calls
@@ -29,6 +30,15 @@ pub record Unchanged (s : State) (i : Input) (s′ : State) (o : Outcome) : Type
 abbrev pub RefusedChangesNothing : Type 0
 RefusedChangesNothing =
     (s : State) (i : Input) (s′ : State) (o : Outcome) → Does s i s′ o → (e : Status) → o .seen .answer ≡ Refused e → Unchanged s i s′ o
+
+-- ---- memory at exit
+
+-- of any state and any call of the code: memory at exit is told by memory at entry, the call, its answer and the bytes delivered. 01 "Calls over
+-- user memory", "Two runs".
+abbrev pub MemoryAtExit : Type 0
+MemoryAtExit =
+    (s : State) (i : Input) (s′ : State) (o : Outcome) → Does s i s′ o
+    → o .memory ≡ memoryAfter (i .base) (i .memory) (i .call) (o .seen .answer) (o .delivered)
 
 -- ---- runs
 

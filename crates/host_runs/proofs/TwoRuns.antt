@@ -10,6 +10,7 @@ use Rattle.host_values.specs.Signal.{signalNumber}
 use Rattle.runs.specs.Calls.{Call, Input, Public, public}
 use Rattle.runs.specs.State.{Seen, seenOf, Outcome}
 use Rattle.runs.specs.Run.{createdBy}
+use Rattle.runs.specs.Memory.{memoriesAfter}
 use Rattle.claims.specs.TwoRuns.{seen, answers, calls}
 use Rattle.claims.proofs.Claims.{claims}
 use Rattle.host_runs.specs.Runs.{inputs, arraysIn, pairsOf, arraysAfter}
@@ -62,4 +63,6 @@ exported-two-runs c one two one′ two′ e k xs xs′ same p p′ ys ys′ r r�
           ∙ sym (ap₂ (λ (cs : List Call) (given : List Answer). arraysAfter cs given (arraysIn xs′)) (calls-same (inputs xs) (inputs xs′) same) rs);
       first = ap (map (map some)) (a .gives .bytes) ∙ t .first;
       second = ap (map (map some)) (b .gives .bytes) ∙ t .second;
+      memory = a .gives .memories ∙ t .memory ∙ ap (memoriesAfter (inputs xs) (answers os)) (sym (a .gives .bytes));
+      memory′ = b .gives .memories ∙ t .memory′ ∙ ap (memoriesAfter (inputs xs′) (answers os)) (sym (b .gives .bytes));
     }

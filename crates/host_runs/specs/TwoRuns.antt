@@ -13,11 +13,12 @@ use Rattle.socket.specs.Pair.{shownBy}
 use Rattle.host_values.specs.Signal.{signalNumber}
 use Rattle.runs.specs.Calls.{Create, public}
 use Rattle.runs.specs.State.{Slices}
+use Rattle.runs.specs.Memory.{memoriesAfter}
 use Rattle.claims.specs.Origins.{sources, found}
 use Rattle.claims.specs.TwoRuns.{calls, SameLengths}
 use Rattle.host_runs.specs.Contracts.{Creates}
 use Rattle.host_runs.specs.Passed.{Passed, Returned}
-use Rattle.host_runs.specs.Runs.{ExportedRun, inputs, arraysIn, wordsOf, pairsOf, bytesOf, arraysOf, arraysAfter}
+use Rattle.host_runs.specs.Runs.{ExportedRun, inputs, arraysIn, wordsOf, pairsOf, bytesOf, memoriesOf, arraysOf, arraysAfter}
 
 -- creates with the same arguments and lengths return the same word, whatever the records and slices hold
 abbrev pub CreatesAlike : Type 0
@@ -43,9 +44,12 @@ pub record ExportedAlike (datagram : Bool) (xs xs′ : List Passed) (p p′ : Pa
   pub answered : wordsOf ys ≡ map answerWord answers
   pub arrays : arraysOf ys ≡ arraysAfter (calls (inputs xs)) answers (arraysIn xs)
   pub arrays′ : arraysOf ys′ ≡ arraysAfter (calls (inputs xs)) answers (arraysIn xs′)
-  -- and the bytes delivered in each run are those found at the sources, one list of sources for both
+  -- the bytes delivered in each run are those found at the sources, one list of sources for both,
   pub first : map (map some) (bytesOf ys) ≡ map (map (found (inputs xs))) (sources datagram (calls (inputs xs)) answers)
   pub second : map (map some) (bytesOf ys′) ≡ map (map (found (inputs xs′))) (sources datagram (calls (inputs xs)) answers)
+  -- and memory at exit of each call is told by what it held at entry, the call, its answer and the bytes delivered, in each run
+  pub memory : memoriesOf ys ≡ memoriesAfter (inputs xs) answers (bytesOf ys)
+  pub memory′ : memoriesOf ys′ ≡ memoriesAfter (inputs xs′) answers (bytesOf ys′)
 
 -- Any list of exported calls, run twice. Create's arguments and the slices' lengths are the same in both runs, and so are the calls, their
 -- arguments, bases and memory lengths. Rings, tables and the record hold anything before create, memory and arrays anything at each call, in
