@@ -94,4 +94,6 @@ wordOf s i = answerWord (answerOf s i)
 
 -- a run of the code shows the computed lines
 abbrev pub LinesMatch : Type 0
-LinesMatch = (c : Create) (one two : Slices) (is : List Input) (x : Seen) (os : List Outcome) → Run c one two is x os → shownLines x os ≡ linesOf c one two is
+LinesMatch =
+    (c : Create) (one two : Slices) (is : List Input) (x : Seen) (os : List Outcome) (s : State)
+    → Run c one two is x os s → shownLines x os ≡ linesOf c one two is

@@ -202,7 +202,7 @@ module _ (c : Create) (one two one′ two′ : Slices) (e : SameLengths one one�
       }
 
 pub two-runs : TwoRuns
-two-runs c one two one′ two′ e k is js same x y os os′ r r′ =
-    let a = runs-match c one two is x os r in
-    let b = runs-match c one′ two′ js y os′ r′ in
+two-runs c one two one′ two′ e k is js same x y os os′ s s′ r r′ =
+    let a = runs-match c one two is x os s r in
+    let b = runs-match c one′ two′ js y os′ s′ r′ in
     rw (a .create, b .create, a .calls, b .calls) (alike c one two one′ two′ e k is js same)

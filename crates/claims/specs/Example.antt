@@ -6,9 +6,9 @@ use mathlib.Core.Bool.{true, false}
 use mathlib.Core.List.{List, [], _∷_}
 use lib.ListN.{replicate}
 use Rattle.runs.specs.Calls.{write, read, plainWrite, plainRead, close, Input, input}
-use Rattle.runs.specs.State.{Slices, Seen, seenOf, Outcome}
+use Rattle.runs.specs.State.{Slices, State, Seen, seenOf, Outcome}
 use Rattle.runs.specs.Run.{Run, createdBy}
-use Rattle.runs.specs.Step.{outcomes, pairCreated, start}
+use Rattle.runs.specs.Step.{outcomes, afterAll, pairCreated, start}
 use Rattle.claims.specs.Origins.{Origin, origins, flat, added, shrunk, removed, linesAfter, sourceOf, sourcesFrom, sources}
 use Rattle.claims.specs.TwoRuns.{answers, delivered, calls, Alike}
 use Rattle.cases.specs.Lines.{linesOf}
@@ -47,6 +47,10 @@ unfoldable pub outcomesOf : Slices → List Input → List Outcome
 unfolding linesOf
 outcomesOf l is = outcomes (start (create datagram 7) l l) is
 
+unfoldable pub lastOf : Slices → List Input → State
+unfolding linesOf
+lastOf l is = afterAll (start (create datagram 7) l l) is
+
 unfoldable pub createOf : Slices → Seen
 unfolding linesOf
 createOf l = seenOf (createdBy (create datagram 7) l l) (pairCreated (create datagram 7) (createdBy (create datagram 7) l l))
@@ -60,8 +64,8 @@ from call offset = record { call = call; offset = offset }
 
 pub record Differ : Type 0 where
   -- both are runs of the code, and alike
-  pub run1 : Run (create datagram 7) empty empty salary (createOf empty) (outcomesOf empty salary)
-  pub run2 : Run (create datagram 7) used used filler (createOf used) (outcomesOf used filler)
+  pub run1 : Run (create datagram 7) empty empty salary (createOf empty) (outcomesOf empty salary) (lastOf empty salary)
+  pub run2 : Run (create datagram 7) used used filler (createOf used) (outcomesOf used filler) (lastOf used filler)
   pub alike : Alike true salary filler (createOf empty) (createOf used) (outcomesOf empty salary) (outcomesOf used filler)
   -- what each delivers
   pub first :

@@ -2,21 +2,19 @@
 -- 01 "Status and answer word", "Calls over user memory".
 use mathlib.Core.Path.{_≡_}
 use mathlib.Core.Bool.{Bool, true, false}
-use mathlib.Core.List.{List, [], _∷_}
+use mathlib.Core.List.{List, []}
 use lib.ListN.{length}
-use lib.Dec.{eqb}
 use Rattle.status.specs.declared.Status.{Status}
 use Rattle.status.specs.declared.Status.the-variants.{Internal}
 use Rattle.status.specs.declared.Answer.the-variants.{Refused}
 use Rattle.status.specs.Answer.{isDone}
 use Rattle.endpoint.specs.Queue.{shortSlices, firstLength, badFirst}
-use Rattle.socket.specs.declared.Step.{Step}
-use Rattle.socket.specs.Pair.{own, newPair, noPair}
-use Rattle.socket.specs.Tests.{soundPair, Steps}
+use Rattle.socket.specs.Pair.{own}
+use Rattle.socket.specs.Tests.{soundPair}
 use Rattle.runs.specs.Calls.{Create, Input}
-use Rattle.runs.specs.State.{Slices, State, state, ownSlices, Outcome}
+use Rattle.runs.specs.State.{Slices, State, ownSlices, Seen, Outcome}
 use Rattle.runs.specs.Memory.{memoryAfter}
-use Rattle.runs.specs.Run.{Does, createdBy}
+use Rattle.runs.specs.Run.{Does, Run}
 
 -- ---- refused calls
 
@@ -42,11 +40,6 @@ MemoryAtExit =
 
 -- ---- runs
 
--- the states that a run reaches by a list of calls
-pub data Reaches : State → List Input → State → Type 0 where
-  here : {s : State} → Reaches s [] s
-  by : {s s′ s″ : State} {i : Input} {o : Outcome} {is : List Input} → Does s i s′ o → Reaches s′ is s″ → Reaches s (i ∷ is) s″
-
 -- a state on which the tests of the record, of the slices and of the first lengths are passed, and no call is INTERNAL
 pub record Sound (s : State) : Type 0 where
   pub sound : soundPair (s .pair) ≡ true
@@ -54,11 +47,9 @@ pub record Sound (s : State) : Type 0 where
   pub first : (t : Bool) → badFirst (s .pair .datagram) (own t (s .pair) .queue) (firstLength (s .pair .datagram) (own t (s .pair) .queue) (ownSlices t s .table)) ≡ false
   pub answers : (i : Input) (s′ : State) (o : Outcome) → Does s i s′ o → o .seen .answer ≡ Refused Internal → ⊥
 
--- from a done create on, every state of every run is so
+-- From a done create on, every state of every run is so: a state of a run is the last one of the run of the calls before it.
 abbrev pub RunsAreSound : Type 0
 RunsAreSound =
-    (c : Create) (one two : Slices) (r : Step)
-    → Steps noPair (createdBy c one two) (newPair (eqb (c .kind) 1) (c .capacity) (c .rights1) (c .rights2)) r
-    → isDone (r .answer) ≡ true
-    → (is : List Input) (s : State) → Reaches (state (r .pair) one two) is s
+    (c : Create) (one two : Slices) (is : List Input) (x : Seen) (os : List Outcome) (s : State)
+    → Run c one two is x os s → isDone (x .answer) ≡ true
     → Sound s

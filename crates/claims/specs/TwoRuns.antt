@@ -9,7 +9,7 @@ use lib.ListN.{length}
 use lib.Dec.{eqb}
 use Rattle.status.specs.declared.Answer.{Answer}
 use Rattle.runs.specs.Calls.{Create, Call, Input, public}
-use Rattle.runs.specs.State.{Slices, Seen, Outcome}
+use Rattle.runs.specs.State.{Slices, State, Seen, Outcome}
 use Rattle.runs.specs.Run.{Run}
 use Rattle.runs.specs.Memory.{memoriesAfter}
 use Rattle.claims.specs.Origins.{sources, found}
@@ -52,5 +52,5 @@ abbrev pub TwoRuns : Type 0
 TwoRuns =
     (c : Create) (one two one′ two′ : Slices) → SameLengths one one′ → SameLengths two two′
     → (is js : List Input) → map public is ≡ map public js
-    → (x y : Seen) (os os′ : List Outcome) → Run c one two is x os → Run c one′ two′ js y os′
+    → (x y : Seen) (os os′ : List Outcome) (s s′ : State) → Run c one two is x os s → Run c one′ two′ js y os′ s′
     → Alike (eqb (c .kind) 1) is js x y os os′

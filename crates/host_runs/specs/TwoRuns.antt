@@ -12,7 +12,7 @@ use Rattle.socket.specs.declared.Pair.{Pair}
 use Rattle.socket.specs.Pair.{shownBy}
 use Rattle.host_values.specs.Signal.{signalNumber}
 use Rattle.runs.specs.Calls.{Create, public}
-use Rattle.runs.specs.State.{Slices}
+use Rattle.runs.specs.State.{Slices, State}
 use Rattle.runs.specs.Memory.{memoriesAfter}
 use Rattle.claims.specs.Origins.{sources, found}
 use Rattle.claims.specs.TwoRuns.{calls, SameLengths}
@@ -58,5 +58,5 @@ abbrev pub ExportedTwoRuns : Type 0
 ExportedTwoRuns =
     (c : Create) (one two one′ two′ : Slices) → SameLengths one one′ → SameLengths two two′
     → (xs xs′ : List Passed) → map public (inputs xs) ≡ map public (inputs xs′)
-    → (p p′ : Pair) (ys ys′ : List Returned) → ExportedRun c one two xs p ys → ExportedRun c one′ two′ xs′ p′ ys′
+    → (p p′ : Pair) (ys ys′ : List Returned) (s s′ : State) → ExportedRun c one two xs p ys s → ExportedRun c one′ two′ xs′ p′ ys′ s′
     → ExportedAlike (eqb (c .kind) 1) xs xs′ p p′ ys ys′

@@ -19,7 +19,7 @@ use Rattle.user_memory.specs.Memory.{countLanded}
 use Rattle.syscall.specs.Write.{userWriteAnswer}
 use Rattle.syscall.specs.Read.{isPeek, userReadAnswer}
 use Rattle.runs.specs.Calls.{Input}
-use Rattle.runs.specs.State.{State, state, ownSlices, peerSlices, withPair, withPeer, seenOf, gives}
+use Rattle.runs.specs.State.{Slices, State, state, ownSlices, peerSlices, withPair, withPeer, seenOf, gives}
 use Rattle.runs.specs.Run.{did-write, did-read, did-dispose, did-shutdown, did-plain-write, did-plain-read, did-plain-dispose, did-plain-shutdown, did-read-threshold, did-write-threshold, did-thresholds, did-info, did-wait, did-take, did-close}
 use Rattle.runs.specs.Answers.{view, ownLent, peerLent, controlAnswer, answerTo, controlled, pairAfter}
 use Rattle.runs.specs.Memory.{memoryAfter}
@@ -57,14 +57,23 @@ module _ (s : State) (i : Input) where
       → stateAfter s i (i .call) r p ≡ withPair p s
       → d ≡ deliveredBy s i r
       → m ≡ memoryAfter (i .base) (i .memory) (i .call) r d
-      → Matches s i (withPair p s) (record { seen = seenOf r p; delivered = d; memory = m })
+      → Matches s i (withPair p s) (record { seen = seenOf r p; delivered = d; memory = m; one = s .one; two = s .two })
   unfolding after outcome
   same-slices r p d m er ep es ed em =
+      let e : withPair p s ≡ afterBy s i r = sym es ∙ ap (stateAfter s i (i .call) r) ep in
       record {
-        state = sym es ∙ ap (stateAfter s i (i .call) r) ep ∙ ap (afterBy s i) er;
+        state = e ∙ ap (afterBy s i) er;
         out =
-            (λ k. record { seen = seenOf r (ep k); delivered = ed k; memory = (em ∙ ap (memoryAfter (i .base) (i .memory) (i .call) r) ed) k })
+            (λ k.
+            record {
+              seen = seenOf r (ep k);
+              delivered = ed k;
+              memory = (em ∙ ap (memoryAfter (i .base) (i .memory) (i .call) r) ed) k;
+              one = e k .one;
+              two = e k .two;
+            })
             ∙ ap (outcomeBy s i) er;
+        left = refl;
       }
 
   -- a call that is lent nothing
@@ -74,7 +83,7 @@ module _ (s : State) (i : Input) where
       → ((x : Answer) (p : Pair) → stateAfter s i (i .call) x p ≡ withPair p s)
       → ((x : Answer) → [] ≡ deliveredBy s i x)
       → ((x : Answer) → i .memory ≡ memoryAfter (i .base) (i .memory) (i .call) x [])
-      → Matches s i (withPair (r .pair) s) (gives r [] (i .memory))
+      → Matches s i (withPair (r .pair) s) (gives r s [] (i .memory))
   steps q r e fp fs fd fm =
       same-slices (r .answer) (r .pair) [] (i .memory) (e .answer)
       (e .pair ∙ sym (ap (λ (x : Answer). pick (isDone x) q (s .pair)) (e .answer)) ∙ sym (fp (r .answer)))
@@ -88,6 +97,11 @@ wrote : (t : Bool) (s : State) (p p′ : Pair) (ring ring′ table table′ : Li
 wrote true s p p′ ring ring′ table table′ a b c = λ k. record { pair = a k; one = s .one; two = record { ring = b k; table = c k } }
 wrote false s p p′ ring ring′ table table′ a b c = λ k. record { pair = a k; one = record { ring = b k; table = c k }; two = s .two }
 
+-- the slices and the pair tell the state
+wrote-left : (t : Bool) (p : Pair) (l : Slices) (s : State) → withPeer t p l s ≡ state p (withPeer t p l s .one) (withPeer t p l s .two)
+wrote-left true p l s = refl
+wrote-left false p l s = refl
+
 does-write : (s : State) (i : Input) (h : ℕ) (src ring′ table′ m : List ℕ) (r : Step)
     → r .answer ≡ answerOf s i
     → r .pair ≡ pairWritten (s .pair) h (countOf (r .answer))
@@ -97,22 +111,25 @@ does-write : (s : State) (i : Input) (h : ℕ) (src ring′ table′ m : List �
     → ((x : Answer) (p : Pair) → stateAfter s i (i .call) x p ≡ written s h (countOf x) src)
     → ((x : Answer) → [] ≡ deliveredBy s i x)
     → m ≡ memoryAfter (i .base) (i .memory) (i .call) (r .answer) []
-    → Matches s i (withPeer (isOne h) (r .pair) (record { ring = ring′; table = table′ }) s) (gives r [] m)
+    → Matches s i (withPeer (isOne h) (r .pair) (record { ring = ring′; table = table′ }) s)
+    (gives r (withPeer (isOne h) (r .pair) (record { ring = ring′; table = table′ }) s) [] m)
 unfolding after outcome written
 does-write s i h src ring′ table′ m r er ep eb el fp fs fd em =
+    let e : withPeer (isOne h) (r .pair) (record { ring = ring′; table = table′ }) s ≡ afterBy s i (r .answer) =
+    wrote (isOne h) s (r .pair) _ ring′ _ table′ _ ep eb el ∙ sym (fs (r .answer) (pairAfter (view s) (i .call) (r .answer))) in
     record {
-      state =
-          wrote (isOne h) s (r .pair) _ ring′ _ table′ _ ep eb el
-          ∙ ap (λ (x : Answer). written s h (countOf x) src) er
-          ∙ sym (fs (answerOf s i) (pairAfter (view s) (i .call) (answerOf s i)));
+      state = e ∙ ap (afterBy s i) er;
       out =
           (λ k.
           record {
             seen = seenOf (r .answer) ((ep ∙ sym (fp (r .answer))) k);
             delivered = fd (r .answer) k;
             memory = (em ∙ ap (memoryAfter (i .base) (i .memory) (i .call) (r .answer)) (fd (r .answer))) k;
+            one = e k .one;
+            two = e k .two;
           })
           ∙ ap (outcomeBy s i) er;
+      left = wrote-left (isOne h) (r .pair) _ s;
     }
 
 -- ---- each call

@@ -77,6 +77,8 @@ outcomeBy s i r =
       seen = seenOf r (pairAfter (view s) (i .call) r);
       delivered = deliveredBy s i r;
       memory = memoryAfter (i .base) (i .memory) (i .call) r (deliveredBy s i r);
+      one = afterBy s i r .one;
+      two = afterBy s i r .two;
     }
 
 unfoldable pub after : State → Input → State
@@ -88,6 +90,11 @@ outcome s i = outcomeBy s i (answerOf s i)
 unfoldable pub outcomes : State → List Input → List Outcome
 outcomes s [] = []
 outcomes s (i ∷ is) = outcome s i ∷ outcomes (after s i) is
+
+-- the state after a list of calls
+unfoldable pub afterAll : State → List Input → State
+afterAll s [] = s
+afterAll s (i ∷ is) = afterAll (after s i) is
 
 -- the pair that create hands back
 unfoldable pub pairCreated : Create → Answer → Pair
