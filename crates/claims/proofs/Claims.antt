@@ -4,7 +4,7 @@ use Rattle.runs.proofs.Match.{calls-match}
 use Rattle.runs.proofs.Whole.{runs-match}
 use Rattle.runs.proofs.Exists.{runs-exist}
 use Rattle.claims.proofs.TwoRuns.{two-runs}
-use Rattle.claims.proofs.Example.{differ}
+use Rattle.claims.proofs.Example.{examples}
 use Rattle.claims.proofs.Refused.{refused-changes-nothing, memory-at-exit}
 use Rattle.claims.proofs.RunsSound.{runs-are-sound}
 use Rattle.cases.proofs.Lines.{lines-match}
@@ -16,7 +16,7 @@ claims =
     record {
       twoRuns = two-runs;
       runsExist = runs-exist;
-      example = differ;
+      examples = examples;
       refused = refused-changes-nothing;
       memory = memory-at-exit;
       sound = runs-are-sound;
