@@ -5,6 +5,6 @@ use Rattle.cases.specs.Lines.{linesOf, shownLines, LinesMatch}
 
 pub lines-match : LinesMatch
 unfolding linesOf
-lines-match c one two is x os r =
-    let m = runs-match c one two is x os r in
+lines-match c one two is x os s r =
+    let m = runs-match c one two is x os s r in
     ap₂ shownLines (m .create) (m .calls)

@@ -55,7 +55,8 @@ use Rattle.user_read_answer.specs.Read.{userReadAnswer}
 use Rattle.syscall.specs.Read.{bytesLanded}
 use Rattle.user_write_answer.specs.Write.{writeRanges, userWriteAnswer}
 use Rattle.runs.specs.Answers.{controlAnswer, answerTo, controlled, pairAfter}
-use Rattle.runs.specs.Step.{written, stateAfter, landed, counted, deliveredIn, after, outcome, outcomes, pairCreated}
+use Rattle.runs.specs.Memory.{memoryAfter}
+use Rattle.runs.specs.Step.{written, stateAfter, landed, deliveredIn, after, outcome, outcomes, pairCreated}
 
 -- the answer word, both signal words, the bytes delivered, and the record of a done call that has one beside its count
 pub record Line : Type 0 where
@@ -82,7 +83,7 @@ shownLines x os = lineOf x [] ∷ map (λ (o : Outcome). lineOf (o .seen) (o .de
 
 -- the lines of a run, computed. To unfold it is to unfold all that a call computes with.
 unfoldable pub linesOf : Create → (one two : Slices) → List Input → List Line
-unfolding recordOf statusNumber recordCount answerWord countOf isDone refuseIf refuseUnless _then_ pick _and_ _or_ place front put filter firedOf insertedOf appendedOf registeredOf takenOf droppedOf changeOf changedWord meets packetsOf waitsOf unusedOf tableOf newPlaces endNumber waitOf observe packetOf fires fired kept ofOther others enables hasBacklog hasOpenBacklog enablesOver disposeChecks newEnd noEnd withQueue withSignals withReadDisabled withThresholds closedEnd shown unlessClosed infoOf noQueue soundLengths soundQueue shortTable shortSlices hasLength firstLength badFirst emptyAnswer availableIn readSize lostByReader gainedByWriter datagramSize writeSize reached missed bitIf gainedByPeer lostByWriter numbersAnswer createAnswer switchWriting disposeOwn disposePeer disposedOwn disposedPeer disposed shutdownAnswer shutEnd shut infoAnswer isHandle withEnd withPlaces withChange signalChange putBit switchReading newPair noPair readAnswer leaving drainedQueue consumed pairRead bufferRead soundEnds soundTest lentOf slicesTest tableTest isOpen handleTest openingTest readThresholdAnswer writeThresholdAnswer readThresholdSet writeThresholdSet thresholdsAnswer waitAnswer waited takeAnswer took closeAnswer closed writeAnswer fedQueue wrote pairWritten ringFed ringWritten tableFed tableWritten dispositionOf plainDisposeAnswer userDisposeAnswer userShutdownAnswer fits countFits isNull lookup littleEndian countLanded userReadAnswer bytesLanded writeRanges userWriteAnswer controlAnswer answerTo controlled pairAfter written stateAfter landed counted deliveredIn after outcome outcomes pairCreated
+unfolding recordOf statusNumber recordCount answerWord countOf isDone refuseIf refuseUnless _then_ pick _and_ _or_ place front put filter firedOf insertedOf appendedOf registeredOf takenOf droppedOf changeOf changedWord meets packetsOf waitsOf unusedOf tableOf newPlaces endNumber waitOf observe packetOf fires fired kept ofOther others enables hasBacklog hasOpenBacklog enablesOver disposeChecks newEnd noEnd withQueue withSignals withReadDisabled withThresholds closedEnd shown unlessClosed infoOf noQueue soundLengths soundQueue shortTable shortSlices hasLength firstLength badFirst emptyAnswer availableIn readSize lostByReader gainedByWriter datagramSize writeSize reached missed bitIf gainedByPeer lostByWriter numbersAnswer createAnswer switchWriting disposeOwn disposePeer disposedOwn disposedPeer disposed shutdownAnswer shutEnd shut infoAnswer isHandle withEnd withPlaces withChange signalChange putBit switchReading newPair noPair readAnswer leaving drainedQueue consumed pairRead bufferRead soundEnds soundTest lentOf slicesTest tableTest isOpen handleTest openingTest readThresholdAnswer writeThresholdAnswer readThresholdSet writeThresholdSet thresholdsAnswer waitAnswer waited takeAnswer took closeAnswer closed writeAnswer fedQueue wrote pairWritten ringFed ringWritten tableFed tableWritten dispositionOf plainDisposeAnswer userDisposeAnswer userShutdownAnswer fits countFits isNull lookup littleEndian countLanded userReadAnswer bytesLanded writeRanges userWriteAnswer controlAnswer answerTo controlled pairAfter written stateAfter landed memoryAfter deliveredIn after outcome outcomes pairCreated
 linesOf c one two is = shownLines (seenOf (createdBy c one two) (pairCreated c (createdBy c one two))) (outcomes (start c one two) is)
 
 -- the answer word of one call, computed
@@ -92,4 +93,6 @@ wordOf s i = answerWord (answerOf s i)
 
 -- a run of the code shows the computed lines
 abbrev pub LinesMatch : Type 0
-LinesMatch = (c : Create) (one two : Slices) (is : List Input) (x : Seen) (os : List Outcome) → Run c one two is x os → shownLines x os ≡ linesOf c one two is
+LinesMatch =
+    (c : Create) (one two : Slices) (is : List Input) (x : Seen) (os : List Outcome) (s : State)
+    → Run c one two is x os s → shownLines x os ≡ linesOf c one two is

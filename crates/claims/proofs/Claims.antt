@@ -4,8 +4,8 @@ use Rattle.runs.proofs.Match.{calls-match}
 use Rattle.runs.proofs.Whole.{runs-match}
 use Rattle.runs.proofs.Exists.{runs-exist}
 use Rattle.claims.proofs.TwoRuns.{two-runs}
-use Rattle.claims.proofs.Example.{differ}
-use Rattle.claims.proofs.Refused.{refused-changes-nothing}
+use Rattle.claims.proofs.Example.{examples}
+use Rattle.claims.proofs.Refused.{refused-changes-nothing, memory-at-exit}
 use Rattle.claims.proofs.RunsSound.{runs-are-sound}
 use Rattle.cases.proofs.Lines.{lines-match}
 use Rattle.cases.proofs.Edges.{at-the-edges, in-order, packets-in-order}
@@ -16,8 +16,9 @@ claims =
     record {
       twoRuns = two-runs;
       runsExist = runs-exist;
-      example = differ;
+      examples = examples;
       refused = refused-changes-nothing;
+      memory = memory-at-exit;
       sound = runs-are-sound;
       calls = calls-match;
       runs = runs-match;

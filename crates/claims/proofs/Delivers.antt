@@ -20,8 +20,8 @@ use Rattle.runs.specs.Calls.{Call, write, read, plainWrite, plainRead, close, c
 use Rattle.runs.specs.State.{Slices, State, ownSlices}
 use Rattle.runs.specs.Answers.{view, ownLent, answerTo}
 use Rattle.runs.specs.Step.{landed, deliveredIn}
+use Rattle.runs.proofs.Memory.{take-pasted}
 use Rattle.claims.specs.Origins.{Origin, Line, flat, Lines, ownLine, sourceOf}
-use Rattle.claims.proofs.Lists.{take-pasted}
 use Rattle.claims.proofs.Holds.{Size, Holds, firstOf, ring-long}
 use Rattle.claims.proofs.Moves.{Taken, front-line, taken-within}
 use Rattle.claims.proofs.Answers.{plain-taken, user-taken}

@@ -1,29 +1,48 @@
--- The run with two memories, by the claim and by computation. Assumes nothing.
+-- The runs with two memories, by the claim and by computation. Assumes nothing.
+use Prim.Native.Nat.{ℕ}
 use mathlib.Core.Path.{refl}
-use Rattle.cases.specs.Scripts.{datagram, create}
-use Rattle.claims.specs.Example.{salary, filler, empty, used, outcomesOf, createOf, sourcesOf, Differ}
+use mathlib.Core.List.{List}
+use Rattle.cases.specs.Scripts.{stream, datagram, create}
+use Rattle.claims.specs.Example.{salary, filler, streamSalary, streamFiller, empty, used, outcomesOf, lastOf, createOf, sourcesOf, OnDatagrams, OnStreams, Examples}
+use Rattle.runs.specs.Calls.{Input}
+use Rattle.runs.specs.State.{Slices}
 use Rattle.runs.specs.Run.{Run}
 use Rattle.runs.proofs.Exists.{runs-exist}
 use Rattle.claims.proofs.TwoRuns.{two-runs}
 
-run-salary : Run (create datagram 7) empty empty salary (createOf empty) (outcomesOf empty salary)
-unfolding createOf outcomesOf
-run-salary = runs-exist (create datagram 7) empty empty salary
+run-of : (kind : ℕ) (l : Slices) (is : List Input) → Run (create kind 7) l l is (createOf kind l) (outcomesOf kind l is) (lastOf kind l is)
+unfolding createOf outcomesOf lastOf
+run-of kind l is = runs-exist (create kind 7) l l is
 
-run-filler : Run (create datagram 7) used used filler (createOf used) (outcomesOf used filler)
-unfolding createOf outcomesOf
-run-filler = runs-exist (create datagram 7) used used filler
-
-pub differ : Differ
+on-datagrams : OnDatagrams
 unfolding outcomesOf sourcesOf
-differ =
+on-datagrams =
     record {
-      run1 = run-salary;
-      run2 = run-filler;
+      run1 = run-of datagram empty salary;
+      run2 = run-of datagram used filler;
       alike =
           two-runs (create datagram 7) empty empty used used (record { ring = refl; table = refl }) (record { ring = refl; table = refl }) salary filler refl
-          _ _ _ _ run-salary run-filler;
+          _ _ _ _ _ _ (run-of datagram empty salary) (run-of datagram used filler);
       first = refl;
       second = refl;
       sources = refl;
     }
+
+on-streams : OnStreams
+unfolding outcomesOf sourcesOf
+on-streams =
+    record {
+      run1 = run-of stream empty streamSalary;
+      run2 = run-of stream used streamFiller;
+      alike =
+          two-runs (create stream 7) empty empty used used (record { ring = refl; table = refl }) (record { ring = refl; table = refl })
+          streamSalary streamFiller refl
+          _ _ _ _ _ _ (run-of stream empty streamSalary) (run-of stream used streamFiller);
+      first = refl;
+      second = refl;
+      sources = refl;
+    }
+
+pub examples : Examples
+unfolding outcomesOf
+examples = record { datagrams = on-datagrams; streams = on-streams; rings = refl }

@@ -3,10 +3,10 @@
 use Prim.Native.Nat.{ℕ, _+_, _-_, _≤_, _<_}
 use mathlib.Core.Path.{_≡_, refl, sym, _∙_, subst}
 use mathlib.Core.Bool.{Bool, true, false}
-use mathlib.Core.List.{List, [], _∷_, _++_}
-use mathlib.Core.Option.{Option}
+use mathlib.Core.List.{List, [], map}
+use mathlib.Core.Option.{Option, some}
 use native.Mathlib.Omega.{arith}
-use lib.ListN.{length, drop, length-drop, getElem?}
+use lib.ListN.{length, take, drop, length-drop, getElem?}
 use lib.Dec.{eqb}
 use borrow.Author.Tests.{leb-true, eqb-false}
 use Rattle.status.specs.declared.Answer.{Answer}
@@ -30,7 +30,8 @@ use Rattle.runs.specs.Calls.{Control, setDisposition, shutdown, plainDispositio
 use Rattle.runs.specs.State.{Slices, State, peerSlices, withPair, withPeer}
 use Rattle.runs.specs.Answers.{view, ownLent, peerLent, controlAnswer, answerTo, controlled, pairAfter}
 use Rattle.runs.specs.Step.{written, stateAfter, answerOf, after}
-use Rattle.claims.specs.Origins.{Origin, origins, Line, Lines, ownLine, peerLine, withOwn, withPeerLine, added, shrunk, removed, linesAfter}
+use Rattle.claims.specs.Origins.{Origin, origins, Line, Lines, ownLine, withOwn, fed, added, shrunk, removed, linesAfter}
+use Rattle.claims.proofs.Lists.{length-origins, origin-bytes}
 use Rattle.claims.proofs.Holds.{Size, Holds, firstOf, first-is}
 use Rattle.claims.proofs.Moves.{fed-holds, Taken, drained-holds, no-holds}
 use Rattle.claims.proofs.Kept
@@ -73,8 +74,10 @@ module _ (f : Origin → Option ℕ) (dg : Bool) (z1 z2 : Size) where
 
   -- ---- write
 
-  module _ (w m : ℕ) (xs : List ℕ) (at : (o : ℕ) → f (record { call = w; offset = o }) ≡ getElem? xs o) (s : State) (ln : Lines) (v : Inv f dg z1 z2 s ln) where
-    fed-inv : (t : Bool) → 0 < m → peer t (s .pair) .queue .bytes .count + m ≤ s .pair .capacity → m ≤ length xs
+  -- a write whose m bytes stand at the origins of any group
+  module _ (group : List Origin) (m : ℕ) (xs : List ℕ) (s : State) (ln : Lines) (v : Inv f dg z1 z2 s ln) where
+    fed-inv : (t : Bool) → 0 < m → peer t (s .pair) .queue .bytes .count + m ≤ s .pair .capacity → m ≤ length xs → length group ≡ m
+        → map f group ≡ map some (take m xs)
         → Inv f dg z1 z2
         (withPeer t (wrote t m (s .pair))
         (record {
@@ -82,31 +85,32 @@ module _ (f : Origin → Option ℕ) (dg : Bool) (z1 z2 : Size) where
           table = tableFed (s .pair .datagram) (s .pair .capacity) (peer t (s .pair) .queue) m (peerSlices t s .table);
         })
         s)
-        (withPeerLine t (peerLine t ln ++ (origins w 0 m ∷ [])) ln)
+        (fed t group ln)
     unfolding withEnd withQueue
-    fed-inv true any fits has =
+    fed-inv true any fits has size at =
         inv-kept _ (wrote true m (s .pair)) (s .one) _ _ (Kept.wrote-kept true m (s .pair))
         (record {
           kind = v .kind;
           high = v .high;
           places = v .places;
           one = v .one;
-          two = fed-holds f (s .pair .capacity) z2 (s .pair .two .queue) (s .two) (ln .two) w m xs any fits has at (s .pair .datagram) (v .two);
+          two = fed-holds f (s .pair .capacity) z2 (s .pair .two .queue) (s .two) (ln .two) group m xs any fits has size at (s .pair .datagram) (v .two);
         })
-    fed-inv false any fits has =
+    fed-inv false any fits has size at =
         inv-kept _ (wrote false m (s .pair)) _ (s .two) _ (Kept.wrote-kept false m (s .pair))
         (record {
           kind = v .kind;
           high = v .high;
           places = v .places;
-          one = fed-holds f (s .pair .capacity) z1 (s .pair .one .queue) (s .one) (ln .one) w m xs any fits has at (s .pair .datagram) (v .one);
+          one = fed-holds f (s .pair .capacity) z1 (s .pair .one .queue) (s .one) (ln .one) group m xs any fits has size at (s .pair .datagram) (v .one);
           two = v .two;
         })
 
     pub written-inv : (h n : ℕ) → (0 < m → Room (s .pair .capacity) (peer (isOne h) (s .pair) .queue .bytes .count) n m) → (0 < m → m ≤ length xs)
-        → Inv f dg z1 z2 (written s h m xs) (added (isOne h) w m ln)
-    unfolding written pairWritten ringWritten tableWritten added pick
-    written-inv h n room has = go (isOne h) room (eqb m 0) refl
+        → length group ≡ m → (m ≤ length xs → map f group ≡ map some (take m xs))
+        → Inv f dg z1 z2 (written s h m xs) (pick (eqb m 0) ln (fed (isOne h) group ln))
+    unfolding written pairWritten ringWritten tableWritten pick
+    written-inv h n room has size at = go (isOne h) room (eqb m 0) refl
       where
         go : (t : Bool) → (0 < m → Room (s .pair .capacity) (peer t (s .pair) .queue .bytes .count) n m) → (b : Bool) → eqb m 0 ≡ b
             → Inv f dg z1 z2
@@ -116,13 +120,22 @@ module _ (f : Origin → Option ℕ) (dg : Bool) (z1 z2 : Size) where
               table = pick b (peerSlices t s .table) (tableFed (s .pair .datagram) (s .pair .capacity) (peer t (s .pair) .queue) m (peerSlices t s .table));
             })
             s)
-            (pick b ln (withPeerLine t (peerLine t ln ++ (origins w 0 m ∷ [])) ln))
+            (pick b ln (fed t group ln))
         go true room true e = v
         go false room true e = v
         go t room false e =
             let k : m ≡ 0 → ⊥ = eqb-false m 0 e in
             let any : 0 < m = omega (arith, k) in
-            fed-inv t any (room any .fits) (has any)
+            fed-inv t any (room any .fits) (has any) size (at (has any))
+
+  -- the group of one write
+  pub added-inv : (w m : ℕ) (xs : List ℕ) → ((o : ℕ) → f (record { call = w; offset = o }) ≡ getElem? xs o) → (s : State) (ln : Lines)
+      → Inv f dg z1 z2 s ln
+      → (h n : ℕ) → (0 < m → Room (s .pair .capacity) (peer (isOne h) (s .pair) .queue .bytes .count) n m) → (0 < m → m ≤ length xs)
+      → Inv f dg z1 z2 (written s h m xs) (added (isOne h) w m ln)
+  unfolding added
+  added-inv w m xs at s ln v h n room has =
+      written-inv (origins w 0 m) m xs s ln v h n room has (length-origins w 0 m) (λ k. origin-bytes f w xs at 0 m (omega (arith, k)))
 
   -- ---- read and close
 
@@ -225,12 +238,12 @@ module _ (f : Origin → Option ℕ) (dg : Bool) (z1 z2 : Size) where
     unfolding stateAfter answerTo pairAfter linesAfter
     call-inv w i (write h o a n at) bytes =
         let room = user-room (s .pair) (peerLent (isOne h) (view s)) h (i .base) (length (i .memory)) o a n at in
-        written-inv w _ (drop (a - i .base) (i .memory)) bytes s ln v h n (λ k. room k .0) (λ k. let x = room k .1 in simp length-drop (omega arith))
+        added-inv w _ (drop (a - i .base) (i .memory)) bytes s ln v h n (λ k. room k .0) (λ k. let x = room k .1 in simp length-drop (omega arith))
     call-inv w i (read h o a n at) bytes =
         read-inv h (isPeek o) _ (λ k. user-taken (s .pair) (ownLent (isOne h) (view s)) h (i .base) (length (i .memory)) o a n at k .0)
     call-inv w i (plainWrite h) bytes =
         let room = plain-room (s .pair) (peerLent (isOne h) (view s)) h (length (i .memory)) in
-        written-inv w _ (i .memory) bytes s ln v h (length (i .memory)) room (λ k. room k .within)
+        added-inv w _ (i .memory) bytes s ln v h (length (i .memory)) room (λ k. room k .within)
     call-inv w i (plainRead h peek) bytes = read-inv h peek _ (λ k. plain-taken (s .pair) (ownLent (isOne h) (view s)) h (length (i .memory)) k .0)
     call-inv w i (close h) bytes = close-inv (isOne h) _
     call-inv w i (control c) bytes = steps-inv s ln (controlled c (s .pair)) (controlAnswer (view s) c) (control-kept c) v

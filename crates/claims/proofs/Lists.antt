@@ -6,7 +6,7 @@ use mathlib.Core.Option.{Option, some}
 use native.Mathlib.Omega.{arith}
 use native.Mathlib.Nat.{not-suc-le-zero, le-of-suc-le-suc}
 use lib.ListN.{length, getD, take, drop, length-append, getElem?}
-use lib.Seq.{paste, drop-cons, drop-at, take-at, length-take-le}
+use lib.Seq.{drop-cons}
 use Rattle.claims.specs.Origins.{Origin, origins, Line, flat}
 
 -- ---- lists
@@ -27,13 +27,6 @@ map-take f (suc n) (x ∷ xs) = ap (λ l. f x ∷ l) (map-take f n xs)
 
 pub cons-path : {A : Type 0} {x y : A} {xs ys : List A} → x ≡ y → xs ≡ ys → x ∷ xs ≡ y ∷ ys
 cons-path p q = λ i. p i ∷ q i
-
--- entries that were pasted are found where they were pasted
-pub take-pasted : (l xs : List ℕ) (at n : ℕ) → at + n ≤ length l → n ≤ length xs → take n (drop at (paste l at xs n)) ≡ take n xs
-take-pasted l xs at n fits has =
-    ap (λ (k : List ℕ). take n (drop at k)) (append-assoc (take at l) (take n xs) (drop (at + n) l))
-    ∙ ap (take n) (drop-at (take at l) (take n xs ++ drop (at + n) l) at (length-take-le at l (omega arith)))
-    ∙ take-at (take n xs) (drop (at + n) l) n (length-take-le n xs has)
 
 getElem-some : (xs : List ℕ) (o : ℕ) → o < length xs → getElem? xs o ≡ some (getD xs o 0)
 getElem-some [] o h = absurd (not-suc-le-zero h)

@@ -5,7 +5,7 @@ use mathlib.Core.Bool.{Bool, true, false}
 use mathlib.Core.List.{List, [], _∷_, _++_, map, append-nil}
 use mathlib.Core.Option.{Option, some}
 use native.Mathlib.Omega.{arith}
-use lib.ListN.{length, take, drop, length-append, length-set, getElem?}
+use lib.ListN.{length, take, drop, length-append, length-set}
 use lib.Seq.{drop-append-seam}
 use Rattle.status.specs.Choice.{pick}
 use Rattle.ring_place.specs.RingPlace.{place}
@@ -16,23 +16,24 @@ use Rattle.endpoint.specs.Queue.{noQueue}
 use Rattle.transfer_read.specs.Read.{leaving, drainedQueue}
 use Rattle.transfer_write.specs.Write.{fedQueue, ringFed, tableFed}
 use Rattle.runs.specs.State.{Slices}
-use Rattle.claims.specs.Origins.{Origin, origins, Line, flat, shrunk}
-use Rattle.claims.proofs.Lists.{map-append, map-drop, map-take, flat-snoc, length-origins, origin-bytes, full-snoc, full-drop, full-none, headLength}
+use Rattle.claims.specs.Origins.{Origin, Line, flat, shrunk}
+use Rattle.claims.proofs.Lists.{map-append, map-drop, map-take, flat-snoc, full-snoc, full-drop, full-none, headLength}
 use Rattle.claims.proofs.Holds.{Size, Holds, absurd-bool, firstOf, count-flat, few, ring-long, table-long}
 
 -- ---- bytes go in
 
-module _ (f : Origin → Option ℕ) (C : ℕ) (z : Size) (q : Queue) (l : Slices) (g : Line) (w m : ℕ) (xs : List ℕ)
-    (any : 0 < m) (fits : q .bytes .count + m ≤ C) (has : m ≤ length xs) (at : (o : ℕ) → f (record { call = w; offset = o }) ≡ getElem? xs o) where
+-- m bytes that stand at the origins of any group, of one write or of many
+module _ (f : Origin → Option ℕ) (C : ℕ) (z : Size) (q : Queue) (l : Slices) (g : Line) (group : List Origin) (m : ℕ) (xs : List ℕ)
+    (any : 0 < m) (fits : q .bytes .count + m ≤ C) (has : m ≤ length xs) (size : length group ≡ m) (at : map f group ≡ map some (take m xs)) where
   fed-bytes : (dg : Bool) → Holds f dg C z q l g
-      → map some (front C (q .bytes .start) (q .bytes .count + m) (ringFed C q m xs (l .ring))) ≡ map f (flat (g ++ (origins w 0 m ∷ [])))
+      → map some (front C (q .bytes .start) (q .bytes .count + m) (ringFed C q m xs (l .ring))) ≡ map f (flat (g ++ (group ∷ [])))
   unfolding ringFed
   fed-bytes dg h =
       ap (map some) (front-put C (q .bytes .start) (q .bytes .count) m xs (l .ring) (h .start) fits (ring-long f dg C z q l g h) has)
       ∙ map-append some (front C (q .bytes .start) (q .bytes .count) (l .ring)) (take m xs)
       ∙ ap (λ (x : List (Option ℕ)). x ++ map some (take m xs)) (h .bytes)
-      ∙ ap (λ (x : List (Option ℕ)). map f (flat g) ++ x) (sym (origin-bytes f w xs at 0 m (omega arith)))
-      ∙ sym (ap (map f) (flat-snoc g (origins w 0 m)) ∙ map-append f (flat g) (origins w 0 m))
+      ∙ ap (λ (x : List (Option ℕ)). map f (flat g) ++ x) (sym at)
+      ∙ sym (ap (map f) (flat-snoc g group) ∙ map-append f (flat g) group)
 
   fed-ring : (dg : Bool) → Holds f dg C z q l g → length (ringFed C q m xs (l .ring)) ≡ z .ring
   unfolding ringFed
@@ -42,7 +43,7 @@ module _ (f : Origin → Option ℕ) (C : ℕ) (z : Size) (q : Queue) (l : Slice
       ∙ h .ring
 
   pub fed-holds : (dg : Bool) → Holds f dg C z q l g
-      → Holds f dg C z (fedQueue dg m q) (record { ring = ringFed C q m xs (l .ring); table = tableFed dg C q m (l .table) }) (g ++ (origins w 0 m ∷ []))
+      → Holds f dg C z (fedQueue dg m q) (record { ring = ringFed C q m xs (l .ring); table = tableFed dg C q m (l .table) }) (g ++ (group ∷ []))
   unfolding fedQueue tableFed pick
   fed-holds true h =
       let below : q .lengths .count < C = omega (arith, few f true C z q l g h refl) in
@@ -55,12 +56,12 @@ module _ (f : Origin → Option ℕ) (C : ℕ) (z : Size) (q : Queue) (l : Slice
         long = h .long;
         wide = h .wide;
         bytes = fed-bytes true h;
-        groups = λ d. omega (arith, h .groups refl, length-append g (origins w 0 m ∷ []));
+        groups = λ d. omega (arith, h .groups refl, length-append g (group ∷ []));
         lengths = λ d.
             front-set C (q .lengths .start) (q .lengths .count) m (l .table) (h .first) below (table-long f true C z q l g h refl)
             ∙ ap (λ (x : List ℕ). x ++ (m ∷ [])) (h .lengths refl)
-            ∙ sym (map-append length g (origins w 0 m ∷ []) ∙ ap (λ (n : ℕ). map length g ++ (n ∷ [])) (length-origins w 0 m));
-        full = λ d. full-snoc (origins w 0 m) (h .full refl) (omega (arith, length-origins w 0 m));
+            ∙ sym (map-append length g (group ∷ []) ∙ ap (λ (n : ℕ). map length g ++ (n ∷ [])) size);
+        full = λ d. full-snoc group (h .full refl) (omega (arith, size));
       }
   fed-holds false h =
       record {

@@ -1,6 +1,6 @@
--- A refused call changes nothing, whatever it is called on. Assumes nothing.
+-- A refused call changes nothing, whatever it is called on; memory at exit. Assumes nothing.
 use Prim.Native.Nat.{ℕ}
-use mathlib.Core.Path.{_≡_, refl, sym, ap, _∙_}
+use mathlib.Core.Path.{_≡_, refl, sym, ap, ap₂, _∙_}
 use mathlib.Core.Bool.{Bool, true, false}
 use mathlib.Core.List.{List, []}
 use Rattle.status.specs.declared.Status.{Status}
@@ -8,19 +8,19 @@ use Rattle.status.specs.declared.Answer.{Answer}
 use Rattle.status.specs.declared.Answer.the-variants.{Refused}
 use Rattle.status.specs.Choice.{pick, _or_}
 use Rattle.status.specs.Answer.{countOf, isDone}
-use Rattle.transfer_read.specs.Read.{bufferRead}
 use Rattle.transfer_write.specs.Write.{ringWritten, tableWritten}
 use Rattle.socket.specs.declared.Pair.{Pair}
 use Rattle.socket.specs.Pair.{isOne}
 use Rattle.socket.specs.Write.{pairWritten}
 use Rattle.socket.specs.Read.{pairRead}
-use Rattle.syscall.specs.Read.{isPeek, bytesLanded}
+use Rattle.syscall.specs.Read.{isPeek}
 use Rattle.runs.specs.Calls.{Call, write, read, plainWrite, plainRead, close, control, Input}
 use Rattle.runs.specs.State.{State, peerSlices, withPeer, Outcome}
 use Rattle.runs.specs.Answers.{View, view, pairAfter}
-use Rattle.runs.specs.Step.{written, stateAfter, landed, counted, deliveredIn, answerOf, after, outcome}
+use Rattle.runs.specs.Memory.{memoryAfter}
+use Rattle.runs.specs.Step.{written, stateAfter, landed, deliveredIn, answerOf, afterBy, deliveredBy, after, outcome}
 use Rattle.claims.specs.Origins.{Lines, added, removed, linesAfter, sourceOf}
-use Rattle.claims.specs.Laws.{RefusedChangesNothing}
+use Rattle.claims.specs.Laws.{RefusedChangesNothing, MemoryAtExit}
 use Rattle.runs.proofs.Match.{calls-match}
 
 none-written : (s : State) (h : ℕ) (src : List ℕ) → written s h 0 src ≡ s
@@ -54,23 +54,15 @@ state-stays s i (plainRead h peek) e = refl
 state-stays s i (close h) e = refl
 state-stays s i (control c) e = refl
 
-lands-nothing : (s : State) (base : ℕ) (memory : List ℕ) (c : Call) (e : Status) → landed s base memory c (Refused e) ≡ memory
-unfolding landed countOf bytesLanded bufferRead pick
-lands-nothing s base memory (write h o a n at) e = refl
-lands-nothing s base memory (read h o a n at) e = refl
-lands-nothing s base memory (plainWrite h) e = refl
-lands-nothing s base memory (plainRead h peek) e = refl
-lands-nothing s base memory (close h) e = refl
-lands-nothing s base memory (control c) e = refl
-
-counts-nothing : (base : ℕ) (memory : List ℕ) (c : Call) (e : Status) → counted base memory c (Refused e) ≡ memory
-unfolding counted isDone pick
-counts-nothing base memory (write h o a n at) e = refl
-counts-nothing base memory (read h o a n at) e = refl
-counts-nothing base memory (plainWrite h) e = refl
-counts-nothing base memory (plainRead h peek) e = refl
-counts-nothing base memory (close h) e = refl
-counts-nothing base memory (control c) e = refl
+-- memory stays where nothing is delivered
+memory-stays : (base : ℕ) (memory : List ℕ) (c : Call) (e : Status) → memoryAfter base memory c (Refused e) [] ≡ memory
+unfolding memoryAfter isDone pick
+memory-stays base memory (write h o a n at) e = refl
+memory-stays base memory (read h o a n at) e = refl
+memory-stays base memory (plainWrite h) e = refl
+memory-stays base memory (plainRead h peek) e = refl
+memory-stays base memory (close h) e = refl
+memory-stays base memory (control c) e = refl
 
 pub delivers-nothing : (base : ℕ) (memory : List ℕ) (c : Call) (e : Status) → deliveredIn base memory c (Refused e) ≡ []
 unfolding deliveredIn countOf
@@ -108,22 +100,19 @@ no-source ln (control c) e = refl
 pub refused-after : (s : State) (i : Input) (e : Status) → answerOf s i ≡ Refused e → after s i ≡ s
 unfolding after
 refused-after s i e r =
-    ap (λ (x : Answer). stateAfter s i (i .call) x (pairAfter (view s) (i .call) x)) r
+    ap (afterBy s i) r
     ∙ ap (stateAfter s i (i .call) (Refused e)) (pair-stays (view s) (i .call) e)
     ∙ state-stays s i (i .call) e
-
-refused-memory : (s : State) (i : Input) (e : Status) → answerOf s i ≡ Refused e → outcome s i .memory ≡ i .memory
-unfolding outcome
-refused-memory s i e r =
-    ap (λ (x : Answer). counted (i .base) (landed s (i .base) (i .memory) (i .call) x) (i .call) x) r
-    ∙ counts-nothing (i .base) (landed s (i .base) (i .memory) (i .call) (Refused e)) (i .call) e
-    ∙ lands-nothing s (i .base) (i .memory) (i .call) e
 
 pub refused-delivers : (s : State) (i : Input) (e : Status) → answerOf s i ≡ Refused e → outcome s i .delivered ≡ []
 unfolding outcome
 refused-delivers s i e r =
-    ap (λ (x : Answer). deliveredIn (i .base) (landed s (i .base) (i .memory) (i .call) x) (i .call) x) r
-    ∙ delivers-nothing (i .base) (landed s (i .base) (i .memory) (i .call) (Refused e)) (i .call) e
+    ap (deliveredBy s i) r ∙ delivers-nothing (i .base) (landed s (i .base) (i .memory) (i .call) (Refused e)) (i .call) e
+
+refused-memory : (s : State) (i : Input) (e : Status) → answerOf s i ≡ Refused e → outcome s i .memory ≡ i .memory
+unfolding outcome
+refused-memory s i e r =
+    ap₂ (memoryAfter (i .base) (i .memory) (i .call)) r (refused-delivers s i e r) ∙ memory-stays (i .base) (i .memory) (i .call) e
 
 pub refused-changes-nothing : RefusedChangesNothing
 unfolding outcome
@@ -135,3 +124,10 @@ refused-changes-nothing s i s′ o d e r =
       memory = ap (λ (x : Outcome). x .memory) (m .out) ∙ refused-memory s i e a;
       delivers = ap (λ (x : Outcome). x .delivered) (m .out) ∙ refused-delivers s i e a;
     }
+
+-- memory at exit, from what is computed
+pub memory-at-exit : MemoryAtExit
+unfolding outcome
+memory-at-exit s i s′ o d =
+    let m = calls-match s i s′ o d in
+    rw (m .out) refl

@@ -39,11 +39,12 @@ use Rattle.user_read_answer.specs.Read.{userReadAnswer}
 use Rattle.user_answers.specs.Control.{plainDisposeAnswer, userDisposeAnswer, userShutdownAnswer}
 use Rattle.runs.specs.Calls.{Control, setDisposition, shutdown, plainDisposition, plainShutdown, setReadThreshold, setWriteThreshold, getThresholds, getInfo, wait, takePacket, Call, write, read, plainWrite, plainRead, close, control, Input}
 use Rattle.runs.specs.State.{State, state, ownSlices, Outcome}
-use Rattle.runs.specs.Run.{createdBy}
+use Rattle.runs.specs.Chain.{Chain, none, next}
+use Rattle.runs.specs.Run.{Does, createdBy, run}
 use Rattle.runs.specs.Answers.{View, view, ownLent, peerLent, tableOnly, controlAnswer, answerTo}
 use Rattle.runs.specs.Step.{answerOf, outcome, pairCreated}
 use Rattle.claims.specs.Origins.{Origin, Lines, noLines, found, linesAfter}
-use Rattle.claims.specs.Laws.{Reaches, here, by, Sound, RunsAreSound}
+use Rattle.claims.specs.Laws.{Sound, RunsAreSound}
 use Rattle.claims.proofs.Holds.{Size, first-is, sound-queue, slices-long, first-good}
 use Rattle.claims.proofs.Invariant.{Inv}
 use Rattle.claims.proofs.Start.{sizeOf, created-fits, new-inv}
@@ -257,22 +258,22 @@ module _ (f : Origin → Option ℕ) (dg : Bool) (z1 z2 : Size) (s : State) (ln 
       }
 
 -- along a run
-reached-sound : (whole : List Input) (dg : Bool) (z1 z2 : Size) (w : ℕ) (s : State) (ln : Lines) (is : List Input) (s′ : State)
-    → ((k : ℕ) → getElem? whole (w + k) ≡ getElem? is k) → Inv (found whole) dg z1 z2 s ln → Reaches s is s′ → Sound s′
-reached-sound whole dg z1 z2 w s ln is s′ at v here = inv-sound (found whole) dg z1 z2 s ln v
-reached-sound whole dg z1 z2 w s ln is s′ at v (by {s′ = s₁} {i = i} {o = o} {is = rest} d r) =
+chain-sound : (whole : List Input) (dg : Bool) (z1 z2 : Size) (w : ℕ) (s : State) (ln : Lines) (is : List Input) (os : List Outcome) (s′ : State)
+    → ((k : ℕ) → getElem? whole (w + k) ≡ getElem? is k) → Inv (found whole) dg z1 z2 s ln → Chain Does s is os s′ → Sound s′
+chain-sound whole dg z1 z2 w s ln is os s′ at v none = inv-sound (found whole) dg z1 z2 s ln v
+chain-sound whole dg z1 z2 w s ln is os s′ at v (next {s′ = s₁} {i = i} {o = o} {is = rest} {os = others} d r) =
     let m = calls-match s i s₁ o d in
-    reached-sound whole dg z1 z2 (suc w) s₁ (linesAfter dg w (i .call) (answerOf s i) ln) rest s′ (after-in whole dg z1 z2 w i rest at)
+    chain-sound whole dg z1 z2 (suc w) s₁ (linesAfter dg w (i .call) (answerOf s i) ln) rest others s′ (after-in whole dg z1 z2 w i rest at)
     (subst (λ (x : State). Inv (found whole) dg z1 z2 x (linesAfter dg w (i .call) (answerOf s i) ln)) (sym (m .state))
     (next-inv whole dg z1 z2 w s ln i (here-in whole dg z1 z2 w i rest at) v))
     r
 
 pub runs-are-sound : RunsAreSound
 unfolding pairCreated isDone pick
-runs-are-sound c one two r e d is s reach =
+runs-are-sound c one two is x os s (run {r} e k) d =
     let ok : isDone (createdBy c one two) ≡ true = rw (e .answer) at d in
     let fit = created-fits c one two ok in
     let p : r .pair ≡ _ = rw ok at (e .pair) in
-    reached-sound is (eqb (c .kind) 1) (sizeOf one) (sizeOf two) 0 _ noLines is s (λ k. ap (getElem? is) (zero-add k))
+    chain-sound is (eqb (c .kind) 1) (sizeOf one) (sizeOf two) 0 _ noLines is os s (λ k. ap (getElem? is) (zero-add k))
     (new-inv (found is) c one two fit)
-    (subst (λ (x : Pair). Reaches (state x one two) is s) p reach)
+    (subst (λ (x : Pair). Chain Does (state x one two) is os s) p k)

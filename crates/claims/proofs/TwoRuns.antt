@@ -21,9 +21,10 @@ use Rattle.runs.specs.Calls.{Create, Call, write, read, plainWrite, plainRead, 
 use Rattle.runs.specs.State.{Slices, State, state, withPeer, Seen, seenOf, Outcome}
 use Rattle.runs.specs.Run.{createdBy}
 use Rattle.runs.specs.Answers.{View, view, answerTo, pairAfter}
+use Rattle.runs.specs.Memory.{memoriesAfter}
 use Rattle.runs.specs.Step.{written, stateAfter, answerOf, after, outcome, outcomes, pairCreated, start}
 use Rattle.claims.specs.Origins.{Origin, Line, Lines, noLines, linesAfter, sourcesFrom, sources, byteAt, found}
-use Rattle.claims.specs.TwoRuns.{seen, answers, delivered, calls, Alike, SameLengths, TwoRuns}
+use Rattle.claims.specs.TwoRuns.{seen, answers, delivered, memoriesLeft, calls, Alike, SameLengths, TwoRuns}
 use Rattle.claims.proofs.Lists.{cons-path}
 use Rattle.claims.proofs.Holds.{Size, firstOf, lent-is}
 use Rattle.claims.proofs.Invariant.{Inv, after-inv}
@@ -144,6 +145,14 @@ origin-whole c one two is = go (createdBy c one two) (λ e. created-fits c one t
         origin-run is (eqb (c .kind) 1) (sizeOf one) (sizeOf two) 0 _ noLines is (whole-in is) (new-inv (found is) c one two (fit refl))
     go (Refused e) fit = origins-all one two (found is) (eqb (c .kind) 1) 0 is
 
+-- ---- memory at exit
+
+memory-run : (s : State) (is : List Input)
+    → memoriesLeft (outcomes s is) ≡ memoriesAfter is (answers (outcomes s is)) (delivered (outcomes s is))
+unfolding outcomes outcome memoriesAfter
+memory-run s [] = refl
+memory-run s (i ∷ is) = cons-path refl (memory-run (after s i) is)
+
 -- ---- the claim
 
 calls-public : (is js : List Input) → map public is ≡ map public js → calls js ≡ calls is
@@ -185,10 +194,15 @@ module _ (c : Create) (one two one′ two′ : Slices) (e : SameLengths one one�
             origin-whole c one′ two′ js
             ∙ ap₂ (λ (cs : List Call) (rs : List Answer). map (map (found js)) (sources (eqb (c .kind) 1) cs rs)) (calls-public is js same)
             (answers-seen (outcomes (start c one two) is) (outcomes (start c one′ two′) js) (seen-same is js same));
+        memory = memory-run (start c one two) is;
+        memory′ =
+            memory-run (start c one′ two′) js
+            ∙ ap (λ (rs : List Answer). memoriesAfter js rs (delivered (outcomes (start c one′ two′) js)))
+            (answers-seen (outcomes (start c one two) is) (outcomes (start c one′ two′) js) (seen-same is js same));
       }
 
 pub two-runs : TwoRuns
-two-runs c one two one′ two′ e k is js same x y os os′ r r′ =
-    let a = runs-match c one two is x os r in
-    let b = runs-match c one′ two′ js y os′ r′ in
+two-runs c one two one′ two′ e k is js same x y os os′ s s′ r r′ =
+    let a = runs-match c one two is x os s r in
+    let b = runs-match c one′ two′ js y os′ s′ r′ in
     rw (a .create, b .create, a .calls, b .calls) (alike c one two one′ two′ e k is js same)

@@ -1,12 +1,12 @@
 -- All that is claimed of runs of calls, as one record. proofs/Claims has its proof. 01 "Two runs", "Status and answer word", "At the edges".
 use Rattle.runs.specs.Match.{CallsMatch, RunsMatch, RunsExist}
 use Rattle.claims.specs.TwoRuns.{TwoRuns}
-use Rattle.claims.specs.Laws.{RefusedChangesNothing, RunsAreSound}
+use Rattle.claims.specs.Laws.{RefusedChangesNothing, MemoryAtExit, RunsAreSound}
 use Rattle.cases.specs.Lines.{LinesMatch}
 use Rattle.cases.specs.Edges.{AtTheEdges}
 use Rattle.cases.specs.Orders.{Orders}
 use Rattle.cases.specs.Packets.{Packets}
-use Rattle.claims.specs.Example.{Differ}
+use Rattle.claims.specs.Example.{Examples}
 use Rattle.cases.specs.Damaged.{DamagedRecords}
 use Rattle.cases.specs.Lends.{LentSlices}
 use Rattle.cases.specs.FirstLengths.{FirstLengths}
@@ -15,11 +15,13 @@ use Rattle.cases.specs.Creates.{CreateArguments}
 pub record Claims : Type 0 where
   -- 01 "Two runs": any list of calls, run twice
   pub twoRuns : TwoRuns
-  -- every list of calls has a run, so that the claims about runs are not empty; and an example
+  -- every list of calls has a run, so that the claims about runs are not empty; and two examples
   pub runsExist : RunsExist
-  pub example : Differ
+  pub examples : Examples
   -- 01 "Status and answer word": a refused call changes nothing, and no run leaves a record on which a call is INTERNAL
   pub refused : RefusedChangesNothing
+  -- 01 "Calls over user memory": memory at exit
+  pub memory : MemoryAtExit
   pub sound : RunsAreSound
   -- a run of the code is the computed one
   pub calls : CallsMatch

@@ -1,21 +1,20 @@
--- Two laws of all calls: a refused call changes nothing, and no call of a run meets a record that no run leaves.
--- 01 "Status and answer word".
+-- Laws of all calls: a refused call changes nothing, memory at exit, and no call of a run meets a record that no run leaves.
+-- 01 "Status and answer word", "Calls over user memory".
 use mathlib.Core.Path.{_≡_}
 use mathlib.Core.Bool.{Bool, true, false}
-use mathlib.Core.List.{List, [], _∷_}
+use mathlib.Core.List.{List, []}
 use lib.ListN.{length}
-use lib.Dec.{eqb}
 use Rattle.status.specs.declared.Status.{Status}
 use Rattle.status.specs.declared.Status.the-variants.{Internal}
 use Rattle.status.specs.declared.Answer.the-variants.{Refused}
 use Rattle.status.specs.Answer.{isDone}
 use Rattle.endpoint.specs.Queue.{shortSlices, firstLength, badFirst}
-use Rattle.socket.specs.declared.Step.{Step}
-use Rattle.socket.specs.Pair.{own, newPair, noPair}
-use Rattle.socket.specs.Tests.{soundPair, Steps}
+use Rattle.socket.specs.Pair.{own}
+use Rattle.socket.specs.Tests.{soundPair}
 use Rattle.runs.specs.Calls.{Create, Input}
-use Rattle.runs.specs.State.{Slices, State, state, ownSlices, Outcome}
-use Rattle.runs.specs.Run.{Does, createdBy}
+use Rattle.runs.specs.State.{Slices, State, ownSlices, Seen, Outcome}
+use Rattle.runs.specs.Memory.{memoryAfter}
+use Rattle.runs.specs.Run.{Does, Run}
 
 -- ---- refused calls
 
@@ -30,12 +29,16 @@ abbrev pub RefusedChangesNothing : Type 0
 RefusedChangesNothing =
     (s : State) (i : Input) (s′ : State) (o : Outcome) → Does s i s′ o → (e : Status) → o .seen .answer ≡ Refused e → Unchanged s i s′ o
 
--- ---- runs
+-- ---- memory at exit
 
--- the states that a run reaches by a list of calls
-pub data Reaches : State → List Input → State → Type 0 where
-  here : {s : State} → Reaches s [] s
-  by : {s s′ s″ : State} {i : Input} {o : Outcome} {is : List Input} → Does s i s′ o → Reaches s′ is s″ → Reaches s (i ∷ is) s″
+-- of any state and any call of the code: memory at exit is told by memory at entry, the call, its answer and the bytes delivered. 01 "Calls over
+-- user memory", "Two runs".
+abbrev pub MemoryAtExit : Type 0
+MemoryAtExit =
+    (s : State) (i : Input) (s′ : State) (o : Outcome) → Does s i s′ o
+    → o .memory ≡ memoryAfter (i .base) (i .memory) (i .call) (o .seen .answer) (o .delivered)
+
+-- ---- runs
 
 -- a state on which the tests of the record, of the slices and of the first lengths are passed, and no call is INTERNAL
 pub record Sound (s : State) : Type 0 where
@@ -44,11 +47,9 @@ pub record Sound (s : State) : Type 0 where
   pub first : (t : Bool) → badFirst (s .pair .datagram) (own t (s .pair) .queue) (firstLength (s .pair .datagram) (own t (s .pair) .queue) (ownSlices t s .table)) ≡ false
   pub answers : (i : Input) (s′ : State) (o : Outcome) → Does s i s′ o → o .seen .answer ≡ Refused Internal → ⊥
 
--- from a done create on, every state of every run is so
+-- From a done create on, every state of every run is so: a state of a run is the last one of the run of the calls before it.
 abbrev pub RunsAreSound : Type 0
 RunsAreSound =
-    (c : Create) (one two : Slices) (r : Step)
-    → Steps noPair (createdBy c one two) (newPair (eqb (c .kind) 1) (c .capacity) (c .rights1) (c .rights2)) r
-    → isDone (r .answer) ≡ true
-    → (is : List Input) (s : State) → Reaches (state (r .pair) one two) is s
+    (c : Create) (one two : Slices) (is : List Input) (x : Seen) (os : List Outcome) (s : State)
+    → Run c one two is x os s → isDone (x .answer) ≡ true
     → Sound s

@@ -56,9 +56,13 @@ abbrev pub withPeerLine : Bool → Line → Lines → Lines
 withPeerLine true l ln = record { one = ln .one; two = l }
 withPeerLine false l ln = record { one = l; two = ln .two }
 
--- after a write of m bytes by end t, call number w: one more group of m origins, the last of the peer's line
+-- end t fed a group of origins, any: it is the last of the peer's line
+abbrev pub fed : (t : Bool) → (group : List Origin) → Lines → Lines
+fed t group ln = withPeerLine t (peerLine t ln ++ (group ∷ [])) ln
+
+-- after a write of m bytes by end t, call number w: the m origins of the call, as one group
 unfoldable pub added : (t : Bool) → (w m : ℕ) → Lines → Lines
-added t w m ln = pick (eqb m 0) ln (withPeerLine t (peerLine t ln ++ (origins w 0 m ∷ [])) ln)
+added t w m ln = pick (eqb m 0) ln (fed t (origins w 0 m) ln)
 
 -- the line after k origins, more than 0, were read from its front: on datagram pairs the whole first group goes
 unfoldable pub shrunk : (datagram : Bool) → (k : ℕ) → Line → Line

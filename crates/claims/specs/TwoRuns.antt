@@ -9,8 +9,9 @@ use lib.ListN.{length}
 use lib.Dec.{eqb}
 use Rattle.status.specs.declared.Answer.{Answer}
 use Rattle.runs.specs.Calls.{Create, Call, Input, public}
-use Rattle.runs.specs.State.{Slices, Seen, Outcome}
+use Rattle.runs.specs.State.{Slices, State, Seen, Outcome}
 use Rattle.runs.specs.Run.{Run}
+use Rattle.runs.specs.Memory.{memoriesAfter}
 use Rattle.claims.specs.Origins.{sources, found}
 
 abbrev pub seen : List Outcome → List Seen
@@ -22,6 +23,9 @@ answers os = map (λ (o : Outcome). o .seen .answer) os
 abbrev pub delivered : List Outcome → List (List ℕ)
 delivered os = map (λ (o : Outcome). o .delivered) os
 
+abbrev pub memoriesLeft : List Outcome → List (List ℕ)
+memoriesLeft os = map (λ (o : Outcome). o .memory) os
+
 abbrev pub calls : List Input → List Call
 calls is = map (λ (i : Input). i .call) is
 
@@ -31,9 +35,12 @@ pub record Alike (datagram : Bool) (is js : List Input) (x y : Seen) (os os′ :
   pub create : x ≡ y
   -- after every call the answer, both signal words and the pair are the same,
   pub same : seen os ≡ seen os′
-  -- and the bytes delivered in each run are those found at the sources, one list of sources for both
+  -- the bytes delivered in each run are those found at the sources, one list of sources for both,
   pub first : map (map some) (delivered os) ≡ map (map (found is)) (sources datagram (calls is) (answers os))
   pub second : map (map some) (delivered os′) ≡ map (map (found js)) (sources datagram (calls is) (answers os))
+  -- and memory at exit of each call is told by what it held at entry, the call, its answer and the bytes delivered, in each run
+  pub memory : memoriesLeft os ≡ memoriesAfter is (answers os) (delivered os)
+  pub memory′ : memoriesLeft os′ ≡ memoriesAfter js (answers os) (delivered os′)
 
 pub record SameLengths (l l′ : Slices) : Type 0 where
   pub ring : length (l .ring) ≡ length (l′ .ring)
@@ -45,5 +52,5 @@ abbrev pub TwoRuns : Type 0
 TwoRuns =
     (c : Create) (one two one′ two′ : Slices) → SameLengths one one′ → SameLengths two two′
     → (is js : List Input) → map public is ≡ map public js
-    → (x y : Seen) (os os′ : List Outcome) → Run c one two is x os → Run c one′ two′ js y os′
+    → (x y : Seen) (os os′ : List Outcome) (s s′ : State) → Run c one two is x os s → Run c one′ two′ js y os′ s′
     → Alike (eqb (c .kind) 1) is js x y os os′

@@ -21,11 +21,11 @@ use Rattle.syscall.specs.Read.{isPeek, userReadAnswer, bytesLanded}
 use Rattle.host.specs.Host.{Answered}
 use Rattle.host_values.specs.Records.{arrayOf, Recorded}
 use Rattle.runs.specs.State.{State, state, ownSlices, peerSlices}
+use Rattle.runs.specs.Chain.{Chain, none as no-calls, next as next-call}
 use Rattle.runs.specs.Run.{createdBy}
 use Rattle.host_runs.specs.Passed.{Passed, Returned, isCount}
 use Rattle.host_runs.specs.Exported.{Exported, murgwethan-write, murgwethan-read, murgwethan-set-disposition, murgwethan-shutdown, murgwethan-set-read-threshold, murgwethan-set-write-threshold, murgwethan-thresholds, murgwethan-info, murgwethan-wait, murgwethan-take, murgwethan-close, murgwethan-user-write, murgwethan-user-read, murgwethan-user-set-disposition, murgwethan-user-shutdown}
-use Rattle.host_runs.specs.Runs.{ExportedCalls, run}
-use Rattle.host_runs.specs.Runs.{none as no-calls, next as next-call}
+use Rattle.host_runs.specs.Runs.{run}
 use Rattle.host_runs.specs.Exist.{Passable, to-write, to-read, to-set-disposition, to-shutdown, to-set-read-threshold, to-set-write-threshold, to-thresholds, to-info, to-wait, to-take, to-close, to-user-write, to-user-read, to-user-set-disposition, to-user-shutdown, AllPassable, none, next, RunsExist}
 use Rattle.host_runs.proofs.Words.{is-count}
 
@@ -107,18 +107,19 @@ some-call s x (to-user-shutdown h o) = record { state = _; gives = _; call = mur
 
 record SomeCalls (s : State) (xs : List Passed) : Type 0 where
   pub gives : List Returned
-  pub calls : ExportedCalls s xs gives
+  pub last : State
+  pub calls : Chain Exported s xs gives last
 
 some-calls : (s : State) {xs : List Passed} → AllPassable xs → SomeCalls s xs
-some-calls s none = record { gives = []; calls = no-calls }
+some-calls s none = record { gives = []; last = s; calls = no-calls }
 some-calls s (next {x} {xs} k ks) =
     let d = some-call s x k in
     let ds = some-calls (d .state) ks in
-    record { gives = d .gives ∷ ds .gives; calls = next-call (d .call) (ds .calls) }
+    record { gives = d .gives ∷ ds .gives; last = ds .last; calls = next-call (d .call) (ds .calls) }
 
 pub runs-exist : RunsExist
 runs-exist c one two done xs ks =
     let a : Answer = createdBy c one two in
     let made : Pair = newPair (eqb (c .kind) 1) (c .capacity) (c .rights1) (c .rights2) in
     let ds = some-calls (state (pick (isDone a) made noPair) one two) ks in
-    record { pair = _; gives = ds .gives; run = run (answered noPair a made) (is-count a ∙ done) (ds .calls) }
+    record { pair = _; gives = ds .gives; last = ds .last; run = run (answered noPair a made) (is-count a ∙ done) (ds .calls) }

@@ -11,12 +11,14 @@ use Rattle.socket.specs.declared.Pair.{Pair}
 use Rattle.socket.specs.Pair.{newPair, noPair}
 use Rattle.runs.specs.Calls.{Create}
 use Rattle.runs.specs.State.{Slices, State, Outcome}
-use Rattle.runs.specs.Run.{Calls, createdBy}
-use Rattle.runs.specs.Run.{none as no-calls, next as next-call, run as run-of}
+use Rattle.runs.specs.Chain.{Chain, none, next}
+use Rattle.runs.specs.Run.{Does, createdBy}
+use Rattle.runs.specs.Run.{run as run-of}
 use Rattle.host_runs.specs.Contracts.{Creates}
 use Rattle.host_runs.specs.Passed.{Passed, Returned, isCount}
 use Rattle.host_runs.specs.Steps.{CreateStarts}
-use Rattle.host_runs.specs.Runs.{ExportedCalls, none, next, run, inputs, arraysAfter, Gives, RunsAreRuns}
+use Rattle.host_runs.specs.Exported.{Exported}
+use Rattle.host_runs.specs.Runs.{run, inputs, arraysAfter, Gives, RunsAreRuns}
 use Rattle.host_runs.proofs.Words.{is-count}
 use Rattle.host_runs.proofs.Steps.{calls-are-steps}
 
@@ -30,7 +32,7 @@ unfolding pick
 create-starts p c one two p′ w k =
     record {
       word = created-word p c one two p′ w k;
-      starts = λ d is os calls. run-of {r = record { pair = p′; answer = createdBy c one two }} (record { answer = refl; pair = new d }) calls;
+      starts = λ d is os s calls. run-of {r = record { pair = p′; answer = createdBy c one two }} (record { answer = refl; pair = new d }) calls;
       refused = λ d. k .kept .pair ∙ ap (λ (b : Bool). pick b made p) (done d);
     }
   where
@@ -46,20 +48,20 @@ create-starts p c one two p′ w k =
 
 -- ---- the calls
 
-pub record CallsOf (s : State) (xs : List Passed) (ys : List Returned) : Type 0 where
+pub record CallsOf (s : State) (xs : List Passed) (ys : List Returned) (s′ : State) : Type 0 where
   pub outcomes : List Outcome
-  pub calls : Calls s (inputs xs) outcomes
+  pub calls : Chain Does s (inputs xs) outcomes s′
   pub gives : Gives xs ys outcomes
 
-calls-of : {s : State} {xs : List Passed} {ys : List Returned} → ExportedCalls s xs ys → CallsOf s xs ys
+calls-of : {s : State} {xs : List Passed} {ys : List Returned} {s′ : State} → Chain Exported s xs ys s′ → CallsOf s xs ys s′
 unfolding arraysAfter
-calls-of none = record { outcomes = []; calls = no-calls; gives = record { words = refl; pairs = refl; bytes = refl; memories = refl; arrays = refl } }
-calls-of (next {s} {s′} {x} {y} {xs} {ys} d ds) =
+calls-of none = record { outcomes = []; calls = none; gives = record { words = refl; pairs = refl; bytes = refl; memories = refl; arrays = refl } }
+calls-of (next {s} {s′} {s″} {i = x} {o = y} {is = xs} {os = ys} d ds) =
     let k = calls-are-steps s x s′ y d in
     let ks = calls-of ds in
     record {
       outcomes = k .outcome ∷ ks .outcomes;
-      calls = next-call (k .step) (ks .calls);
+      calls = next (k .step) (ks .calls);
       gives =
           record {
             words = ap₂ (λ (h : ℤ) (t : List ℤ). h ∷ t) (k .word) (ks .gives .words);
@@ -71,6 +73,6 @@ calls-of (next {s} {s′} {x} {y} {xs} {ys} d ds) =
     }
 
 pub runs-are-runs : RunsAreRuns
-runs-are-runs c one two xs p′ ys (run {before} {p} {w} k d calls) =
+runs-are-runs c one two xs p′ ys s (run {before} {p} {w} k d calls) =
     let ks = calls-of calls in
-    record { outcomes = ks .outcomes; run = create-starts before c one two p w k .starts d (inputs xs) (ks .outcomes) (ks .calls); gives = ks .gives }
+    record { outcomes = ks .outcomes; run = create-starts before c one two p w k .starts d (inputs xs) (ks .outcomes) s (ks .calls); gives = ks .gives }

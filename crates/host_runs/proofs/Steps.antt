@@ -33,17 +33,17 @@ counted w a e = ap countIn e ∙ count-in a
 
 -- a call that delivers nothing and is lent no array
 plain : (s s′ : State) (i : Input) (p : Pair) (a : Answer) (w : ℤ) (memory : List ℕ)
-    → Does s i s′ (gives (stepped p a) [] memory) → w ≡ answerWord a → ([] ≡ arrayAfter (i .call) a [])
+    → Does s i s′ (gives (stepped p a) s′ [] memory) → w ≡ answerWord a → ([] ≡ arrayAfter (i .call) a [])
     → StepOf s (record { input = i; array = [] }) s′ (record { word = w; pair = p; delivered = []; memory = memory; array = [] })
 plain s s′ i p a w memory d e f =
-    record { outcome = gives (stepped p a) [] memory; step = d; word = e; pair = refl; delivered = refl; memory = refl; array = f }
+    record { outcome = gives (stepped p a) s′ [] memory; step = d; word = e; pair = refl; delivered = refl; memory = refl; array = f }
 
 -- a call whose record goes to an array
 recorded : (s s′ : State) (i : Input) (p : Pair) (a : Answer) (w : ℤ) (out out′ : List ℕ)
-    → Does s i s′ (gives (stepped p a) [] []) → w ≡ answerWord a → out′ ≡ arrayAfter (i .call) a out
+    → Does s i s′ (gives (stepped p a) s′ [] []) → w ≡ answerWord a → out′ ≡ arrayAfter (i .call) a out
     → StepOf s (record { input = i; array = out }) s′ (record { word = w; pair = p; delivered = []; memory = []; array = out′ })
 recorded s s′ i p a w out out′ d e f =
-    record { outcome = gives (stepped p a) [] []; step = d; word = e; pair = refl; delivered = refl; memory = refl; array = f }
+    record { outcome = gives (stepped p a) s′ [] []; step = d; word = e; pair = refl; delivered = refl; memory = refl; array = f }
 
 pub calls-are-steps : CallsAreSteps
 unfolding arrayAfter recordIn
@@ -51,7 +51,7 @@ calls-are-steps s x s′ y (murgwethan-write {h} {bytes} {ring′} {table′} {p
     plain s _ _ p (k .answer) w bytes (did-plain-write (k .kept)) (k .word) refl
 calls-are-steps s x s′ y (murgwethan-read {h} {peek} {buffer} {buffer′} {p} {w} k) =
     record {
-      outcome = gives (stepped p (k .answer)) (take (countOf (k .answer)) buffer′) buffer′;
+      outcome = gives (stepped p (k .answer)) s (take (countOf (k .answer)) buffer′) buffer′;
       step = did-plain-read (k .kept);
       word = k .word;
       pair = refl;
@@ -76,7 +76,7 @@ calls-are-steps s x s′ y (murgwethan-user-write {memory′ = memory′} {p = p
 calls-are-steps s x s′ y (murgwethan-user-read {h} {o} {base} {a} {n} {at} {memory} {memory′} {p} {w} k) =
     let ring : List ℕ = ownSlices (isOne h) s .ring in
     record {
-      outcome = gives (stepped p (k .answer)) (take (countOf (k .answer)) (drop (a - base) (bytesLanded (s .pair) h base a (countOf (k .answer)) ring memory))) memory′;
+      outcome = gives (stepped p (k .answer)) s (take (countOf (k .answer)) (drop (a - base) (bytesLanded (s .pair) h base a (countOf (k .answer)) ring memory))) memory′;
       step = did-read (record { answer = k .kept .answer; pair = k .kept .pair; user = refl }) (k .kept);
       word = k .word;
       pair = refl;

@@ -9,6 +9,7 @@ use Rattle.host_values.specs.Signal.{signalNumber}
 use Rattle.runs.specs.Calls.{Call, Input, Public, public}
 use Rattle.runs.specs.State.{Seen, seenOf, Outcome}
 use Rattle.runs.specs.Run.{createdBy}
+use Rattle.runs.specs.Memory.{memoriesAfter}
 use Rattle.claims.specs.TwoRuns.{seen, answers, calls}
 use Rattle.claims.proofs.Claims.{claims}
 use Rattle.host_runs.specs.Runs.{inputs, arraysIn, pairsOf, arraysAfter}
@@ -17,7 +18,7 @@ use Rattle.host_runs.proofs.Runs.{created-word, runs-are-runs}
 
 pub creates-alike : CreatesAlike
 creates-alike c one two one′ two′ e k before before′ p p′ w w′ a b =
-    let bare = claims .twoRuns c one two one′ two′ e k [] [] refl _ _ _ _ (claims .runsExist c one two []) (claims .runsExist c one′ two′ []) in
+    let bare = claims .twoRuns c one two one′ two′ e k [] [] refl _ _ _ _ _ _ (claims .runsExist c one two []) (claims .runsExist c one′ two′ []) in
     created-word before c one two p w a
     ∙ ap (λ (x : Seen). answerWord (x .answer)) (bare .create)
     ∙ sym (created-word before′ c one′ two′ p′ w′ b)
@@ -39,13 +40,13 @@ pairs-same os os′ e =
     ∙ map-map (λ (x : Seen). x .pair) (λ (o : Outcome). o .seen) os′
 
 pub exported-two-runs : ExportedTwoRuns
-exported-two-runs c one two one′ two′ e k xs xs′ same p p′ ys ys′ r r′ =
-    let a = runs-are-runs c one two xs p ys r in
-    let b = runs-are-runs c one′ two′ xs′ p′ ys′ r′ in
+exported-two-runs c one two one′ two′ e k xs xs′ same p p′ ys ys′ s s′ r r′ =
+    let a = runs-are-runs c one two xs p ys s r in
+    let b = runs-are-runs c one′ two′ xs′ p′ ys′ s′ r′ in
     let os = a .outcomes in
     let os′ = b .outcomes in
     let t = claims .twoRuns c one two one′ two′ e k (inputs xs) (inputs xs′) same
-    (seenOf (createdBy c one two) p) (seenOf (createdBy c one′ two′) p′) os os′ (a .run) (b .run) in
+    (seenOf (createdBy c one two) p) (seenOf (createdBy c one′ two′) p′) os os′ s s′ (a .run) (b .run) in
     let rs = answers-same os os′ (t .same) in
     let ps : pairsOf ys ≡ pairsOf ys′ = a .gives .pairs ∙ pairs-same os os′ (t .same) ∙ sym (b .gives .pairs) in
     record {
@@ -61,4 +62,6 @@ exported-two-runs c one two one′ two′ e k xs xs′ same p p′ ys ys′ r r�
           ∙ sym (ap₂ (λ (cs : List Call) (given : List Answer). arraysAfter cs given (arraysIn xs′)) (calls-same (inputs xs) (inputs xs′) same) rs);
       first = ap (map (map some)) (a .gives .bytes) ∙ t .first;
       second = ap (map (map some)) (b .gives .bytes) ∙ t .second;
+      memory = a .gives .memories ∙ t .memory ∙ ap (memoriesAfter (inputs xs) (answers os)) (sym (a .gives .bytes));
+      memory′ = b .gives .memories ∙ t .memory′ ∙ ap (memoriesAfter (inputs xs′) (answers os)) (sym (b .gives .bytes));
     }

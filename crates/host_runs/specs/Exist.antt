@@ -6,7 +6,7 @@ use mathlib.Core.List.{List, [], _∷_}
 use Rattle.status.specs.Answer.{isDone}
 use Rattle.socket.specs.declared.Pair.{Pair}
 use Rattle.runs.specs.Calls.{Create, setDisposition, shutdown, plainDisposition, plainShutdown, setReadThreshold, setWriteThreshold, getThresholds, getInfo, wait, takePacket, write, read, plainWrite, plainRead, close, control}
-use Rattle.runs.specs.State.{Slices}
+use Rattle.runs.specs.State.{Slices, State}
 use Rattle.runs.specs.Run.{createdBy}
 use Rattle.host_runs.specs.Passed.{Passed, passed, Returned}
 use Rattle.host_runs.specs.Runs.{ExportedRun}
@@ -37,7 +37,8 @@ pub data AllPassable : List Passed → Type 0 where
 pub record SomeRun (c : Create) (one two : Slices) (xs : List Passed) : Type 0 where
   pub pair : Pair
   pub gives : List Returned
-  pub run : ExportedRun c one two xs pair gives
+  pub last : State
+  pub run : ExportedRun c one two xs pair gives last
 
 abbrev pub RunsExist : Type 0
 RunsExist =

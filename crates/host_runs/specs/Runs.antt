@@ -9,21 +9,17 @@ use Rattle.status.specs.Answer.{answerWord}
 use Rattle.socket.specs.declared.Pair.{Pair}
 use Rattle.runs.specs.Calls.{Create, Call, Input}
 use Rattle.runs.specs.State.{Slices, State, state, seenOf, Outcome}
+use Rattle.runs.specs.Chain.{Chain}
 use Rattle.runs.specs.Run.{createdBy, Run}
 use Rattle.claims.specs.TwoRuns.{answers, delivered, calls}
 use Rattle.host_runs.specs.Contracts.{Creates}
 use Rattle.host_runs.specs.Passed.{Passed, Returned, isCount, arrayAfter}
 use Rattle.host_runs.specs.Exported.{Exported}
 
-pub data ExportedCalls : State → List Passed → List Returned → Type 0 where
-  none : {s : State} → ExportedCalls s [] []
-  next : {s s′ : State} {x : Passed} {y : Returned} {xs : List Passed} {ys : List Returned}
-      → Exported s x s′ y → ExportedCalls s′ xs ys → ExportedCalls s (x ∷ xs) (y ∷ ys)
-
--- a run: a done create on any record, then the calls. p is the pair that create leaves.
-pub data ExportedRun (c : Create) (one two : Slices) (xs : List Passed) : Pair → List Returned → Type 0 where
-  run : {before p : Pair} {w : ℤ} {ys : List Returned}
-      → Creates before c one two p w → isCount w ≡ true → ExportedCalls (state p one two) xs ys → ExportedRun c one two xs p ys
+-- a run: a done create on any record, then a chain of exported calls. p is the pair that create leaves, s the last state. 01 "Two runs".
+pub data ExportedRun (c : Create) (one two : Slices) (xs : List Passed) : Pair → List Returned → State → Type 0 where
+  run : {before p : Pair} {w : ℤ} {ys : List Returned} {s : State}
+      → Creates before c one two p w → isCount w ≡ true → Chain Exported (state p one two) xs ys s → ExportedRun c one two xs p ys s
 
 abbrev pub inputs : List Passed → List Input
 inputs xs = map (λ (x : Passed). x .input) xs
@@ -61,11 +57,13 @@ pub record Gives (xs : List Passed) (ys : List Returned) (os : List Outcome) : T
   pub memories : memoriesOf ys ≡ map (λ (o : Outcome). o .memory) os
   pub arrays : arraysOf ys ≡ arraysAfter (calls (inputs xs)) (answers os) (arraysIn xs)
 
-pub record RunOf (c : Create) (one two : Slices) (xs : List Passed) (p : Pair) (ys : List Returned) : Type 0 where
+-- a run of the crate runs with the same last state; its outcomes have each end's slices after each call
+pub record RunOf (c : Create) (one two : Slices) (xs : List Passed) (p : Pair) (ys : List Returned) (s : State) : Type 0 where
   pub outcomes : List Outcome
-  pub run : Run c one two (inputs xs) (seenOf (createdBy c one two) p) outcomes
+  pub run : Run c one two (inputs xs) (seenOf (createdBy c one two) p) outcomes s
   pub gives : Gives xs ys outcomes
 
 abbrev pub RunsAreRuns : Type 0
 RunsAreRuns =
-    (c : Create) (one two : Slices) (xs : List Passed) (p : Pair) (ys : List Returned) → ExportedRun c one two xs p ys → RunOf c one two xs p ys
+    (c : Create) (one two : Slices) (xs : List Passed) (p : Pair) (ys : List Returned) (s : State)
+    → ExportedRun c one two xs p ys s → RunOf c one two xs p ys s

@@ -7,7 +7,8 @@ use Rattle.status.specs.Answer.{answerWord}
 use Rattle.socket.specs.declared.Pair.{Pair}
 use Rattle.runs.specs.Calls.{Create, Input}
 use Rattle.runs.specs.State.{Slices, State, state, seenOf, Outcome}
-use Rattle.runs.specs.Run.{Does, Calls, createdBy, Run}
+use Rattle.runs.specs.Chain.{Chain}
+use Rattle.runs.specs.Run.{Does, createdBy, Run}
 use Rattle.host_runs.specs.Contracts.{Creates}
 use Rattle.host_runs.specs.Passed.{Passed, Returned, isCount, arrayAfter}
 use Rattle.host_runs.specs.Exported.{Exported}
@@ -44,7 +45,8 @@ RefusedChangesNothing = (s : State) (x : Passed) (s′ : State) (y : Returned) �
 pub record Created (p : Pair) (c : Create) (one two : Slices) (p′ : Pair) (w : ℤ) : Type 0 where
   pub word : w ≡ answerWord (createdBy c one two)
   pub starts : isCount w ≡ true
-      → (is : List Input) (os : List Outcome) → Calls (state p′ one two) is os → Run c one two is (seenOf (createdBy c one two) p′) os
+      → (is : List Input) (os : List Outcome) (s : State)
+      → Chain Does (state p′ one two) is os s → Run c one two is (seenOf (createdBy c one two) p′) os s
   pub refused : isCount w ≡ false → p′ ≡ p
 
 abbrev pub CreateStarts : Type 0

@@ -11,12 +11,13 @@ use Rattle.status.specs.Answer.{answerWord}
 use Rattle.socket.specs.declared.Pair.{Pair}
 use Rattle.host_values.specs.Signal.{signalNumber}
 use Rattle.runs.specs.Calls.{Create, public}
-use Rattle.runs.specs.State.{Slices}
+use Rattle.runs.specs.State.{Slices, State}
+use Rattle.runs.specs.Memory.{memoriesAfter}
 use Rattle.claims.specs.Origins.{sources, found}
 use Rattle.claims.specs.TwoRuns.{calls, SameLengths}
 use Rattle.host_runs.specs.Contracts.{Creates}
 use Rattle.host_runs.specs.Passed.{Passed, Returned}
-use Rattle.host_runs.specs.Runs.{ExportedRun, inputs, arraysIn, wordsOf, pairsOf, bytesOf, arraysOf, arraysAfter}
+use Rattle.host_runs.specs.Runs.{ExportedRun, inputs, arraysIn, wordsOf, pairsOf, bytesOf, memoriesOf, arraysOf, arraysAfter}
 
 -- creates with the same arguments and lengths return the same word, whatever the records and slices hold
 abbrev pub CreatesAlike : Type 0
@@ -42,9 +43,12 @@ pub record ExportedAlike (datagram : Bool) (xs xs′ : List Passed) (p p′ : Pa
   pub answered : wordsOf ys ≡ map answerWord answers
   pub arrays : arraysOf ys ≡ arraysAfter (calls (inputs xs)) answers (arraysIn xs)
   pub arrays′ : arraysOf ys′ ≡ arraysAfter (calls (inputs xs)) answers (arraysIn xs′)
-  -- and the bytes delivered in each run are those found at the sources, one list of sources for both
+  -- the bytes delivered in each run are those found at the sources, one list of sources for both,
   pub first : map (map some) (bytesOf ys) ≡ map (map (found (inputs xs))) (sources datagram (calls (inputs xs)) answers)
   pub second : map (map some) (bytesOf ys′) ≡ map (map (found (inputs xs′))) (sources datagram (calls (inputs xs)) answers)
+  -- and memory at exit of each call is told by what it held at entry, the call, its answer and the bytes delivered, in each run
+  pub memory : memoriesOf ys ≡ memoriesAfter (inputs xs) answers (bytesOf ys)
+  pub memory′ : memoriesOf ys′ ≡ memoriesAfter (inputs xs′) answers (bytesOf ys′)
 
 -- Any list of exported calls, run twice. Create's arguments and the slices' lengths are the same in both runs, and so are the calls, their
 -- arguments, bases and memory lengths. Rings, tables and the record hold anything before create, memory and arrays anything at each call, in
@@ -53,5 +57,5 @@ abbrev pub ExportedTwoRuns : Type 0
 ExportedTwoRuns =
     (c : Create) (one two one′ two′ : Slices) → SameLengths one one′ → SameLengths two two′
     → (xs xs′ : List Passed) → map public (inputs xs) ≡ map public (inputs xs′)
-    → (p p′ : Pair) (ys ys′ : List Returned) → ExportedRun c one two xs p ys → ExportedRun c one′ two′ xs′ p′ ys′
+    → (p p′ : Pair) (ys ys′ : List Returned) (s s′ : State) → ExportedRun c one two xs p ys s → ExportedRun c one′ two′ xs′ p′ ys′ s′
     → ExportedAlike (eqb (c .kind) 1) xs xs′ p p′ ys ys′

@@ -10,8 +10,9 @@ use Rattle.socket.specs.declared.Step.{Step}
 use Rattle.socket.specs.Pair.{isOne}
 use Rattle.syscall.specs.Read.{BytesRead}
 use Rattle.runs.specs.Calls.{Create, Call, read, Input, input}
-use Rattle.runs.specs.State.{Slices, state, ownSlices, peerSlices, withPair, withPeer, seenOf, Outcome, gives}
-use Rattle.runs.specs.Run.{Does, Calls, Run}
+use Rattle.runs.specs.State.{Slices, State, state, ownSlices, peerSlices, withPair, withPeer, seenOf, Outcome, gives}
+use Rattle.runs.specs.Chain.{Chain}
+use Rattle.runs.specs.Run.{Does, Run}
 
 abbrev pub slicesOf : (ring table : List ℕ) → Slices
 slicesOf ring table = record { ring = ring; table = table }
@@ -20,13 +21,13 @@ slicesOf ring table = record { ring = ring; table = table }
 abbrev pub StepOf : Pair → Call → Step → Type 0
 StepOf p call r =
     (one two : Slices) (base : ℕ) (memory : List ℕ)
-    → Does (state p one two) (input call base memory) (withPair (r .pair) (state p one two)) (gives r [] memory)
+    → Does (state p one two) (input call base memory) (withPair (r .pair) (state p one two)) (gives r (state p one two) [] memory)
 
 -- a call by handle h that is lent its own slices, and leaves them as they are
 abbrev pub OwnLent : Pair → (h : ℕ) → (lent : Slices) → Input → Step → (delivered memory : List ℕ) → Type 0
 OwnLent p h lent i r delivered memory =
     (one two : Slices) → ownSlices (isOne h) (state p one two) ≡ lent
-    → Does (state p one two) i (withPair (r .pair) (state p one two)) (gives r delivered memory)
+    → Does (state p one two) i (withPair (r .pair) (state p one two)) (gives r (state p one two) delivered memory)
 
 -- A read over user memory. `landed` is its memory between its bytes and its count: what `read_bytes` leaves there. The bytes that the read
 -- delivers are read in it, from the address on.
@@ -40,9 +41,11 @@ pub record ReadLent (p : Pair) (h options address n countAt : ℕ) (lent : Slice
 abbrev pub PeerLent : Pair → (h : ℕ) → (lent left : Slices) → Input → Step → (memory : List ℕ) → Type 0
 PeerLent p h lent left i r memory =
     (one two : Slices) → peerSlices (isOne h) (state p one two) ≡ lent
-    → Does (state p one two) i (withPeer (isOne h) (r .pair) left (state p one two)) (gives r [] memory)
+    → Does (state p one two) i (withPeer (isOne h) (r .pair) left (state p one two))
+    (gives r (withPeer (isOne h) (r .pair) left (state p one two)) [] memory)
 
 -- create: a run begins with its answer and its pair, whatever calls follow
 abbrev pub Starts : Create → (one two : Slices) → Step → Type 0
 Starts c one two r =
-    (is : List Input) (os : List Outcome) → Calls (state (r .pair) one two) is os → Run c one two is (seenOf (r .answer) (r .pair)) os
+    (is : List Input) (os : List Outcome) (s : State)
+    → Chain Does (state (r .pair) one two) is os s → Run c one two is (seenOf (r .answer) (r .pair)) os s

@@ -17,9 +17,10 @@ use Rattle.user_memory.specs.Memory.{countLanded}
 use Rattle.syscall.specs.Write.{userWriteAnswer}
 use Rattle.syscall.specs.Read.{isPeek, userReadAnswer, bytesLanded}
 use Rattle.runs.specs.Calls.{setDisposition, shutdown, plainDisposition, plainShutdown, setReadThreshold, setWriteThreshold, getThresholds, getInfo, wait, takePacket, Call, write, read, plainWrite, plainRead, close, control, Input, input}
+use Rattle.runs.specs.Chain.{Chain, none, next}
 use Rattle.runs.specs.State.{State, state, ownSlices, peerSlices, Outcome}
-use Rattle.runs.specs.Run.{Does, did-write, did-read, did-dispose, did-shutdown, did-plain-write, did-plain-read, did-plain-dispose, did-plain-shutdown, did-read-threshold, did-write-threshold, did-thresholds, did-info, did-wait, did-take, did-close, Calls, none, next, createdBy, run}
-use Rattle.runs.specs.Step.{after, outcome, outcomes, pairCreated, start}
+use Rattle.runs.specs.Run.{Does, did-write, did-read, did-dispose, did-shutdown, did-plain-write, did-plain-read, did-plain-dispose, did-plain-shutdown, did-read-threshold, did-write-threshold, did-thresholds, did-info, did-wait, did-take, did-close, createdBy, run}
+use Rattle.runs.specs.Step.{after, outcome, outcomes, afterAll, pairCreated, start}
 use Rattle.runs.specs.Match.{RunsExist}
 use Rattle.runs.proofs.Match.{calls-match}
 
@@ -101,8 +102,8 @@ does-so s i =
     let m = calls-match s i (x .state) (x .out) (x .does) in
     rw (← m .state, ← m .out) (x .does)
 
-calls-exist : (s : State) (is : List Input) → Calls s is (outcomes s is)
-unfolding outcomes
+calls-exist : (s : State) (is : List Input) → Chain Does s is (outcomes s is) (afterAll s is)
+unfolding outcomes afterAll
 calls-exist s [] = none
 calls-exist s (i ∷ is) = next (does-so s i) (calls-exist (after s i) is)
 

@@ -1,3 +1,4 @@
+pub mod Memory
 pub mod Match
 pub mod Whole
 pub mod Exists

@@ -4,8 +4,8 @@ use mathlib.Core.Path.{_≡_, refl, sym, ap, _∙_}
 use mathlib.Core.Bool.{Bool, true, false}
 use mathlib.Core.List.{List, []}
 use lib.ListN.{length, take, drop}
+use lib.Seq.{paste}
 use Rattle.status.specs.declared.Answer.{Answer}
-use Rattle.status.specs.declared.Answer.the-variants.{Done, Refused}
 use Rattle.status.specs.Choice.{pick}
 use Rattle.status.specs.Answer.{countOf, isDone}
 use Rattle.endpoint.specs.Queue.{firstLength}
@@ -17,13 +17,15 @@ use Rattle.socket.specs.Write.{writeAnswer, pairWritten, ringWritten, tableWrit
 use Rattle.socket.specs.Read.{readAnswer, pairRead}
 use Rattle.user_memory.specs.Memory.{countLanded}
 use Rattle.syscall.specs.Write.{userWriteAnswer}
-use Rattle.syscall.specs.Read.{isPeek, userReadAnswer, bytesLanded}
+use Rattle.syscall.specs.Read.{isPeek, userReadAnswer}
 use Rattle.runs.specs.Calls.{Input}
-use Rattle.runs.specs.State.{State, state, ownSlices, peerSlices, withPair, withPeer, seenOf, gives}
+use Rattle.runs.specs.State.{Slices, State, state, ownSlices, peerSlices, withPair, withPeer, seenOf, gives}
 use Rattle.runs.specs.Run.{did-write, did-read, did-dispose, did-shutdown, did-plain-write, did-plain-read, did-plain-dispose, did-plain-shutdown, did-read-threshold, did-write-threshold, did-thresholds, did-info, did-wait, did-take, did-close}
 use Rattle.runs.specs.Answers.{view, ownLent, peerLent, controlAnswer, answerTo, controlled, pairAfter}
-use Rattle.runs.specs.Step.{written, stateAfter, landed, counted, deliveredIn, answerOf, after, outcome}
+use Rattle.runs.specs.Memory.{memoryAfter}
+use Rattle.runs.specs.Step.{written, stateAfter, landed, deliveredIn, answerOf, afterBy, deliveredBy, outcomeBy, after, outcome}
 use Rattle.runs.specs.Match.{Matches, CallsMatch}
+use Rattle.runs.proofs.Memory.{buffer-back, landed-back}
 
 -- ---- what is lent
 
@@ -53,22 +55,25 @@ module _ (s : State) (i : Input) where
       → r ≡ answerOf s i
       → p ≡ pairAfter (view s) (i .call) r
       → stateAfter s i (i .call) r p ≡ withPair p s
-      → d ≡ deliveredIn (i .base) (landed s (i .base) (i .memory) (i .call) r) (i .call) r
-      → m ≡ counted (i .base) (landed s (i .base) (i .memory) (i .call) r) (i .call) r
-      → Matches s i (withPair p s) (record { seen = seenOf r p; delivered = d; memory = m })
+      → d ≡ deliveredBy s i r
+      → m ≡ memoryAfter (i .base) (i .memory) (i .call) r d
+      → Matches s i (withPair p s) (record { seen = seenOf r p; delivered = d; memory = m; one = s .one; two = s .two })
   unfolding after outcome
   same-slices r p d m er ep es ed em =
+      let e : withPair p s ≡ afterBy s i r = sym es ∙ ap (stateAfter s i (i .call) r) ep in
       record {
-        state = sym es ∙ ap (stateAfter s i (i .call) r) ep ∙ ap (λ (x : Answer). stateAfter s i (i .call) x (pairAfter (view s) (i .call) x)) er;
+        state = e ∙ ap (afterBy s i) er;
         out =
-            (λ k. record { seen = seenOf r (ep k); delivered = ed k; memory = em k })
-            ∙ ap (λ (x : Answer).
+            (λ k.
             record {
-              seen = seenOf x (pairAfter (view s) (i .call) x);
-              delivered = deliveredIn (i .base) (landed s (i .base) (i .memory) (i .call) x) (i .call) x;
-              memory = counted (i .base) (landed s (i .base) (i .memory) (i .call) x) (i .call) x;
+              seen = seenOf r (ep k);
+              delivered = ed k;
+              memory = (em ∙ ap (memoryAfter (i .base) (i .memory) (i .call) r) ed) k;
+              one = e k .one;
+              two = e k .two;
             })
-            er;
+            ∙ ap (outcomeBy s i) er;
+        left = refl;
       }
 
   -- a call that is lent nothing
@@ -76,9 +81,9 @@ module _ (s : State) (i : Input) where
       → Steps (s .pair) (answerOf s i) q r
       → ((x : Answer) → pairAfter (view s) (i .call) x ≡ pick (isDone x) q (s .pair))
       → ((x : Answer) (p : Pair) → stateAfter s i (i .call) x p ≡ withPair p s)
-      → ((x : Answer) → [] ≡ deliveredIn (i .base) (landed s (i .base) (i .memory) (i .call) x) (i .call) x)
-      → ((x : Answer) → i .memory ≡ counted (i .base) (landed s (i .base) (i .memory) (i .call) x) (i .call) x)
-      → Matches s i (withPair (r .pair) s) (gives r [] (i .memory))
+      → ((x : Answer) → [] ≡ deliveredBy s i x)
+      → ((x : Answer) → i .memory ≡ memoryAfter (i .base) (i .memory) (i .call) x [])
+      → Matches s i (withPair (r .pair) s) (gives r s [] (i .memory))
   steps q r e fp fs fd fm =
       same-slices (r .answer) (r .pair) [] (i .memory) (e .answer)
       (e .pair ∙ sym (ap (λ (x : Answer). pick (isDone x) q (s .pair)) (e .answer)) ∙ sym (fp (r .answer)))
@@ -92,6 +97,11 @@ wrote : (t : Bool) (s : State) (p p′ : Pair) (ring ring′ table table′ : Li
 wrote true s p p′ ring ring′ table table′ a b c = λ k. record { pair = a k; one = s .one; two = record { ring = b k; table = c k } }
 wrote false s p p′ ring ring′ table table′ a b c = λ k. record { pair = a k; one = record { ring = b k; table = c k }; two = s .two }
 
+-- the slices and the pair tell the state
+wrote-left : (t : Bool) (p : Pair) (l : Slices) (s : State) → withPeer t p l s ≡ state p (withPeer t p l s .one) (withPeer t p l s .two)
+wrote-left true p l s = refl
+wrote-left false p l s = refl
+
 does-write : (s : State) (i : Input) (h : ℕ) (src ring′ table′ m : List ℕ) (r : Step)
     → r .answer ≡ answerOf s i
     → r .pair ≡ pairWritten (s .pair) h (countOf (r .answer))
@@ -99,39 +109,33 @@ does-write : (s : State) (i : Input) (h : ℕ) (src ring′ table′ m : List �
     → table′ ≡ tableWritten (s .pair) h (countOf (r .answer)) (peerSlices (isOne h) s .table)
     → ((x : Answer) → pairAfter (view s) (i .call) x ≡ pairWritten (s .pair) h (countOf x))
     → ((x : Answer) (p : Pair) → stateAfter s i (i .call) x p ≡ written s h (countOf x) src)
-    → ((x : Answer) → [] ≡ deliveredIn (i .base) (landed s (i .base) (i .memory) (i .call) x) (i .call) x)
-    → m ≡ counted (i .base) (landed s (i .base) (i .memory) (i .call) (r .answer)) (i .call) (r .answer)
-    → Matches s i (withPeer (isOne h) (r .pair) (record { ring = ring′; table = table′ }) s) (gives r [] m)
+    → ((x : Answer) → [] ≡ deliveredBy s i x)
+    → m ≡ memoryAfter (i .base) (i .memory) (i .call) (r .answer) []
+    → Matches s i (withPeer (isOne h) (r .pair) (record { ring = ring′; table = table′ }) s)
+    (gives r (withPeer (isOne h) (r .pair) (record { ring = ring′; table = table′ }) s) [] m)
 unfolding after outcome written
 does-write s i h src ring′ table′ m r er ep eb el fp fs fd em =
+    let e : withPeer (isOne h) (r .pair) (record { ring = ring′; table = table′ }) s ≡ afterBy s i (r .answer) =
+    wrote (isOne h) s (r .pair) _ ring′ _ table′ _ ep eb el ∙ sym (fs (r .answer) (pairAfter (view s) (i .call) (r .answer))) in
     record {
-      state =
-          wrote (isOne h) s (r .pair) _ ring′ _ table′ _ ep eb el
-          ∙ ap (λ (x : Answer). written s h (countOf x) src) er
-          ∙ sym (fs (answerOf s i) (pairAfter (view s) (i .call) (answerOf s i)));
+      state = e ∙ ap (afterBy s i) er;
       out =
-          (λ k. record { seen = seenOf (r .answer) ((ep ∙ sym (fp (r .answer))) k); delivered = fd (r .answer) k; memory = em k })
-          ∙ ap (λ (x : Answer).
+          (λ k.
           record {
-            seen = seenOf x (pairAfter (view s) (i .call) x);
-            delivered = deliveredIn (i .base) (landed s (i .base) (i .memory) (i .call) x) (i .call) x;
-            memory = counted (i .base) (landed s (i .base) (i .memory) (i .call) x) (i .call) x;
+            seen = seenOf (r .answer) ((ep ∙ sym (fp (r .answer))) k);
+            delivered = fd (r .answer) k;
+            memory = (em ∙ ap (memoryAfter (i .base) (i .memory) (i .call) (r .answer)) (fd (r .answer))) k;
+            one = e k .one;
+            two = e k .two;
           })
-          er;
+          ∙ ap (outcomeBy s i) er;
+      left = wrote-left (isOne h) (r .pair) _ s;
     }
-
--- the count lands where a call is done; a refused call has landed nothing
-user-memory : (s : State) (h base a at : ℕ) (ring memory memory′ : List ℕ) (r : Answer)
-    → memory′ ≡ pick (isDone r) (countLanded base at (countOf r) (bytesLanded (s .pair) h base a (countOf r) ring memory)) memory
-    → memory′ ≡ pick (isDone r) (countLanded base at (countOf r) (bytesLanded (s .pair) h base a (countOf r) ring memory)) (bytesLanded (s .pair) h base a (countOf r) ring memory)
-unfolding pick isDone bytesLanded countOf
-user-memory s h base a at ring memory memory′ (Done d) e = e
-user-memory s h base a at ring memory memory′ (Refused x) e = e
 
 -- ---- each call
 
 pub calls-match : CallsMatch
-unfolding controlAnswer answerTo controlled pairAfter stateAfter landed counted deliveredIn
+unfolding controlAnswer answerTo controlled pairAfter stateAfter landed deliveredIn memoryAfter
 calls-match s i s′ o (did-write {h} {o = o′} {a} {n} {at} {base} {memory} {memory′} {ring′} {table′} {r} w) =
     does-write s i h (drop (a - base) memory) ring′ table′ memory′ r
     (w .answer ∙ ap (λ (z : Lent). userWriteAnswer (s .pair) z h base (length memory) o′ a n at) (peer-lent (isOne h) s))
@@ -142,7 +146,11 @@ calls-match s i s′ o (did-read {h} {o = o′} {a} {n} {at} {base} {memory} {la
     (w .pair ∙ ap (λ (x : ℕ). pairRead (s .pair) h (isPeek o′) x (countOf (r .answer))) (own-first (isOne h) s))
     refl
     (ap (λ (x : List ℕ). take (countOf (r .answer)) (drop (a - base) x)) (b .user))
-    (user-memory s h base a at (ownSlices (isOne h) s .ring) memory memory′ (r .answer) (w .user))
+    (w .user
+    ∙ ap (λ (x : List ℕ). pick (isDone (r .answer)) (countLanded base at (countOf (r .answer)) x) memory)
+    (sym (landed-back (s .pair) h base o′ a n at (ownSlices (isOne h) s .ring) (ownSlices (isOne h) s .table) memory (r .answer) (w .answer))
+    ∙ ap (λ (x : List ℕ). paste memory (a - base) (take (countOf (r .answer)) (drop (a - base) x)) (length (take (countOf (r .answer)) (drop (a - base) x))))
+    (sym (b .user))))
 calls-match s i s′ o (did-dispose {r = r} e) = steps s i _ r e (λ x. refl) (λ x p. refl) (λ x. refl) (λ x. refl)
 calls-match s i s′ o (did-shutdown {r = r} e) = steps s i _ r e (λ x. refl) (λ x p. refl) (λ x. refl) (λ x. refl)
 calls-match s i s′ o (did-plain-write {h} {base} {src} {ring′} {table′} {r} w) =
@@ -155,7 +163,9 @@ calls-match s i s′ o (did-plain-read {h} {base} {peek} {buffer} {buffer′} {r
     (w .pair ∙ ap (λ (x : ℕ). pairRead (s .pair) h peek x (countOf (r .answer))) (own-first (isOne h) s))
     refl
     (ap (take (countOf (r .answer))) (w .bytes))
-    (w .bytes)
+    (w .bytes
+    ∙ sym (buffer-back (s .pair) h (ownSlices (isOne h) s .ring) (ownSlices (isOne h) s .table) buffer (r .answer) (w .answer))
+    ∙ ap (λ (x : List ℕ). paste buffer 0 (take (countOf (r .answer)) x) (length (take (countOf (r .answer)) x))) (sym (w .bytes)))
 calls-match s i s′ o (did-plain-dispose {r = r} e) = steps s i _ r e (λ x. refl) (λ x p. refl) (λ x. refl) (λ x. refl)
 calls-match s i s′ o (did-plain-shutdown {r = r} e) = steps s i _ r e (λ x. refl) (λ x p. refl) (λ x. refl) (λ x. refl)
 calls-match s i s′ o (did-read-threshold {r = r} e) = steps s i _ r e (λ x. refl) (λ x p. refl) (λ x. refl) (λ x. refl)

@@ -7,18 +7,27 @@ use Rattle.socket.specs.declared.Step.{Step}
 use Rattle.socket.specs.Pair.{newPair, noPair}
 use Rattle.socket.specs.Tests.{Steps}
 use Rattle.runs.specs.Calls.{Create, Input}
+use Rattle.runs.specs.Chain.{Chain, none, next}
 use Rattle.runs.specs.State.{Slices, State, state, seenOf, Outcome}
-use Rattle.runs.specs.Run.{Calls, none, next, createdBy, run}
-use Rattle.runs.specs.Step.{outcomes, pairCreated}
+use Rattle.runs.specs.Run.{Does, createdBy, run}
+use Rattle.runs.specs.Step.{outcomes, afterAll, pairCreated}
 use Rattle.runs.specs.Match.{RunsMatch}
 use Rattle.runs.proofs.Match.{calls-match}
 
-pub calls-computed : {s : State} {is : List Input} {os : List Outcome} → Calls s is os → os ≡ outcomes s is
-unfolding outcomes
-calls-computed none = refl
-calls-computed (next {s} {s′} {i} {o} {is} {os} d c) =
+pub record Computed (s : State) (is : List Input) (os : List Outcome) (s′ : State) : Type 0 where
+  pub calls : os ≡ outcomes s is
+  pub last : s′ ≡ afterAll s is
+
+pub calls-computed : {s : State} {is : List Input} {os : List Outcome} {s′ : State} → Chain Does s is os s′ → Computed s is os s′
+unfolding outcomes afterAll
+calls-computed none = record { calls = refl; last = refl }
+calls-computed (next {s} {s′} {s″} {i} {o} {is} {os} d c) =
     let m = calls-match s i s′ o d in
-    ap₂ (λ (x : Outcome) (xs : List Outcome). x ∷ xs) (m .out) (calls-computed c ∙ ap (λ (x : State). outcomes x is) (m .state))
+    let k = calls-computed c in
+    record {
+      calls = ap₂ (λ (x : Outcome) (xs : List Outcome). x ∷ xs) (m .out) (k .calls ∙ ap (λ (x : State). outcomes x is) (m .state));
+      last = k .last ∙ ap (λ (x : State). afterAll x is) (m .state);
+    }
 
 pub created-pair : (c : Create) (one two : Slices) (r : Step)
     → Steps noPair (createdBy c one two) (newPair (eqb (c .kind) 1) (c .capacity) (c .rights1) (c .rights2)) r
@@ -27,9 +36,11 @@ unfolding pairCreated
 created-pair c one two r e = e .pair
 
 pub runs-match : RunsMatch
-runs-match c one two is x os (run {r} e k) =
+runs-match c one two is x os s (run {r} e k) =
     let p = created-pair c one two r e in
+    let m = calls-computed k in
     record {
       create = λ i. seenOf (e .answer i) (p i);
-      calls = calls-computed k ∙ ap (λ (q : Pair). outcomes (state q one two) is) p;
+      calls = m .calls ∙ ap (λ (q : Pair). outcomes (state q one two) is) p;
+      last = m .last ∙ ap (λ (q : Pair). afterAll (state q one two) is) p;
     }

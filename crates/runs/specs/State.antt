@@ -54,11 +54,19 @@ pub record Seen : Type 0 where
 abbrev pub seenOf : Answer → Pair → Seen
 seenOf a p = record { answer = a; word1 = shown (p .one); word2 = shown (p .two); pair = p }
 
--- and the bytes: those delivered, as they stand before the count lands, and the memory at exit
+-- and the bytes: those delivered, as they stand before the count lands, the memory at exit, and each end's slices after the call
 pub record Outcome : Type 0 where
   pub seen : Seen
   pub delivered : List ℕ
   pub memory : List ℕ
+  pub one : Slices
+  pub two : Slices
 
-abbrev pub gives : Step → (delivered memory : List ℕ) → Outcome
-gives r delivered memory = record { seen = seenOf (r .answer) (r .pair); delivered = delivered; memory = memory }
+-- the slices after the call are those of the state
+abbrev pub gives : Step → State → (delivered memory : List ℕ) → Outcome
+gives r s delivered memory =
+    record { seen = seenOf (r .answer) (r .pair); delivered = delivered; memory = memory; one = s .one; two = s .two }
+
+-- the state that a call left, from its outcome
+abbrev pub leftBy : Outcome → State
+leftBy o = state (o .seen .pair) (o .one) (o .two)

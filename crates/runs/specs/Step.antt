@@ -1,4 +1,4 @@
--- One call and a list of calls, computed: the slices and the memory from the answer and the bytes. It serves to compute cases, and the functions
+-- One call and a list of calls, computed: the slices and the bytes delivered from the answer and the bytes. It serves to compute cases, and the functions
 -- do exactly this (specs/Match). 01 "Two runs".
 use Prim.Native.Nat.{ℕ, _-_}
 use mathlib.Core.List.{List, [], _∷_}
@@ -11,14 +11,14 @@ use Rattle.socket.specs.declared.Pair.{Pair}
 use Rattle.socket.specs.Pair.{isOne, newPair, noPair}
 use Rattle.socket.specs.Write.{pairWritten, ringWritten, tableWritten}
 use Rattle.socket.specs.Read.{bufferRead}
-use Rattle.user_memory.specs.Memory.{countLanded}
 use Rattle.syscall.specs.Read.{bytesLanded}
 use Rattle.runs.specs.Calls.{Create, Call, write, read, plainWrite, plainRead, close, control, Input}
 use Rattle.runs.specs.State.{Slices, State, state, ownSlices, peerSlices, withPair, withPeer, seenOf, Outcome}
 use Rattle.runs.specs.Run.{createdBy}
 use Rattle.runs.specs.Answers.{view, answerTo, pairAfter}
+use Rattle.runs.specs.Memory.{memoryAfter}
 
--- ---- the slices and the memory, from the answer and the bytes
+-- ---- the slices and the bytes delivered, from the answer and the bytes
 
 -- a write changes its peer's slices; src is what it finds
 unfoldable pub written : State → (h m : ℕ) → (src : List ℕ) → State
@@ -48,15 +48,6 @@ landed s base memory (plainRead h peek) r = bufferRead (s .pair) h (countOf r) (
 landed s base memory (close h) r = memory
 landed s base memory (control c) r = memory
 
--- the count of a done write or read over user memory lands last
-unfoldable pub counted : (base : ℕ) → (memory : List ℕ) → Call → Answer → List ℕ
-counted base memory (write h o a n at) r = pick (isDone r) (countLanded base at (countOf r) memory) memory
-counted base memory (read h o a n at) r = pick (isDone r) (countLanded base at (countOf r) memory) memory
-counted base memory (plainWrite h) r = memory
-counted base memory (plainRead h peek) r = memory
-counted base memory (close h) r = memory
-counted base memory (control c) r = memory
-
 -- the bytes that a read or peek delivers, in the memory where they have landed
 unfoldable pub deliveredIn : (base : ℕ) → (memory : List ℕ) → Call → Answer → List ℕ
 deliveredIn base memory (write h o a n at) r = []
@@ -71,23 +62,39 @@ deliveredIn base memory (control c) r = []
 abbrev pub answerOf : State → Input → Answer
 answerOf s i = answerTo (view s) (i .base) (length (i .memory)) (i .call)
 
-unfoldable pub after : State → Input → State
-after s i = stateAfter s i (i .call) (answerOf s i) (pairAfter (view s) (i .call) (answerOf s i))
+-- the state after a call that was answered r
+abbrev pub afterBy : State → Input → Answer → State
+afterBy s i r = stateAfter s i (i .call) r (pairAfter (view s) (i .call) r)
 
-abbrev pub landedOf : State → Input → List ℕ
-landedOf s i = landed s (i .base) (i .memory) (i .call) (answerOf s i)
+-- the bytes that it delivered
+abbrev pub deliveredBy : State → Input → Answer → List ℕ
+deliveredBy s i r = deliveredIn (i .base) (landed s (i .base) (i .memory) (i .call) r) (i .call) r
+
+-- and all that it gave
+abbrev pub outcomeBy : State → Input → Answer → Outcome
+outcomeBy s i r =
+    record {
+      seen = seenOf r (pairAfter (view s) (i .call) r);
+      delivered = deliveredBy s i r;
+      memory = memoryAfter (i .base) (i .memory) (i .call) r (deliveredBy s i r);
+      one = afterBy s i r .one;
+      two = afterBy s i r .two;
+    }
+
+unfoldable pub after : State → Input → State
+after s i = afterBy s i (answerOf s i)
 
 unfoldable pub outcome : State → Input → Outcome
-outcome s i =
-    record {
-      seen = seenOf (answerOf s i) (pairAfter (view s) (i .call) (answerOf s i));
-      delivered = deliveredIn (i .base) (landedOf s i) (i .call) (answerOf s i);
-      memory = counted (i .base) (landedOf s i) (i .call) (answerOf s i);
-    }
+outcome s i = outcomeBy s i (answerOf s i)
 
 unfoldable pub outcomes : State → List Input → List Outcome
 outcomes s [] = []
 outcomes s (i ∷ is) = outcome s i ∷ outcomes (after s i) is
+
+-- the state after a list of calls
+unfoldable pub afterAll : State → List Input → State
+afterAll s [] = s
+afterAll s (i ∷ is) = afterAll (after s i) is
 
 -- the pair that create hands back
 unfoldable pub pairCreated : Create → Answer → Pair

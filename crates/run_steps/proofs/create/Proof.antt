@@ -7,7 +7,7 @@ create-requires : tie.Need-create-requires
 create-requires c κs = search needs
 
 returns : tie.Need-returns
-returns c = λ is os calls. run (c .create .ensures) calls
+returns c = λ is os s calls. run (c .create .ensures) calls
 
 pub create-spec : {M : Type 1} → statement M
 create-spec = tie.close (tie.spec create-requires returns)
