@@ -6,30 +6,20 @@ use native.Mathlib.Omega.{arith}
 use native.Mathlib.Nat.{not-suc-le-zero}
 use lib.Dec.{leb, eqb}
 use borrow.Author.Tests.{ltb-false, leb-true, leb-false, eqb-false, ne-eqb}
-use Rattle.status.specs.declared.Status.{Status}
-use Rattle.status.specs.declared.Answer.{Answer}
-use Rattle.status.specs.declared.Answer.the-variants.{Done, Refused}
-use Rattle.status.specs.declared.Record.the-variants.{Count}
-use Rattle.status.specs.Choice.{pick, _and_, _or_}
-use Rattle.status.specs.Answer.{recordCount, countOf, isDone, refuseIf, refuseUnless, _then_}
-use Rattle.places.specs.Table.{used}
-use Rattle.endpoint.specs.declared.Endpoint.{Endpoint}
-use Rattle.write_size.specs.Write.{datagramSize, writeSize}
-use Rattle.sizes.specs.Read.{emptyAnswer, availableIn, readSize}
-use Rattle.read_answer.specs.Read.{readAnswer as endsReadAnswer}
-use Rattle.answers.specs.Wait.{waitAnswer as endsWaitAnswer}
-use Rattle.write_answer.specs.Write.{writeAnswer as endsWriteAnswer}
-use Rattle.socket.specs.declared.Pair.{Pair}
-use Rattle.socket.specs.Pair.{isOne, own, peer}
-use Rattle.socket.specs.Tests.{Lent}
-use Rattle.socket.specs.Write.{writeAnswer}
-use Rattle.socket.specs.Read.{readAnswer}
-use Rattle.socket.specs.Wait.{waitAnswer, takeAnswer}
-use Rattle.user_memory.specs.Memory.{fits}
-use Rattle.user_write_answer.specs.Write.{writeRanges, userWriteAnswer as endsUserWriteAnswer}
-use Rattle.syscall.specs.Write.{userWriteAnswer}
-use Rattle.user_read_answer.specs.Read.{userReadAnswer as endsUserReadAnswer}
-use Rattle.syscall.specs.Read.{userReadAnswer}
+use Rattle.definition.specs.declared.Status.{Status}
+use Rattle.definition.specs.declared.Answer.{Answer}
+use Rattle.definition.specs.declared.Answer.the-variants.{Done, Refused}
+use Rattle.definition.specs.declared.Record.the-variants.{Count}
+use Rattle.definition.specs.Status.{pick, _and_, _or_, recordCount, countOf, isDone, refuseIf, refuseUnless, _then_}
+use Rattle.definition.specs.Port.{used}
+use Rattle.definition.specs.declared.Endpoint.{Endpoint}
+use Rattle.definition.specs.Write.{datagramSize, writeSize, writeAnswer as endsWriteAnswer, writeAnswer, writeRanges, userWriteAnswer as endsUserWriteAnswer, userWriteAnswer}
+use Rattle.definition.specs.Read.{emptyAnswer, availableIn, readSize, readAnswer as endsReadAnswer, readAnswer, userReadAnswer as endsUserReadAnswer, userReadAnswer}
+use Rattle.definition.specs.Wait.{waitAnswer as endsWaitAnswer, waitAnswer, takeAnswer}
+use Rattle.definition.specs.declared.Pair.{Pair}
+use Rattle.definition.specs.Pair.{isOne, own, peer, endsOf}
+use Rattle.definition.specs.Tests.{Lent}
+use Rattle.definition.specs.Memory.{fits}
 use Rattle.claims.proofs.Moves.{Taken}
 
 -- ---- tests that were passed
@@ -96,12 +86,12 @@ size-room dg C e e′ n =
     room true below h = datagram-room C (e′ .queue .bytes .count) n below h
     room false below h = record { fits = omega arith; within = omega arith }
 
-pub plain-room : (p : Pair) (z : Lent) (h n : ℕ) → 0 < countOf (writeAnswer p z h n)
-    → Room (p .capacity) (peer (isOne h) p .queue .bytes .count) n (countOf (writeAnswer p z h n))
+pub plain-room : (p : Pair) (z : Lent) (h n : ℕ) → 0 < countOf (writeAnswer (endsOf p) z h n)
+    → Room (p .capacity) (peer (isOne h) (endsOf p) .queue .bytes .count) n (countOf (writeAnswer (endsOf p) z h n))
 unfolding endsWriteAnswer
 plain-room p z h n =
-    let P : Answer → Type 0 = λ x. Room (p .capacity) (peer (isOne h) p .queue .bytes .count) n (countOf x) in
-    peel P _ _ (λ _. peel P _ _ (λ _. peel P _ _ (λ _. size-room (p .datagram) (p .capacity) (own (isOne h) p) (peer (isOne h) p) n)))
+    let P : Answer → Type 0 = λ x. Room (p .capacity) (peer (isOne h) (endsOf p) .queue .bytes .count) n (countOf x) in
+    peel P _ _ (λ _. peel P _ _ (λ _. peel P _ _ (λ _. size-room (p .datagram) (p .capacity) (own (isOne h) (endsOf p)) (peer (isOne h) (endsOf p)) n)))
 
 -- over user memory the bytes that are taken lie in it
 ranges : (Q : ℕ → Type 0) (base size address countAt : ℕ) (a : Answer) → (0 < countOf a → Q (countOf a))
@@ -112,15 +102,15 @@ ranges Q base size address countAt a f =
     let P : Answer → Type 0 = λ x. Q (countOf x) × (address - base + countOf x ≤ size) in
     peel P _ _ (λ _. peel P _ _ (λ e. peel P _ _ (λ _ h. (f h, in-memory base size address (countOf a) (unless-on _ _ e) h))))
 
-pub user-room : (p : Pair) (z : Lent) (h base size o a n at : ℕ) → 0 < countOf (userWriteAnswer p z h base size o a n at)
-    → Room (p .capacity) (peer (isOne h) p .queue .bytes .count) n (countOf (userWriteAnswer p z h base size o a n at))
-    × (a - base + countOf (userWriteAnswer p z h base size o a n at) ≤ size)
+pub user-room : (p : Pair) (z : Lent) (h base size o a n at : ℕ) → 0 < countOf (userWriteAnswer (endsOf p) z h base size o a n at)
+    → Room (p .capacity) (peer (isOne h) (endsOf p) .queue .bytes .count) n (countOf (userWriteAnswer (endsOf p) z h base size o a n at))
+    × (a - base + countOf (userWriteAnswer (endsOf p) z h base size o a n at) ≤ size)
 unfolding endsUserWriteAnswer
 user-room p z h base size o a n at =
-    let Q : ℕ → Type 0 = λ m. Room (p .capacity) (peer (isOne h) p .queue .bytes .count) n m in
+    let Q : ℕ → Type 0 = λ m. Room (p .capacity) (peer (isOne h) (endsOf p) .queue .bytes .count) n m in
     let P : Answer → Type 0 = λ x. Q (countOf x) × (a - base + countOf x ≤ size) in
     peel P _ _ (λ _. peel P _ _ (λ _. peel P _ _ (λ _. peel P _ _ (λ _. peel P _ _ (λ _.
-    ranges Q base size a at _ (size-room (p .datagram) (p .capacity) (own (isOne h) p) (peer (isOne h) p) n))))))
+    ranges Q base size a at _ (size-room (p .datagram) (p .capacity) (own (isOne h) (endsOf p)) (peer (isOne h) (endsOf p)) n))))))
 
 -- ---- read
 
@@ -145,26 +135,26 @@ size-taken dg e e′ first n = go (eqb (e .queue .bytes .count) 0) refl dg
         let k : e .queue .bytes .count ≡ 0 → ⊥ = eqb-false (e .queue .bytes .count) 0 z in
         (record { any = omega (arith, k); part = λ d. absurd (let x : _≡_ {A = Bool} false true = d in let y : _≡_ {A = ℕ} 0 1 = cc in omega arith); stream = λ _. omega arith }, omega arith)
 
-pub plain-taken : (p : Pair) (z : Lent) (h n : ℕ) → 0 < countOf (readAnswer p z h n)
-    → Taken (p .datagram) (own (isOne h) p .queue .bytes .count) (z .first) (countOf (readAnswer p z h n)) × (countOf (readAnswer p z h n) ≤ n)
+pub plain-taken : (p : Pair) (z : Lent) (h n : ℕ) → 0 < countOf (readAnswer (endsOf p) z h n)
+    → Taken (p .datagram) (own (isOne h) (endsOf p) .queue .bytes .count) (z .first) (countOf (readAnswer (endsOf p) z h n)) × (countOf (readAnswer (endsOf p) z h n) ≤ n)
 unfolding endsReadAnswer
 plain-taken p z h n =
-    let P : Answer → Type 0 = λ x. Taken (p .datagram) (own (isOne h) p .queue .bytes .count) (z .first) (countOf x) × (countOf x ≤ n) in
-    peel P _ _ (λ _. peel P _ _ (λ _. peel P _ _ (λ _. size-taken (p .datagram) (own (isOne h) p) (peer (isOne h) p) (z .first) n)))
+    let P : Answer → Type 0 = λ x. Taken (p .datagram) (own (isOne h) (endsOf p) .queue .bytes .count) (z .first) (countOf x) × (countOf x ≤ n) in
+    peel P _ _ (λ _. peel P _ _ (λ _. peel P _ _ (λ _. size-taken (p .datagram) (own (isOne h) (endsOf p)) (peer (isOne h) (endsOf p)) (z .first) n)))
 
-pub user-taken : (p : Pair) (z : Lent) (h base size o a n at : ℕ) → 0 < countOf (userReadAnswer p z h base size o a n at)
-    → Taken (p .datagram) (own (isOne h) p .queue .bytes .count) (z .first) (countOf (userReadAnswer p z h base size o a n at))
-    × (a - base + countOf (userReadAnswer p z h base size o a n at) ≤ size)
+pub user-taken : (p : Pair) (z : Lent) (h base size o a n at : ℕ) → 0 < countOf (userReadAnswer (endsOf p) z h base size o a n at)
+    → Taken (p .datagram) (own (isOne h) (endsOf p) .queue .bytes .count) (z .first) (countOf (userReadAnswer (endsOf p) z h base size o a n at))
+    × (a - base + countOf (userReadAnswer (endsOf p) z h base size o a n at) ≤ size)
 unfolding endsUserReadAnswer
 user-taken p z h base size o a n at =
-    let P : Answer → Type 0 = λ x. Taken (p .datagram) (own (isOne h) p .queue .bytes .count) (z .first) (countOf x) × (a - base + countOf x ≤ size) in
+    let P : Answer → Type 0 = λ x. Taken (p .datagram) (own (isOne h) (endsOf p) .queue .bytes .count) (z .first) (countOf x) × (a - base + countOf x ≤ size) in
     peel P _ _ (λ _. peel P _ _ (λ _. peel P _ _ (λ _. peel P _ _ (λ _. peel P _ _ (λ _. peel P _ _ (λ e. peel P _ _ (λ _ k.
-    let (t, within) = size-taken (p .datagram) (own (isOne h) p) (peer (isOne h) p) (z .first) n k in
+    let (t, within) = size-taken (p .datagram) (own (isOne h) (endsOf p)) (peer (isOne h) (endsOf p)) (z .first) n k in
     (t, omega (arith, within, in-memory base size a n (unless-on _ _ e) (omega arith))))))))))
 
 -- ---- wait and take
 
-pub wait-room : (p : Pair) (h edge : ℕ) → isDone (waitAnswer p h edge) ≡ true → used (p .places) ≡ 128 → ⊥
+pub wait-room : (p : Pair) (h edge : ℕ) → isDone (waitAnswer (endsOf p) h edge) ≡ true → used (p .places) ≡ 128 → ⊥
 unfolding endsWaitAnswer
 wait-room p h edge e =
     let (_, rest) = then-done _ _ e in

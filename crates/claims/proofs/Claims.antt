@@ -1,15 +1,15 @@
 -- Each claim by its proof. Assumes nothing.
-use Rattle.claims.specs.Claims.{Claims}
-use Rattle.runs.proofs.Match.{calls-match}
-use Rattle.runs.proofs.Whole.{runs-match}
-use Rattle.runs.proofs.Exists.{runs-exist}
+use Rattle.definition_runs.specs.Claims.{Claims}
+use Rattle.claims.proofs.runs.Match.{calls-match}
+use Rattle.claims.proofs.runs.Whole.{runs-match}
+use Rattle.claims.proofs.runs.Exists.{runs-exist}
 use Rattle.claims.proofs.TwoRuns.{two-runs}
 use Rattle.claims.proofs.Example.{examples}
 use Rattle.claims.proofs.Refused.{refused-changes-nothing, memory-at-exit}
 use Rattle.claims.proofs.RunsSound.{runs-are-sound}
-use Rattle.cases.proofs.Lines.{lines-match}
-use Rattle.cases.proofs.Edges.{at-the-edges, in-order, packets-in-order}
-use Rattle.cases.proofs.Damaged.{damaged-records, lent-slices, first-lengths, create-arguments}
+use Rattle.claims.proofs.cases.Lines.{lines-match}
+use Rattle.definition.proofs.cases.Edges.{at-the-edges, in-order, packets-in-order}
+use Rattle.definition.proofs.cases.Damaged.{damaged-records, lent-slices, first-lengths, create-arguments}
 
 pub claims : Claims
 claims =

@@ -9,19 +9,15 @@ use lib.ListN.{length, take, drop}
 use lib.Seq.{paste, take-all}
 use lib.Dec.{eqb}
 use borrow.Author.Tests.{eqb-true, eqb-false}
-use Rattle.status.specs.Choice.{pick}
-use Rattle.ring.specs.Ring.{front}
-use Rattle.ring.proofs.Laws.{length-front}
-use Rattle.endpoint.specs.declared.Queue.{Queue}
-use Rattle.transfer_read.specs.Read.{bufferRead}
-use Rattle.socket.specs.Pair.{isOne, own}
-use Rattle.syscall.specs.Read.{bytesLanded}
-use Rattle.runs.specs.Calls.{Call, write, read, plainWrite, plainRead, close, control}
-use Rattle.runs.specs.State.{Slices, State, ownSlices}
-use Rattle.runs.specs.Answers.{view, ownLent, answerTo}
-use Rattle.runs.specs.Step.{landed, deliveredIn}
-use Rattle.runs.proofs.Memory.{take-pasted}
-use Rattle.claims.specs.Origins.{Origin, Line, flat, Lines, ownLine, sourceOf}
+use Rattle.definition.specs.Status.{pick}
+use Rattle.definition.specs.Ring.{front}
+use Rattle.ring.proofs.copy.Laws.{length-front}
+use Rattle.definition.specs.declared.Queue.{Queue}
+use Rattle.definition.specs.Read.{bufferRead, bytesLanded}
+use Rattle.definition.specs.Pair.{isOne, own, endsOf}
+use Rattle.definition.specs.Calls.{Call, write, read, plainWrite, plainRead, close, control, Slices, State, ownSlices, view, ownLent, answerTo, landed, deliveredIn}
+use Rattle.claims.proofs.runs.Memory.{take-pasted}
+use Rattle.definition_runs.specs.Origins.{Origin, Line, flat, Lines, ownLine, sourceOf}
 use Rattle.claims.proofs.Holds.{Size, Holds, firstOf, ring-long}
 use Rattle.claims.proofs.Moves.{Taken, front-line, taken-within}
 use Rattle.claims.proofs.Answers.{plain-taken, user-taken}
@@ -41,21 +37,21 @@ end-delivers f dg C z q l g memory off k h t fits =
 
 module _ (f : Origin → Option ℕ) (dg : Bool) (z1 z2 : Size) (s : State) (ln : Lines) (v : Inv f dg z1 z2 s ln) where
   queue-delivers : (t : Bool) (memory : List ℕ) (off k : ℕ)
-      → Taken (s .pair .datagram) (own t (s .pair) .queue .bytes .count) (firstOf (s .pair .datagram) (ownLine t ln)) k → off + k ≤ length memory
-      → map some (take k (drop off (paste memory off (front (s .pair .capacity) (own t (s .pair) .queue .bytes .start) k (ownSlices t s .ring)) k)))
+      → Taken (s .pair .datagram) (own t (endsOf (s .pair)) .queue .bytes .count) (firstOf (s .pair .datagram) (ownLine t ln)) k → off + k ≤ length memory
+      → map some (take k (drop off (paste memory off (front (s .pair .capacity) (own t (endsOf (s .pair)) .queue .bytes .start) k (ownSlices t s .ring)) k)))
       ≡ map f (take k (flat (ownLine t ln)))
   queue-delivers true memory off k = end-delivers f _ _ z1 (s .pair .one .queue) (s .one) (ln .one) memory off k (v .one)
   queue-delivers false memory off k = end-delivers f _ _ z2 (s .pair .two .queue) (s .two) (ln .two) memory off k (v .two)
 
   read-delivers : (t : Bool) (memory : List ℕ) (off k : ℕ)
-      → (0 < k → Taken (s .pair .datagram) (own t (s .pair) .queue .bytes .count) (ownLent t (view s) .first) k × (off + k ≤ length memory))
-      → map some (take k (drop off (pick (eqb k 0) memory (paste memory off (front (s .pair .capacity) (own t (s .pair) .queue .bytes .start) k (ownSlices t s .ring)) k))))
+      → (0 < k → Taken (s .pair .datagram) (own t (endsOf (s .pair)) .queue .bytes .count) (ownLent t (view s) .first) k × (off + k ≤ length memory))
+      → map some (take k (drop off (pick (eqb k 0) memory (paste memory off (front (s .pair .capacity) (own t (endsOf (s .pair)) .queue .bytes .start) k (ownSlices t s .ring)) k))))
       ≡ map f (take k (flat (ownLine t ln)))
   unfolding pick
   read-delivers t memory off k taken = go (eqb k 0) refl
     where
       go : (b : Bool) → eqb k 0 ≡ b
-          → map some (take k (drop off (pick b memory (paste memory off (front (s .pair .capacity) (own t (s .pair) .queue .bytes .start) k (ownSlices t s .ring)) k))))
+          → map some (take k (drop off (pick b memory (paste memory off (front (s .pair .capacity) (own t (endsOf (s .pair)) .queue .bytes .start) k (ownSlices t s .ring)) k))))
           ≡ map f (take k (flat (ownLine t ln)))
       go true e = let z : k ≡ 0 = eqb-true k 0 e in rw z refl
       go false e =

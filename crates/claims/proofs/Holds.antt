@@ -9,14 +9,13 @@ use native.Mathlib.Omega.{arith}
 use lib.ListN.{length, getD, length-append, length-map}
 use lib.Dec.{ltb, eqb}
 use borrow.Author.Tests.{lt-ltb, le-ltb, le-leb, eq-eqb, ne-eqb}
-use Rattle.status.specs.Choice.{pick, _and_, _or_}
-use Rattle.ring.specs.Ring.{front}
-use Rattle.ring.proofs.Laws.{length-front, front-first}
-use Rattle.endpoint.specs.declared.Queue.{Queue}
-use Rattle.endpoint.specs.Queue.{soundLengths, soundQueue, shortTable, shortSlices, hasLength, firstLength, badFirst}
-use Rattle.socket.specs.Tests.{lentOf}
-use Rattle.runs.specs.State.{Slices}
-use Rattle.claims.specs.Origins.{Origin, Line, flat}
+use Rattle.definition.specs.Status.{pick, _and_, _or_}
+use Rattle.definition.specs.Ring.{front}
+use Rattle.ring.proofs.copy.Laws.{length-front, front-first}
+use Rattle.definition.specs.declared.Queue.{Queue}
+use Rattle.definition.specs.Tests.{soundLengths, soundQueue, shortTable, shortSlices, hasLength, firstLength, badFirst, lentOf}
+use Rattle.definition.specs.Calls.{Slices}
+use Rattle.definition_runs.specs.Origins.{Origin, Line, flat}
 use Rattle.claims.proofs.Lists.{Full, full-length, full-more, headLength}
 
 -- the lengths of an end's ring and table

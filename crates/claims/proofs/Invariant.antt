@@ -9,28 +9,21 @@ use native.Mathlib.Omega.{arith}
 use lib.ListN.{length, take, drop, length-drop, getElem?}
 use lib.Dec.{eqb}
 use borrow.Author.Tests.{leb-true, eqb-false}
-use Rattle.status.specs.declared.Answer.{Answer}
-use Rattle.status.specs.declared.Answer.the-variants.{Done, Refused}
-use Rattle.status.specs.Choice.{pick, _or_}
-use Rattle.status.specs.Answer.{isDone}
-use Rattle.places.specs.Table.{used, sound}
-use Rattle.endpoint.specs.declared.Queue.{Queue}
-use Rattle.endpoint.specs.Endpoint.{withQueue, closedEnd}
-use Rattle.transfer_read.specs.Read.{leaving}
-use Rattle.transfer_write.specs.Write.{ringFed, tableFed, ringWritten, tableWritten}
-use Rattle.socket.specs.declared.Pair.{Pair}
-use Rattle.socket.specs.Pair.{isOne, own, peer, withEnd}
-use Rattle.socket.specs.Tests.{lentOf}
-use Rattle.socket.specs.Write.{pairWritten, wrote}
-use Rattle.socket.specs.Read.{consumed, pairRead}
-use Rattle.socket.specs.Wait.{closed}
-use Rattle.syscall.specs.Read.{isPeek}
-use Rattle.syscall.specs.Control.{dispositionOf, shutsRead, shutsWrite}
-use Rattle.runs.specs.Calls.{Control, setDisposition, shutdown, plainDisposition, plainShutdown, setReadThreshold, setWriteThreshold, getThresholds, getInfo, wait, takePacket, Call, write, read, plainWrite, plainRead, close, control, Input, bytesOf, offsetOf}
-use Rattle.runs.specs.State.{Slices, State, peerSlices, withPair, withPeer}
-use Rattle.runs.specs.Answers.{view, ownLent, peerLent, controlAnswer, answerTo, controlled, pairAfter}
-use Rattle.runs.specs.Step.{written, stateAfter, answerOf, after}
-use Rattle.claims.specs.Origins.{Origin, origins, Line, Lines, ownLine, withOwn, fed, added, shrunk, removed, linesAfter}
+use Rattle.definition.specs.declared.Answer.{Answer}
+use Rattle.definition.specs.declared.Answer.the-variants.{Done, Refused}
+use Rattle.definition.specs.Status.{pick, _or_, isDone}
+use Rattle.definition.specs.Port.{used, sound}
+use Rattle.definition.specs.declared.Queue.{Queue}
+use Rattle.definition.specs.Pair.{withQueue, isOne, own, peer, withEnd, endsOf}
+use Rattle.definition.specs.Close.{closedEnd, closed}
+use Rattle.definition.specs.Read.{leaving, consumed, pairRead, isPeek}
+use Rattle.definition.specs.Write.{ringFed, tableFed, ringWritten, tableWritten, pairWritten, wrote}
+use Rattle.definition.specs.declared.Pair.{Pair}
+use Rattle.definition.specs.Tests.{lentOf}
+use Rattle.definition.specs.Disposition.{dispositionOf}
+use Rattle.definition.specs.Shutdown.{shutsRead, shutsWrite}
+use Rattle.definition.specs.Calls.{Control, setDisposition, shutdown, plainDisposition, plainShutdown, setReadThreshold, setWriteThreshold, getThresholds, getInfo, wait, takePacket, Call, write, read, plainWrite, plainRead, close, control, Input, bytesOf, offsetOf, Slices, State, peerSlices, withPair, withPeer, view, ownLent, peerLent, controlAnswer, answerTo, controlled, pairAfter, written, stateAfter, answerOf, after}
+use Rattle.definition_runs.specs.Origins.{Origin, origins, Line, Lines, ownLine, withOwn, fed, added, shrunk, removed, linesAfter}
 use Rattle.claims.proofs.Lists.{length-origins, origin-bytes}
 use Rattle.claims.proofs.Holds.{Size, Holds, firstOf, first-is}
 use Rattle.claims.proofs.Moves.{fed-holds, Taken, drained-holds, no-holds}
@@ -76,13 +69,13 @@ module _ (f : Origin → Option ℕ) (dg : Bool) (z1 z2 : Size) where
 
   -- a write whose m bytes stand at the origins of any group
   module _ (group : List Origin) (m : ℕ) (xs : List ℕ) (s : State) (ln : Lines) (v : Inv f dg z1 z2 s ln) where
-    fed-inv : (t : Bool) → 0 < m → peer t (s .pair) .queue .bytes .count + m ≤ s .pair .capacity → m ≤ length xs → length group ≡ m
+    fed-inv : (t : Bool) → 0 < m → peer t (endsOf (s .pair)) .queue .bytes .count + m ≤ s .pair .capacity → m ≤ length xs → length group ≡ m
         → map f group ≡ map some (take m xs)
         → Inv f dg z1 z2
         (withPeer t (wrote t m (s .pair))
         (record {
-          ring = ringFed (s .pair .capacity) (peer t (s .pair) .queue) m xs (peerSlices t s .ring);
-          table = tableFed (s .pair .datagram) (s .pair .capacity) (peer t (s .pair) .queue) m (peerSlices t s .table);
+          ring = ringFed (s .pair .capacity) (peer t (endsOf (s .pair)) .queue) m xs (peerSlices t s .ring);
+          table = tableFed (s .pair .datagram) (s .pair .capacity) (peer t (endsOf (s .pair)) .queue) m (peerSlices t s .table);
         })
         s)
         (fed t group ln)
@@ -106,18 +99,18 @@ module _ (f : Origin → Option ℕ) (dg : Bool) (z1 z2 : Size) where
           two = v .two;
         })
 
-    pub written-inv : (h n : ℕ) → (0 < m → Room (s .pair .capacity) (peer (isOne h) (s .pair) .queue .bytes .count) n m) → (0 < m → m ≤ length xs)
+    pub written-inv : (h n : ℕ) → (0 < m → Room (s .pair .capacity) (peer (isOne h) (endsOf (s .pair)) .queue .bytes .count) n m) → (0 < m → m ≤ length xs)
         → length group ≡ m → (m ≤ length xs → map f group ≡ map some (take m xs))
         → Inv f dg z1 z2 (written s h m xs) (pick (eqb m 0) ln (fed (isOne h) group ln))
     unfolding written pairWritten ringWritten tableWritten pick
     written-inv h n room has size at = go (isOne h) room (eqb m 0) refl
       where
-        go : (t : Bool) → (0 < m → Room (s .pair .capacity) (peer t (s .pair) .queue .bytes .count) n m) → (b : Bool) → eqb m 0 ≡ b
+        go : (t : Bool) → (0 < m → Room (s .pair .capacity) (peer t (endsOf (s .pair)) .queue .bytes .count) n m) → (b : Bool) → eqb m 0 ≡ b
             → Inv f dg z1 z2
             (withPeer t (pick b (s .pair) (wrote t m (s .pair)))
             (record {
-              ring = pick b (peerSlices t s .ring) (ringFed (s .pair .capacity) (peer t (s .pair) .queue) m xs (peerSlices t s .ring));
-              table = pick b (peerSlices t s .table) (tableFed (s .pair .datagram) (s .pair .capacity) (peer t (s .pair) .queue) m (peerSlices t s .table));
+              ring = pick b (peerSlices t s .ring) (ringFed (s .pair .capacity) (peer t (endsOf (s .pair)) .queue) m xs (peerSlices t s .ring));
+              table = pick b (peerSlices t s .table) (tableFed (s .pair .datagram) (s .pair .capacity) (peer t (endsOf (s .pair)) .queue) m (peerSlices t s .table));
             })
             s)
             (pick b ln (fed t group ln))
@@ -131,7 +124,7 @@ module _ (f : Origin → Option ℕ) (dg : Bool) (z1 z2 : Size) where
   -- the group of one write
   pub added-inv : (w m : ℕ) (xs : List ℕ) → ((o : ℕ) → f (record { call = w; offset = o }) ≡ getElem? xs o) → (s : State) (ln : Lines)
       → Inv f dg z1 z2 s ln
-      → (h n : ℕ) → (0 < m → Room (s .pair .capacity) (peer (isOne h) (s .pair) .queue .bytes .count) n m) → (0 < m → m ≤ length xs)
+      → (h n : ℕ) → (0 < m → Room (s .pair .capacity) (peer (isOne h) (endsOf (s .pair)) .queue .bytes .count) n m) → (0 < m → m ≤ length xs)
       → Inv f dg z1 z2 (written s h m xs) (added (isOne h) w m ln)
   unfolding added
   added-inv w m xs at s ln v h n room has =
@@ -140,7 +133,7 @@ module _ (f : Origin → Option ℕ) (dg : Bool) (z1 z2 : Size) where
   -- ---- read and close
 
   module _ (s : State) (ln : Lines) (v : Inv f dg z1 z2 s ln) where
-    drained-inv : (t : Bool) (k : ℕ) → Taken (s .pair .datagram) (own t (s .pair) .queue .bytes .count) (firstOf (s .pair .datagram) (ownLine t ln)) k
+    drained-inv : (t : Bool) (k : ℕ) → Taken (s .pair .datagram) (own t (endsOf (s .pair)) .queue .bytes .count) (firstOf (s .pair .datagram) (ownLine t ln)) k
         → Inv f dg z1 z2 (withPair (consumed t (leaving (s .pair .datagram) (firstOf (s .pair .datagram) (ownLine t ln)) k) (s .pair)) s)
         (withOwn t (shrunk (s .pair .datagram) k (ownLine t ln)) ln)
     unfolding withEnd withQueue
@@ -170,13 +163,13 @@ module _ (f : Origin → Option ℕ) (dg : Bool) (z1 z2 : Size) where
     own-first false = first-is f (s .pair .datagram) (s .pair .capacity) z2 (s .pair .two .queue) (s .two) (ln .two) (v .two)
 
     pub read-inv : (h : ℕ) (peek : Bool) (k : ℕ)
-        → (0 < k → Taken (s .pair .datagram) (own (isOne h) (s .pair) .queue .bytes .count) (ownLent (isOne h) (view s) .first) k)
+        → (0 < k → Taken (s .pair .datagram) (own (isOne h) (endsOf (s .pair)) .queue .bytes .count) (ownLent (isOne h) (view s) .first) k)
         → Inv f dg z1 z2 (withPair (pairRead (s .pair) h peek (ownLent (isOne h) (view s) .first) k) s) (removed (s .pair .datagram) (isOne h) peek k ln)
     unfolding pairRead removed pick _or_
     read-inv h peek k taken = go (isOne h) (ownLent (isOne h) (view s) .first) (own-first (isOne h)) taken peek (eqb k 0) refl
       where
         go : (t : Bool) (first : ℕ) → first ≡ firstOf (s .pair .datagram) (ownLine t ln)
-            → (0 < k → Taken (s .pair .datagram) (own t (s .pair) .queue .bytes .count) first k) → (peek b : Bool) → eqb k 0 ≡ b
+            → (0 < k → Taken (s .pair .datagram) (own t (endsOf (s .pair)) .queue .bytes .count) first k) → (peek b : Bool) → eqb k 0 ≡ b
             → Inv f dg z1 z2 (withPair (pick (peek or b) (s .pair) (consumed t (leaving (s .pair .datagram) first k) (s .pair))) s)
             (pick peek ln (pick b ln (withOwn t (shrunk (s .pair .datagram) k (ownLine t ln)) ln)))
         go t first e taken true b z = v

@@ -3,28 +3,26 @@ use Prim.Native.Nat.{ℕ, _<_}
 use mathlib.Core.Path.{_≡_, refl, _∙_}
 use mathlib.Core.Bool.{Bool, true, false, not}
 use lib.Dec.{eqb}
-use Rattle.status.specs.Choice.{pick}
-use Rattle.places.specs.declared.Places.{Places}
-use Rattle.signal.specs.Signal.{«PEER_WRITE_DISABLED»}
-use Rattle.places.specs.Table.{used, sound}
-use Rattle.places.specs.Next.{done}
-use Rattle.port.specs.Port.{droppedOf}
-use Rattle.packets.proofs.Operations.{take-done}
-use Rattle.port.proofs.Operations.{register-done, drop-done}
-use Rattle.port.proofs.Sound.{sound-register, sound-change, sound-take, sound-drop}
-use Rattle.endpoint.specs.declared.Endpoint.{Endpoint}
-use Rattle.endpoint.specs.declared.Disposition.{Disposition}
-use Rattle.endpoint.specs.declared.Disposition.the-variants.{Unchanged, Disable, Enable}
-use Rattle.endpoint.specs.Endpoint.{withQueue, withSignals, withReadDisabled, withThresholds, closedEnd}
-use Rattle.transfer_read.specs.Read.{drainedQueue}
-use Rattle.transfer_write.specs.Write.{fedQueue}
-use Rattle.socket.specs.declared.Pair.{Pair}
-use Rattle.socket.specs.Pair.{own, peer, withEnd, withPlaces, withChange, signalChange, putBit, switchReading}
-use Rattle.socket.specs.Write.{wrote}
-use Rattle.socket.specs.Read.{consumed}
-use Rattle.socket.specs.Threshold.{readThresholdSet, writeThresholdSet}
-use Rattle.socket.specs.Disposition.{switchWriting, disposeOwn, disposePeer, disposedOwn, disposedPeer, disposed, shutEnd, shut}
-use Rattle.socket.specs.Wait.{waited, took, closed}
+use Rattle.definition.specs.Status.{pick}
+use Rattle.definition.specs.declared.Places.{Places}
+use Rattle.definition.specs.Signal.{«PEER_WRITE_DISABLED»}
+use Rattle.definition.specs.Port.{used, sound, done, droppedOf}
+use Rattle.port.proofs.packets.Operations.{take-done}
+use Rattle.port.proofs.waits.Operations.{register-done, drop-done}
+use Rattle.port.proofs.waits.Sound.{sound-register, sound-change, sound-take, sound-drop}
+use Rattle.definition.specs.declared.Endpoint.{Endpoint}
+use Rattle.definition.specs.declared.Disposition.{Disposition}
+use Rattle.definition.specs.declared.Disposition.the-variants.{Unchanged, Disable, Enable}
+use Rattle.definition.specs.Pair.{withQueue, withSignals, withReadDisabled, withThresholds, own, peer, withEnd, withPlaces, endsOf}
+use Rattle.definition.specs.Close.{closedEnd, closed}
+use Rattle.definition.specs.Read.{drainedQueue, consumed}
+use Rattle.definition.specs.Write.{fedQueue, wrote}
+use Rattle.definition.specs.declared.Pair.{Pair}
+use Rattle.definition.specs.Effect.{withChange, signalChange, putBit, switchReading}
+use Rattle.definition.specs.Threshold.{readThresholdSet, writeThresholdSet}
+use Rattle.definition.specs.Disposition.{switchWriting, disposeOwn, disposePeer, disposedOwn, disposedPeer, disposed}
+use Rattle.definition.specs.Shutdown.{shutEnd, shut}
+use Rattle.definition.specs.Wait.{waited, took}
 
 pub record Kept (p p′ : Pair) : Type 0 where
   pub datagram : p′ .datagram ≡ p .datagram
@@ -61,14 +59,14 @@ signal-kept false clear set p =
     record { datagram = refl; capacity = refl; one = refl; two = refl; places = λ e. sound-change (p .places) e false (p .two .signals) clear set }
 
 -- an end with its queue put back
-end-kept : (t : Bool) (e : Endpoint) (p : Pair) → e .queue ≡ own t p .queue → Kept p (withEnd t e p)
+end-kept : (t : Bool) (e : Endpoint) (p : Pair) → e .queue ≡ own t (endsOf p) .queue → Kept p (withEnd t e p)
 unfolding withEnd
 end-kept true e p k = record { datagram = refl; capacity = refl; one = k; two = refl; places = λ s. s }
 end-kept false e p k = record { datagram = refl; capacity = refl; one = refl; two = k; places = λ s. s }
 
 reading-kept : (t off : Bool) (p : Pair) → Kept p (switchReading t off p)
 unfolding switchReading withReadDisabled
-reading-kept t off p = end-kept t (withReadDisabled off (own t p)) p refl
+reading-kept t off p = end-kept t (withReadDisabled off (own t (endsOf p))) p refl
 
 bit-kept : (t b : Bool) (bit : ℕ) (p : Pair) → Kept p (putBit t b bit p)
 unfolding putBit
@@ -93,13 +91,13 @@ writing-kept t off p = signal-kept t _ _ p
 own-kept : (t off : Bool) (p : Pair) → Kept p (disposeOwn t off p)
 unfolding disposeOwn
 own-kept t off p =
-    kept-pick (peer t p .closed) (writing-kept t off p)
+    kept-pick (peer t (endsOf p) .closed) (writing-kept t off p)
     (kept-then (kept-then (writing-kept t off p) (reading-kept (not t) off _)) (bit-kept (not t) off «PEER_WRITE_DISABLED» _))
 
 peer-kept : (t off : Bool) (p : Pair) → Kept p (disposePeer t off p)
 unfolding disposePeer
 peer-kept t off p =
-    kept-pick (peer t p .closed) (reading-kept t off p)
+    kept-pick (peer t (endsOf p) .closed) (reading-kept t off p)
     (kept-then (kept-then (reading-kept t off p) (writing-kept (not t) off _)) (bit-kept t off «PEER_WRITE_DISABLED» _))
 
 own-disposed : (t : Bool) (d : Disposition) (p : Pair) → Kept p (disposedOwn t d p)
@@ -125,7 +123,7 @@ end-shut t reading writing p = kept-then (kept-pick reading (reading-kept t true
 pub shut-kept : (t reading writing : Bool) (p : Pair) → Kept p (shut t reading writing p)
 unfolding shut
 shut-kept t reading writing p =
-    kept-pick (peer t p .closed) (end-shut t reading writing p)
+    kept-pick (peer t (endsOf p) .closed) (end-shut t reading writing p)
     (kept-then (end-shut t reading writing p) (end-shut (not t) (not reading) (not writing) _))
 
 -- ---- waits
@@ -137,7 +135,7 @@ places-kept ts p k = record { datagram = refl; capacity = refl; one = refl; two 
 pub waited-kept : (t : Bool) (key mask edge : ℕ) (p : Pair) → used (p .places) < 128 → Kept p (waited t key mask edge p)
 unfolding waited done
 waited-kept t key mask edge p below =
-    places-kept _ p (λ s. rw (register-done t (own t p .signals) key mask (eqb edge 1) (p .places) below) at (sound-register (p .places) s t (own t p .signals) key mask (eqb edge 1)))
+    places-kept _ p (λ s. rw (register-done t (own t (endsOf p) .signals) key mask (eqb edge 1) (p .places) below) at (sound-register (p .places) s t (own t (endsOf p) .signals) key mask (eqb edge 1)))
 
 pub took-kept : (p : Pair) → 0 < p .places .packets → Kept p (took p)
 unfolding took
@@ -145,14 +143,14 @@ took-kept p any = places-kept _ p (λ s. rw (take-done (p .places) s any) at (so
 
 -- ---- what follows where bytes go in, where they leave, and where an end closes
 
-pub wrote-kept : (t : Bool) (m : ℕ) (p : Pair) → Kept (withEnd (not t) (withQueue (fedQueue (p .datagram) m (peer t p .queue)) (peer t p)) p) (wrote t m p)
+pub wrote-kept : (t : Bool) (m : ℕ) (p : Pair) → Kept (withEnd (not t) (withQueue (fedQueue (p .datagram) m (peer t (endsOf p) .queue)) (peer t (endsOf p))) p) (wrote t m p)
 unfolding wrote
 wrote-kept t m p = kept-then (signal-kept (not t) _ _ _) (signal-kept t _ _ _)
 
 pub consumed-kept : (t : Bool) (n : ℕ) (p : Pair)
-    → Kept (withEnd t (withQueue (drainedQueue (p .datagram) (p .capacity) n (own t p .queue)) (own t p)) p) (consumed t n p)
+    → Kept (withEnd t (withQueue (drainedQueue (p .datagram) (p .capacity) n (own t (endsOf p) .queue)) (own t (endsOf p))) p) (consumed t n p)
 unfolding consumed
-consumed-kept t n p = kept-pick (peer t p .closed) (signal-kept t _ _ _) (kept-then (signal-kept t _ _ _) (signal-kept (not t) _ _ _))
+consumed-kept t n p = kept-pick (peer t (endsOf p) .closed) (signal-kept t _ _ _) (kept-then (signal-kept t _ _ _) (signal-kept (not t) _ _ _))
 
 dropped-kept : (t : Bool) (ts : Places) (p : Pair) → p .places ≡ ts → Kept p (withPlaces (droppedOf t ts) p)
 unfolding done
@@ -163,8 +161,8 @@ unfolding withEnd
 same-places true e p = refl
 same-places false e p = refl
 
-pub closed-kept : (t : Bool) (p : Pair) → Kept (withEnd t (closedEnd (own t p)) p) (closed t p)
+pub closed-kept : (t : Bool) (p : Pair) → Kept (withEnd t (closedEnd (own t (endsOf p))) p) (closed t p)
 unfolding closed
 closed-kept t p =
-    let a = dropped-kept t (p .places) (withEnd t (closedEnd (own t p)) p) (same-places t (closedEnd (own t p)) p) in
-    kept-pick (peer t p .closed) a (kept-then a (signal-kept (not t) _ _ _))
+    let a = dropped-kept t (p .places) (withEnd t (closedEnd (own t (endsOf p))) p) (same-places t (closedEnd (own t (endsOf p))) p) in
+    kept-pick (peer t (endsOf p) .closed) a (kept-then a (signal-kept (not t) _ _ _))

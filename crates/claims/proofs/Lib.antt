@@ -12,3 +12,5 @@ pub mod TwoRuns
 pub mod RunsSound
 pub mod Example
 pub mod Claims
+pub mod runs
+pub mod cases

@@ -7,16 +7,15 @@ use mathlib.Core.Option.{Option, some}
 use native.Mathlib.Omega.{arith}
 use lib.ListN.{length, take, drop, length-append, length-set}
 use lib.Seq.{drop-append-seam}
-use Rattle.status.specs.Choice.{pick}
-use Rattle.ring_place.specs.RingPlace.{place}
-use Rattle.ring.specs.Ring.{front}
-use Rattle.ring.proofs.Laws.{place-lt, front-none, front-put, front-set, take-front, drop-front, length-put}
-use Rattle.endpoint.specs.declared.Queue.{Queue}
-use Rattle.endpoint.specs.Queue.{noQueue}
-use Rattle.transfer_read.specs.Read.{leaving, drainedQueue}
-use Rattle.transfer_write.specs.Write.{fedQueue, ringFed, tableFed}
-use Rattle.runs.specs.State.{Slices}
-use Rattle.claims.specs.Origins.{Origin, Line, flat, shrunk}
+use Rattle.definition.specs.Status.{pick}
+use Rattle.definition.specs.Ring.{place, front}
+use Rattle.ring.proofs.copy.Laws.{place-lt, front-none, front-put, front-set, take-front, drop-front, length-put}
+use Rattle.definition.specs.declared.Queue.{Queue}
+use Rattle.definition.specs.Pair.{noQueue}
+use Rattle.definition.specs.Read.{leaving, drainedQueue}
+use Rattle.definition.specs.Write.{fedQueue, ringFed, tableFed}
+use Rattle.definition.specs.Calls.{Slices}
+use Rattle.definition_runs.specs.Origins.{Origin, Line, flat, shrunk}
 use Rattle.claims.proofs.Lists.{map-append, map-drop, map-take, flat-snoc, full-snoc, full-drop, full-none, headLength}
 use Rattle.claims.proofs.Holds.{Size, Holds, absurd-bool, firstOf, count-flat, few, ring-long, table-long}
 

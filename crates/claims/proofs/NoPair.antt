@@ -5,30 +5,23 @@ use mathlib.Core.Bool.{Bool}
 use mathlib.Core.List.{List, [], _∷_, map}
 use mathlib.Core.Option.{Option, some}
 use lib.ListN.{length}
-use Rattle.status.specs.declared.Status.the-variants.{Internal}
-use Rattle.status.specs.declared.Answer.{Answer}
-use Rattle.status.specs.declared.Answer.the-variants.{Refused}
-use Rattle.status.specs.Choice.{_and_}
-use Rattle.status.specs.Answer.{refuseUnless, _then_}
-use Rattle.answers.specs.Info.{infoAnswer}
-use Rattle.read_answer.specs.Read.{readAnswer}
-use Rattle.ends_tests.specs.Tests.{soundEnds, soundTest, openingTest}
-use Rattle.threshold_answers.specs.Threshold.{readThresholdAnswer, writeThresholdAnswer, thresholdsAnswer}
-use Rattle.answers.specs.Wait.{waitAnswer}
-use Rattle.write_answer.specs.Write.{writeAnswer}
-use Rattle.socket.specs.Pair.{noPair}
-use Rattle.socket.specs.Tests.{Lent}
-use Rattle.socket.specs.Disposition.{shutdownAnswer}
-use Rattle.socket.specs.Wait.{takeAnswer, closeAnswer}
-use Rattle.user_write_answer.specs.Write.{userWriteAnswer}
-use Rattle.user_read_answer.specs.Read.{userReadAnswer}
-use Rattle.user_answers.specs.Control.{plainDisposeAnswer, userDisposeAnswer, userShutdownAnswer}
-use Rattle.runs.specs.Calls.{Control, setDisposition, shutdown, plainDisposition, plainShutdown, setReadThreshold, setWriteThreshold, getThresholds, getInfo, wait, takePacket, Call, write, read, plainWrite, plainRead, close, control, Input, Public, public}
-use Rattle.runs.specs.State.{Slices, State, state, seenOf}
-use Rattle.runs.specs.Answers.{View, view, controlAnswer, answerTo, pairAfter}
-use Rattle.runs.specs.Step.{answerOf, outcome, outcomes}
-use Rattle.claims.specs.Origins.{Origin, Lines, noLines, linesAfter, sourceOf, sourcesFrom}
-use Rattle.claims.specs.TwoRuns.{seen, answers, delivered, calls}
+use Rattle.definition.specs.declared.Status.the-variants.{Internal}
+use Rattle.definition.specs.declared.Answer.{Answer}
+use Rattle.definition.specs.declared.Answer.the-variants.{Refused}
+use Rattle.definition.specs.Status.{_and_, refuseUnless, _then_}
+use Rattle.definition.specs.Info.{infoAnswer}
+use Rattle.definition.specs.Read.{readAnswer, userReadAnswer}
+use Rattle.definition.specs.Tests.{soundEnds, soundTest, openingTest, Lent}
+use Rattle.definition.specs.Threshold.{readThresholdAnswer, writeThresholdAnswer, thresholdsAnswer}
+use Rattle.definition.specs.Wait.{waitAnswer, takeAnswer}
+use Rattle.definition.specs.Write.{writeAnswer, userWriteAnswer}
+use Rattle.definition.specs.Create.{noPair}
+use Rattle.definition.specs.Shutdown.{shutdownAnswer, userShutdownAnswer}
+use Rattle.definition.specs.Close.{closeAnswer}
+use Rattle.definition.specs.Disposition.{plainDisposeAnswer, userDisposeAnswer}
+use Rattle.definition.specs.Calls.{Control, setDisposition, shutdown, plainDisposition, plainShutdown, setReadThreshold, setWriteThreshold, getThresholds, getInfo, wait, takePacket, Call, write, read, plainWrite, plainRead, close, control, Input, Public, public, Slices, State, state, seenOf, View, view, controlAnswer, answerTo, pairAfter, answerOf, outcome, outcomes}
+use Rattle.definition_runs.specs.Origins.{Origin, Lines, noLines, linesAfter, sourceOf, sourcesFrom}
+use Rattle.definition_runs.specs.TwoRuns.{seen, answers, delivered, calls}
 use Rattle.claims.proofs.Lists.{cons-path}
 use Rattle.claims.proofs.Refused.{pair-stays, lines-stay, no-source, refused-after, refused-delivers}
 

@@ -3,25 +3,18 @@ use Prim.Native.Nat.{ℕ}
 use mathlib.Core.Path.{_≡_, refl, sym, ap, ap₂, _∙_}
 use mathlib.Core.Bool.{Bool, true, false}
 use mathlib.Core.List.{List, []}
-use Rattle.status.specs.declared.Status.{Status}
-use Rattle.status.specs.declared.Answer.{Answer}
-use Rattle.status.specs.declared.Answer.the-variants.{Refused}
-use Rattle.status.specs.Choice.{pick, _or_}
-use Rattle.status.specs.Answer.{countOf, isDone}
-use Rattle.transfer_write.specs.Write.{ringWritten, tableWritten}
-use Rattle.socket.specs.declared.Pair.{Pair}
-use Rattle.socket.specs.Pair.{isOne}
-use Rattle.socket.specs.Write.{pairWritten}
-use Rattle.socket.specs.Read.{pairRead}
-use Rattle.syscall.specs.Read.{isPeek}
-use Rattle.runs.specs.Calls.{Call, write, read, plainWrite, plainRead, close, control, Input}
-use Rattle.runs.specs.State.{State, peerSlices, withPeer, Outcome}
-use Rattle.runs.specs.Answers.{View, view, pairAfter}
-use Rattle.runs.specs.Memory.{memoryAfter}
-use Rattle.runs.specs.Step.{written, stateAfter, landed, deliveredIn, answerOf, afterBy, deliveredBy, after, outcome}
-use Rattle.claims.specs.Origins.{Lines, added, removed, linesAfter, sourceOf}
-use Rattle.claims.specs.Laws.{RefusedChangesNothing, MemoryAtExit}
-use Rattle.runs.proofs.Match.{calls-match}
+use Rattle.definition.specs.declared.Status.{Status}
+use Rattle.definition.specs.declared.Answer.{Answer}
+use Rattle.definition.specs.declared.Answer.the-variants.{Refused}
+use Rattle.definition.specs.Status.{pick, _or_, countOf, isDone}
+use Rattle.definition.specs.Write.{ringWritten, tableWritten, pairWritten}
+use Rattle.definition.specs.declared.Pair.{Pair}
+use Rattle.definition.specs.Pair.{isOne}
+use Rattle.definition.specs.Read.{pairRead, isPeek}
+use Rattle.definition.specs.Calls.{Call, write, read, plainWrite, plainRead, close, control, Input, State, peerSlices, withPeer, Outcome, View, view, pairAfter, memoryAfter, written, stateAfter, landed, deliveredIn, answerOf, afterBy, deliveredBy, after, outcome}
+use Rattle.definition_runs.specs.Origins.{Lines, added, removed, linesAfter, sourceOf}
+use Rattle.definition_runs.specs.Laws.{RefusedChangesNothing, MemoryAtExit}
+use Rattle.claims.proofs.runs.Match.{calls-match}
 
 none-written : (s : State) (h : ℕ) (src : List ℕ) → written s h 0 src ≡ s
 unfolding written pairWritten ringWritten tableWritten pick

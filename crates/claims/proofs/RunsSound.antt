@@ -9,46 +9,34 @@ use native.Mathlib.Nat.{zero-add}
 use lib.ListN.{length, getElem?}
 use lib.Dec.{eqb}
 use borrow.Author.Tests.{lt-ltb, le-leb}
-use Rattle.status.specs.declared.Status.{Status}
-use Rattle.status.specs.declared.Status.the-variants.{Internal, NoResources, InvalidArgs, BadHandle, OutOfRange, BadState, ShouldWait, PeerClosed, AccessDenied}
-use Rattle.status.specs.declared.Answer.{Answer}
-use Rattle.status.specs.declared.Answer.the-variants.{Done, Refused}
-use Rattle.status.specs.Choice.{pick, _and_}
-use Rattle.status.specs.Answer.{isDone, refuseIf, refuseUnless, _then_}
-use Rattle.endpoint.specs.declared.Queue.{Queue}
-use Rattle.endpoint.specs.declared.Endpoint.{Endpoint}
-use Rattle.endpoint.specs.declared.Disposition.{Disposition}
-use Rattle.endpoint.specs.Queue.{shortSlices, firstLength, badFirst}
-use Rattle.write_size.specs.Write.{datagramSize, writeSize}
-use Rattle.sizes.specs.Read.{emptyAnswer, readSize}
-use Rattle.endpoint.specs.Disposition.{disposeChecks}
-use Rattle.answers.specs.Info.{infoAnswer}
-use Rattle.read_answer.specs.Read.{readAnswer}
-use Rattle.ends_tests.specs.Tests.{soundEnds, isOpen, soundTest as endsSoundTest, handleTest as endsHandleTest, openingTest as endsOpeningTest}
-use Rattle.threshold_answers.specs.Threshold.{readThresholdAnswer, writeThresholdAnswer, thresholdsAnswer}
-use Rattle.answers.specs.Wait.{waitAnswer}
-use Rattle.write_answer.specs.Write.{writeAnswer}
-use Rattle.socket.specs.declared.Pair.{Pair}
-use Rattle.socket.specs.Pair.{isOne, endsOf, own, peer}
-use Rattle.socket.specs.Tests.{soundPair, soundTest, Lent, lentOf, slicesTest, tableTest, handleTest, openingTest}
-use Rattle.socket.specs.Disposition.{shutdownAnswer}
-use Rattle.socket.specs.Wait.{takeAnswer, closeAnswer}
-use Rattle.user_answers.specs.Lookup.{lookup}
-use Rattle.user_write_answer.specs.Write.{writeRanges, userWriteAnswer}
-use Rattle.user_read_answer.specs.Read.{userReadAnswer}
-use Rattle.user_answers.specs.Control.{plainDisposeAnswer, userDisposeAnswer, userShutdownAnswer}
-use Rattle.runs.specs.Calls.{Control, setDisposition, shutdown, plainDisposition, plainShutdown, setReadThreshold, setWriteThreshold, getThresholds, getInfo, wait, takePacket, Call, write, read, plainWrite, plainRead, close, control, Input}
-use Rattle.runs.specs.State.{State, state, ownSlices, Outcome}
-use Rattle.runs.specs.Chain.{Chain, none, next}
-use Rattle.runs.specs.Run.{Does, createdBy, run}
-use Rattle.runs.specs.Answers.{View, view, ownLent, peerLent, tableOnly, controlAnswer, answerTo}
-use Rattle.runs.specs.Step.{answerOf, outcome, pairCreated}
-use Rattle.claims.specs.Origins.{Origin, Lines, noLines, found, linesAfter}
-use Rattle.claims.specs.Laws.{Sound, RunsAreSound}
+use Rattle.definition.specs.declared.Status.{Status}
+use Rattle.definition.specs.declared.Status.the-variants.{Internal, NoResources, InvalidArgs, BadHandle, OutOfRange, BadState, ShouldWait, PeerClosed, AccessDenied}
+use Rattle.definition.specs.declared.Answer.{Answer}
+use Rattle.definition.specs.declared.Answer.the-variants.{Done, Refused}
+use Rattle.definition.specs.Status.{pick, _and_, isDone, refuseIf, refuseUnless, _then_}
+use Rattle.definition.specs.declared.Queue.{Queue}
+use Rattle.definition.specs.declared.Endpoint.{Endpoint}
+use Rattle.definition.specs.declared.Disposition.{Disposition}
+use Rattle.definition.specs.Tests.{shortSlices, firstLength, badFirst, soundEnds, isOpen, soundTest as endsSoundTest, handleTest as endsHandleTest, openingTest as endsOpeningTest, soundTest, Lent, lentOf, slicesTest, tableTest, handleTest, openingTest}
+use Rattle.definition.specs.Write.{datagramSize, writeSize, writeAnswer, writeRanges, userWriteAnswer}
+use Rattle.definition.specs.Read.{emptyAnswer, readSize, readAnswer, userReadAnswer}
+use Rattle.definition.specs.Disposition.{disposeChecks, plainDisposeAnswer, userDisposeAnswer}
+use Rattle.definition.specs.Info.{infoAnswer}
+use Rattle.definition.specs.Threshold.{readThresholdAnswer, writeThresholdAnswer, thresholdsAnswer}
+use Rattle.definition.specs.Wait.{waitAnswer, takeAnswer}
+use Rattle.definition.specs.declared.Pair.{Pair}
+use Rattle.definition.specs.Pair.{isOne, endsOf, own, peer}
+use Rattle.definition.specs.Shutdown.{shutdownAnswer, userShutdownAnswer}
+use Rattle.definition.specs.Close.{closeAnswer}
+use Rattle.definition.specs.Memory.{lookup}
+use Rattle.definition.specs.Calls.{Control, setDisposition, shutdown, plainDisposition, plainShutdown, setReadThreshold, setWriteThreshold, getThresholds, getInfo, wait, takePacket, Call, write, read, plainWrite, plainRead, close, control, Input, State, state, ownSlices, Outcome, createdBy, View, view, ownLent, peerLent, tableOnly, controlAnswer, answerTo, answerOf, outcome, pairCreated}
+use Rattle.definition_runs.specs.Run.{Chain, none, next, Does, run}
+use Rattle.definition_runs.specs.Origins.{Origin, Lines, noLines, found, linesAfter}
+use Rattle.definition_runs.specs.Laws.{Sound, RunsAreSound}
 use Rattle.claims.proofs.Holds.{Size, first-is, sound-queue, slices-long, first-good}
 use Rattle.claims.proofs.Invariant.{Inv}
 use Rattle.claims.proofs.Start.{sizeOf, created-fits, new-inv}
-use Rattle.runs.proofs.Match.{calls-match}
+use Rattle.claims.proofs.runs.Match.{calls-match}
 use Rattle.claims.proofs.TwoRuns.{next-inv, here-in, after-in}
 
 -- ---- answers that are not INTERNAL
@@ -98,7 +86,7 @@ invalid = refl
 
 -- ---- the parts of answers
 
-handle-not : (p : Pair) (h : ℕ) → Not (handleTest p h)
+handle-not : (p : Pair) (h : ℕ) → Not (handleTest (endsOf p) h)
 unfolding Not internal endsHandleTest
 handle-not p h = unless-not (isOpen (endsOf p) h) BadHandle refl
 
@@ -142,24 +130,24 @@ unfolding Not internal tableTest
 table-not dg C h q z e = pick-not _ _ _ (then-not _ _ (if-not _ InvalidArgs refl) (rw e (off-not Internal))) refl
 
 record Good (v : View) : Type 0 where
-  pub sound : soundPair (v .pair) ≡ true
+  pub sound : soundEnds (endsOf (v .pair)) ≡ true
   pub one : badFirst (v .pair .datagram) (v .pair .one .queue) (v .one .first) ≡ false
   pub two : badFirst (v .pair .datagram) (v .pair .two .queue) (v .two .first) ≡ false
 
 module _ (v : View) (g : Good v) where
-  own-good : (t : Bool) → badFirst (v .pair .datagram) (own t (v .pair) .queue) (ownLent t v .first) ≡ false
+  own-good : (t : Bool) → badFirst (v .pair .datagram) (own t (endsOf (v .pair)) .queue) (ownLent t v .first) ≡ false
   own-good true = g .one
   own-good false = g .two
 
-  peer-good : (t : Bool) → badFirst (v .pair .datagram) (peer t (v .pair) .queue) (peerLent t v .first) ≡ false
+  peer-good : (t : Bool) → badFirst (v .pair .datagram) (peer t (endsOf (v .pair)) .queue) (peerLent t v .first) ≡ false
   peer-good true = g .two
   peer-good false = g .one
 
-  sound-not : Not (soundTest (v .pair))
+  sound-not : Not (soundTest (endsOf (v .pair)))
   unfolding Not internal endsSoundTest refuseUnless
   sound-not = rw (g .sound)
 
-  opening-not : (h : ℕ) → Not (openingTest (v .pair) h)
+  opening-not : (h : ℕ) → Not (openingTest (endsOf (v .pair)) h)
   unfolding endsOpeningTest
   opening-not h = then-not _ _ sound-not (handle-not (v .pair) h)
 
@@ -215,7 +203,7 @@ never a x e = let z : _≡_ {A = Bool} true false = rw e at x in let y : _≡_ {
 -- ---- a state of a run
 
 module _ (f : Origin → Option ℕ) (dg : Bool) (z1 z2 : Size) (s : State) (ln : Lines) (v : Inv f dg z1 z2 s ln) where
-  pair-sound : soundPair (s .pair) ≡ true
+  pair-sound : soundEnds (endsOf (s .pair)) ≡ true
   unfolding soundEnds _and_
   pair-sound =
       rw (
@@ -227,7 +215,7 @@ module _ (f : Origin → Option ℕ) (dg : Bool) (z1 z2 : Size) (s : State) (ln 
       (sound-queue f (s .pair .datagram) (s .pair .capacity) z2 (s .pair .two .queue) (s .two) (ln .two) (v .two))
 
   first-sound : (t : Bool)
-      → badFirst (s .pair .datagram) (own t (s .pair) .queue) (firstLength (s .pair .datagram) (own t (s .pair) .queue) (ownSlices t s .table)) ≡ false
+      → badFirst (s .pair .datagram) (own t (endsOf (s .pair)) .queue) (firstLength (s .pair .datagram) (own t (endsOf (s .pair)) .queue) (ownSlices t s .table)) ≡ false
   first-sound true =
       rw (first-is f (s .pair .datagram) (s .pair .capacity) z1 (s .pair .one .queue) (s .one) (ln .one) (v .one))
       (first-good f (s .pair .datagram) (s .pair .capacity) z1 (s .pair .one .queue) (s .one) (ln .one) (v .one))

@@ -7,17 +7,12 @@ use native.Mathlib.Omega.{arith}
 use lib.ListN.{length}
 use lib.Dec.{ltb, eqb}
 use borrow.Author.Tests.{ltb-false, eqb-false}
-use Rattle.status.specs.Choice.{_and_, _or_}
-use Rattle.status.specs.Answer.{isDone}
-use Rattle.port.proofs.Sound.{sound-new}
-use Rattle.endpoint.specs.Endpoint.{newEnd}
-use Rattle.endpoint.specs.Queue.{shortTable, shortSlices}
-use Rattle.create_answer.specs.Create.{numbersAnswer, createAnswer}
-use Rattle.socket.specs.Pair.{newPair}
-use Rattle.runs.specs.Calls.{Create}
-use Rattle.runs.specs.State.{Slices, state}
-use Rattle.runs.specs.Run.{createdBy}
-use Rattle.claims.specs.Origins.{Origin, noLines}
+use Rattle.definition.specs.Status.{_and_, _or_, isDone}
+use Rattle.port.proofs.waits.Sound.{sound-new}
+use Rattle.definition.specs.Create.{newEnd, numbersAnswer, createAnswer, newPair}
+use Rattle.definition.specs.Tests.{shortTable, shortSlices}
+use Rattle.definition.specs.Calls.{Create, Slices, state, createdBy}
+use Rattle.definition_runs.specs.Origins.{Origin, noLines}
 use Rattle.claims.proofs.Answers.{then-done, if-off}
 use Rattle.claims.proofs.Holds.{Size}
 use Rattle.claims.proofs.Moves.{no-holds}

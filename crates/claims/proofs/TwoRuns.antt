@@ -8,30 +8,24 @@ use mathlib.Core.Option.{Option, some}
 use native.Mathlib.Nat.{suc-add, add-suc, zero-add, add-zero}
 use lib.ListN.{length, getElem?}
 use lib.Dec.{eqb}
-use Rattle.status.specs.declared.Status.the-variants.{Internal}
-use Rattle.status.specs.declared.Answer.{Answer}
-use Rattle.status.specs.declared.Answer.the-variants.{Done, Refused}
-use Rattle.status.specs.Choice.{pick}
-use Rattle.status.specs.Answer.{isDone}
-use Rattle.create_answer.specs.Create.{createAnswer}
-use Rattle.socket.specs.declared.Pair.{Pair}
-use Rattle.socket.specs.Pair.{isOne, newPair, noPair}
-use Rattle.socket.specs.Tests.{Lent}
-use Rattle.runs.specs.Calls.{Create, Call, write, read, plainWrite, plainRead, close, control, Input, Public, public}
-use Rattle.runs.specs.State.{Slices, State, state, withPeer, Seen, seenOf, Outcome}
-use Rattle.runs.specs.Run.{createdBy}
-use Rattle.runs.specs.Answers.{View, view, answerTo, pairAfter}
-use Rattle.runs.specs.Memory.{memoriesAfter}
-use Rattle.runs.specs.Step.{written, stateAfter, answerOf, after, outcome, outcomes, pairCreated, start}
-use Rattle.claims.specs.Origins.{Origin, Line, Lines, noLines, linesAfter, sourcesFrom, sources, byteAt, found}
-use Rattle.claims.specs.TwoRuns.{seen, answers, delivered, memoriesLeft, calls, Alike, SameLengths, TwoRuns}
+use Rattle.definition.specs.declared.Status.the-variants.{Internal}
+use Rattle.definition.specs.declared.Answer.{Answer}
+use Rattle.definition.specs.declared.Answer.the-variants.{Done, Refused}
+use Rattle.definition.specs.Status.{pick, isDone}
+use Rattle.definition.specs.Create.{createAnswer, newPair, noPair}
+use Rattle.definition.specs.declared.Pair.{Pair}
+use Rattle.definition.specs.Pair.{isOne}
+use Rattle.definition.specs.Tests.{Lent}
+use Rattle.definition.specs.Calls.{Create, Call, write, read, plainWrite, plainRead, close, control, Input, Public, public, Slices, State, state, withPeer, Seen, seenOf, Outcome, createdBy, View, view, answerTo, pairAfter, memoriesAfter, written, stateAfter, answerOf, after, outcome, outcomes, pairCreated, start}
+use Rattle.definition_runs.specs.Origins.{Origin, Line, Lines, noLines, linesAfter, sourcesFrom, sources, byteAt, found}
+use Rattle.definition_runs.specs.TwoRuns.{seen, answers, delivered, memoriesLeft, calls, Alike, SameLengths, TwoRuns}
 use Rattle.claims.proofs.Lists.{cons-path}
 use Rattle.claims.proofs.Holds.{Size, firstOf, lent-is}
 use Rattle.claims.proofs.Invariant.{Inv, after-inv}
 use Rattle.claims.proofs.Delivers.{delivers}
 use Rattle.claims.proofs.Start.{sizeOf, Fit, created-fits, new-inv}
 use Rattle.claims.proofs.NoPair.{seen-all, origins-all}
-use Rattle.runs.proofs.Whole.{runs-match}
+use Rattle.claims.proofs.runs.Whole.{runs-match}
 
 -- ---- what is public of a state, from its pair and the lines
 

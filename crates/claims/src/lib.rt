@@ -1,6 +1,5 @@
 // What is claimed of whole runs of calls: the statements are in specs/, their proofs in proofs/.
-
-ghost use Rattle.claims.specs.Claims.{Claims};
+ghost use Rattle.definition_runs.specs.Claims.{Claims};
 
 // Its contract is all that is claimed, so that to prove this crate is to prove every claim. It does nothing.
 pub fn hold()

@@ -7,10 +7,10 @@ use mathlib.Core.List.{List}
 use lib.Dec.{leb}
 use lib.ListN.{length, drop, length-drop}
 use borrow.Author.Tests.{le-leb, lt-leb}
-use Rattle.status.specs.Choice.{pick}
-use Rattle.text.specs.Answer.{stopOf}
-use Rattle.line.specs.Line.{LINE}
-use Rattle.feed.specs.Machine.{Machine, stoppedState, Move, stay, halt, go, moveOf}
+use Rattle.definition.specs.Status.{pick}
+use Rattle.definition_script.specs.Line.{stopOf}
+use Rattle.line.specs.line.LineDone.{LINE}
+use Rattle.definition_script.specs.Listing.{Machine, stoppedState, Move, stay, halt, go, moveOf}
 use Rattle.feed.specs.Turn.{machineAfter}
 use Rattle.feed.specs.Feed.{isReady, Block, noBlock, behind, fedMove, fedBy, fedFrom, fedOf}
 use Rattle.feed.proofs.Moves.{goes, move-ended}

@@ -7,18 +7,17 @@ use mathlib.Core.List.{List, _++_, append-assoc, append-nil}
 use lib.ListN.{length, take, drop, length-drop, take-append-drop}
 use lib.Seq.{drop-drop, length-take-le}
 use borrow.Author.Tests.{leb-true}
-use Rattle.status.specs.Choice.{pick, _and_}
-use Rattle.text.specs.Answer.{stopOf}
-use Rattle.text.specs.Put.{place}
+use Rattle.definition.specs.Status.{pick, _and_}
+use Rattle.definition_script.specs.Line.{stopOf}
+use Rattle.definition_script.specs.Call.{writtenAt, Rings}
 use Rattle.text.proofs.Place.{place-none, place-length, place-front, place-behind}
-use Rattle.script_state.specs.declared.State.{State}
-use Rattle.script_state.specs.declared.StateChange.{StateChange}
+use Rattle.definition_script.specs.declared.State.{State}
+use Rattle.feed.specs.declared.state.StateChange.{StateChange}
 use Rattle.feed.specs.declared.turn.Turned.{Turned}
-use Rattle.pair_outcome.specs.PairOutcome.{rebuildsTable, nextPair}
-use Rattle.line.specs.Line.{LINE}
-use Rattle.plain_call.specs.Rings.{Rings}
-use Rattle.feed.specs.Machine.{Machine, machine, Move, stay, halt, go, moveOf}
-use Rattle.script_state.specs.Change.{changedState, withEndsState, withTableState}
+use Rattle.script_call.specs.pair_outcome.PairOutcome.{rebuildsTable, nextPair}
+use Rattle.line.specs.line.LineDone.{LINE}
+use Rattle.definition_script.specs.Listing.{Machine, machine, Move, stay, halt, go, moveOf}
+use Rattle.feed.specs.state.Change.{changedState, withEndsState, withTableState}
 use Rattle.feed.specs.Turn.{LIMIT, machineAfter, textOf, takenBy, goesOn, TurnDone}
 use Rattle.feed.specs.Feed.{isReady, Block, noBlock, behind, fedFrom, fedOf, FeedDone}
 use Rattle.feed.proofs.Moves.{goes}
@@ -80,17 +79,17 @@ begins m offset input out =
 
 module _ (m₀ m : Machine) (offset : ℕ) (input out₀ out : List ℕ) (from at : ℕ) (f : SoFar m₀ offset input out₀ m out from at true) where
   -- the text of a move stands behind what was put out before
-  text-behind : (l : List ℕ) → at + length l ≤ length out → drop (at + length l) (place at l out) ≡ drop (at + length l) out₀
+  text-behind : (l : List ℕ) → at + length l ≤ length out → drop (at + length l) (writtenAt at l out) ≡ drop (at + length l) out₀
   text-behind l h =
       place-behind at l out (f .fits)
       ∙ sym (drop-drop (length l) at out) ∙ ap (λ (x : List ℕ). drop (length l) x) (f .kept) ∙ drop-drop (length l) at out₀
 
-  text-front : (l : List ℕ) → take at out ++ l ≡ take (at + length l) (place at l out)
+  text-front : (l : List ℕ) → take at out ++ l ≡ take (at + length l) (writtenAt at l out)
   text-front l = sym (place-front at l out (f .fits))
 
   whole-halt : at + LINE ≤ length out → moveOf m (drop from input) ≡ halt
       → fedFrom LINE offset (length out₀) m₀ input
-      ≡ behind from (take (at + length (stopOf (offset + from))) (place at (stopOf (offset + from)) out))
+      ≡ behind from (take (at + length (stopOf (offset + from))) (writtenAt at (stopOf (offset + from)) out))
       (fedFrom LINE (offset + from) (length out₀ - (at + length (stopOf (offset + from)))) (machineAfter m halt) (drop from input))
   whole-halt h e =
       let l : List ℕ = stopOf (offset + from) in
@@ -98,13 +97,13 @@ module _ (m₀ m : Machine) (offset : ℕ) (input out₀ out : List ℕ) (from a
       f .whole
       ∙ ap (λ (b : Block). behind from (take at out) b)
       (fed-halt LINE (offset + from) (length out₀ - at) m (drop from input) (omega (arith, f .same)) e)
-      ∙ ap (λ (x : List ℕ). block n (from + 0) x) (text-front l ∙ sym (append-nil (take (at + length l) (place at l out))))
-      ∙ ap (λ (b : Block). behind from (take (at + length l) (place at l out)) b)
+      ∙ ap (λ (x : List ℕ). block n (from + 0) x) (text-front l ∙ sym (append-nil (take (at + length l) (writtenAt at l out))))
+      ∙ ap (λ (b : Block). behind from (take (at + length l) (writtenAt at l out)) b)
       (sym (fed-stay LINE (offset + from) (length out₀ - (at + length l)) n (drop from input) (stopped-stays m (drop from input))))
 
   whole-go : (m′ : Machine) (l : List ℕ) (n : ℕ) → at + LINE ≤ length out → moveOf m (drop from input) ≡ go m′ l n
       → fedFrom LINE offset (length out₀) m₀ input
-      ≡ behind (from + n) (take (at + length l) (place at l out))
+      ≡ behind (from + n) (take (at + length l) (writtenAt at l out))
       (fedFrom LINE (offset + (from + n)) (length out₀ - (at + length l)) m′ (drop (from + n) input))
   whole-go m′ l n h e =
       let k : offset + from + n ≡ offset + (from + n) = omega arith in
@@ -122,7 +121,7 @@ module _ (m₀ m : Machine) (offset : ℕ) (input out₀ out : List ℕ) (from a
       (sym (append-assoc (take at out) l (b .text)) ∙ ap (λ (x : List ℕ). x ++ b .text) (text-front l))
 
   next-by : (mv : Move) → moveOf m (drop from input) ≡ mv → at + LINE ≤ length out → at + length (textOf (offset + from) mv) ≤ length out
-      → SoFar m₀ offset input out₀ (machineAfter m mv) (place at (textOf (offset + from) mv) out) (from + takenBy mv) (at + length (textOf (offset + from) mv)) (goesOn mv)
+      → SoFar m₀ offset input out₀ (machineAfter m mv) (writtenAt at (textOf (offset + from) mv) out) (from + takenBy mv) (at + length (textOf (offset + from) mv)) (goesOn mv)
   unfolding machineAfter textOf takenBy goesOn
   next-by stay e g h =
       let a : at + 0 ≡ at = omega arith in
@@ -198,7 +197,7 @@ done-by : (m₀ : Machine) (offset : ℕ) (input out₀ : List ℕ) (st : State)
     → fedFrom LINE (offset + from) (length out₀ - at) (machine st memory z) (drop from input) ≡ noBlock (machine st memory z)
     → isReady (m₀ .state) offset (length input) (length (m₀ .memory)) ≡ true
     → FeedDone (m₀ .state) offset input (m₀ .memory) memory (m₀ .lent) z out₀ out (record { state = st; taken = from; written = at })
-unfolding place
+unfolding writtenAt
 done-by m₀ offset input out₀ st memory z out from at more f e g =
     let b : fedOf offset (length out₀) m₀ input ≡ block (machine st memory z) from (take at out) =
     fed-ready offset (length out₀) m₀ input g

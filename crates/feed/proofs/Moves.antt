@@ -5,13 +5,12 @@ use mathlib.Core.Path.{_≡_, refl, ap, _∙_, subst}
 use mathlib.Core.Bool.{Bool, true, false}
 use mathlib.Core.List.{List, _++_}
 use lib.ListN.{length, take, drop}
-use Rattle.status.specs.Choice.{pick}
-use Rattle.record.specs.declared.Decoded.{Decoded}
-use Rattle.record.specs.declared.Decoded.the-variants.{Whole, Bad, Cut}
-use Rattle.record.specs.Record.{recordOf}
-use Rattle.record.proofs.Records.{cases, full, bad-more, whole-more, body-more}
-use Rattle.record.specs.Order.{isMisplaced}
-use Rattle.feed.specs.Machine.{Machine, Move, stay, halt, go, moveBy, moveOf, stepped, steppedState, stepLine}
+use Rattle.definition.specs.Status.{pick}
+use Rattle.definition_script.specs.declared.Decoded.{Decoded}
+use Rattle.definition_script.specs.declared.Decoded.the-variants.{Whole, Bad, Cut}
+use Rattle.definition_script.specs.Record.{recordOf, isMisplaced}
+use Rattle.script_call.proofs.record.Records.{cases, full, bad-more, whole-more, body-more}
+use Rattle.definition_script.specs.Listing.{Machine, Move, stay, halt, go, moveBy, moveOf, stepped, steppedState, stepLine}
 
 pub move-ended : (m : Machine) (s : List ℕ) → m .state .ended ≡ true → moveOf m s ≡ stay
 unfolding moveOf pick

@@ -6,37 +6,34 @@ use mathlib.Core.Bool.{Bool, true, false}
 use mathlib.Core.List.{List, []}
 use lib.ListN.{length, take, drop, length-drop}
 use lib.Seq.{drop-drop, length-take-le}
-use Rattle.status.specs.declared.Answer.{Answer}
-use Rattle.status.specs.Choice.{pick, _or_}
-use Rattle.endpoint.specs.declared.SignalWord.{SignalWord}
-use Rattle.endpoint.specs.Endpoint.{shown}
+use Rattle.definition.specs.declared.Answer.{Answer}
+use Rattle.definition.specs.Status.{pick, _or_}
+use Rattle.definition.specs.declared.SignalWord.{SignalWord}
+use Rattle.definition.specs.Pair.{shown, isHandle, shownBy}
 use Rattle.text.proofs.Place.{nothing, upTo, same}
-use Rattle.socket.specs.declared.Pair.{Pair}
-use Rattle.socket.specs.declared.Step.{Step}
-use Rattle.socket.specs.Pair.{isHandle, shownBy}
-use Rattle.pair_outcome.specs.declared.PairOutcome.{PairOutcome}
-use Rattle.pair_outcome.specs.PairOutcome.{nextPair, outcomeStep}
-use Rattle.pair_outcome.proofs.Steps.{next-one, next-two}
-use Rattle.fill.proofs.Fills.{part-all}
-use Rattle.script_state.specs.declared.State.{State}
-use Rattle.script_state.specs.declared.StateChange.{StateChange}
+use Rattle.definition.specs.declared.Pair.{Pair}
+use Rattle.definition.specs.declared.Step.{Step}
+use Rattle.script_call.specs.declared.pair_outcome.PairOutcome.{PairOutcome}
+use Rattle.script_call.specs.pair_outcome.PairOutcome.{nextPair, outcomeStep}
+use Rattle.script_call.proofs.pair_outcome.Steps.{next-one, next-two}
+use Rattle.script_call.proofs.fill.Fills.{part-all}
+use Rattle.definition_script.specs.declared.State.{State}
+use Rattle.feed.specs.declared.state.StateChange.{StateChange}
 use Rattle.feed.specs.declared.turn.Stepped.{Stepped}
 use Rattle.feed.specs.declared.turn.Turned.{Turned}
-use Rattle.record.specs.declared.Decoded.{Decoded}
-use Rattle.record.specs.declared.Decoded.the-variants.{Whole, Bad, Cut}
-use Rattle.record.specs.Record.{isBody, recordOf}
-use Rattle.record.proofs.Records.{cases, Full, full}
-use Rattle.line.specs.Line.{LINE, lineOf, LineDone}
-use Rattle.plain_call.specs.Rings.{Rings, rings}
-use Rattle.delivered.specs.Delivered.{delivered, settled}
-use Rattle.call.specs.Call.{callOf}
-use Rattle.call.specs.Transfer.{CallDone}
-use Rattle.record.specs.Order.{isMisplaced, isLast}
-use Rattle.feed.specs.Machine.{Machine, machine, Move, stay, halt, go, moveOf, steppedState, stepped, calledLine, stepLine}
-use Rattle.call_line.proofs.Lines.{delivered-small}
-use Rattle.script_state.proofs.States.{mkState}
+use Rattle.definition_script.specs.declared.Decoded.{Decoded}
+use Rattle.definition_script.specs.declared.Decoded.the-variants.{Whole, Bad, Cut}
+use Rattle.definition_script.specs.Record.{isBody, recordOf, isMisplaced, isLast}
+use Rattle.script_call.proofs.record.Records.{cases, Full, full}
+use Rattle.line.specs.line.LineDone.{LINE, LineDone}
+use Rattle.definition_script.specs.Line.{lineOf}
+use Rattle.definition_script.specs.Call.{Rings, rings, delivered, settled, callOf}
+use Rattle.script_call.specs.call.CallDone.{CallDone}
+use Rattle.definition_script.specs.Listing.{Machine, machine, Move, stay, halt, go, moveOf, steppedState, stepped, calledLine, stepLine}
+use Rattle.line.proofs.call_line.Lines.{delivered-small}
+use Rattle.feed.proofs.state.States.{mkState}
 use Rattle.feed.proofs.Moves.{move-ended, move-cut, move-bad, move-misplaced, move-step}
-use Rattle.script_state.specs.Change.{changedState}
+use Rattle.feed.specs.state.Change.{changedState}
 use Rattle.feed.specs.Turn.{placed, nextOf, machineAfter, textOf, takenBy, goesOn, StepDone, StopDone, TurnDone}
 
 -- ---- what the bytes begin with

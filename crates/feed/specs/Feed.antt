@@ -1,19 +1,18 @@
 -- What a block of a script does, and what the function says that feeds it. 01 "Script program".
-use Prim.Native.Nat.{ℕ, zero, suc, _+_, _-_, _≤_}
-use mathlib.Core.Path.{_≡_}
+use Prim.Native.Nat.{ℕ, _+_, _-_, zero, suc, _≤_}
 use mathlib.Core.Bool.{Bool}
 use mathlib.Core.List.{List, [], _++_}
-use lib.ListN.{length, drop}
+use mathlib.Core.Path.{_≡_}
 use lib.Dec.{leb}
-use Rattle.status.specs.Choice.{pick, _and_}
-use Rattle.text.specs.Answer.{stopOf}
-use Rattle.text.specs.Put.{place}
-use Rattle.script_state.specs.declared.State.{State}
+use lib.ListN.{length, drop}
+use Rattle.definition_script.specs.declared.State.{State}
 use Rattle.feed.specs.declared.Fed.{Fed}
-use Rattle.line.specs.Line.{LINE}
-use Rattle.plain_call.specs.Rings.{Rings}
-use Rattle.feed.specs.Machine.{Machine, machine, Move, stay, halt, go, moveOf}
+use Rattle.definition.specs.Status.{_and_, pick}
 use Rattle.feed.specs.Turn.{LIMIT, machineAfter}
+use Rattle.definition_script.specs.Listing.{Machine, Move, stay, halt, go, moveOf, machine}
+use Rattle.definition_script.specs.Line.{stopOf}
+use Rattle.line.specs.line.LineDone.{LINE}
+use Rattle.definition_script.specs.Call.{writtenAt, Rings}
 
 -- whether a block can be fed: the numbers are far from 2 ^ 64, and memory is such that no line is longer than LINE
 unfoldable pub isReady : State → (offset input memory : ℕ) → Bool
@@ -65,7 +64,7 @@ pub record BlockDone (b : Block) (memory′ : List ℕ) (z′ : Rings) (out out�
   pub after : machine (r .state) memory′ z′ ≡ b .after
   pub taken : r .taken ≡ b .taken
   pub written : r .written ≡ length (b .text)
-  pub text : out′ ≡ place 0 (b .text) out
+  pub text : out′ ≡ writtenAt 0 (b .text) out
 
 -- a block is fed; what is taken lies in the input, and the text in the output
 pub record FeedDone (st : State) (offset : ℕ) (input memory memory′ : List ℕ) (z z′ : Rings) (out out′ : List ℕ) (r : Fed) : Type 0 where

@@ -1,23 +1,22 @@
 -- What the functions say that make one move of the machine. 01 "Script program".
 use Prim.Native.Nat.{ℕ, _+_, _≤_}
 use mathlib.Core.Path.{_≡_}
-use mathlib.Core.Bool.{Bool, true, false}
+use mathlib.Core.Bool.{true, false, Bool}
 use mathlib.Core.List.{List, []}
 use lib.ListN.{length}
-use Rattle.status.specs.Choice.{pick}
-use Rattle.text.specs.Put.{Fit}
-use Rattle.text.specs.Answer.{stopOf}
-use Rattle.script_state.specs.declared.State.{State}
-use Rattle.script_state.specs.Change.{changedState}
+use Rattle.definition_script.specs.declared.State.{State}
 use Rattle.feed.specs.declared.turn.Stepped.{Stepped}
 use Rattle.feed.specs.declared.turn.Turned.{Turned}
-use Rattle.record.specs.declared.Decoded.{Decoded}
-use Rattle.record.specs.declared.Decoded.the-variants.{Whole, Bad, Cut}
-use Rattle.record.specs.Record.{isBody, recordOf}
-use Rattle.line.specs.Line.{LINE}
-use Rattle.plain_call.specs.Rings.{Rings}
-use Rattle.record.specs.Order.{isMisplaced}
-use Rattle.feed.specs.Machine.{Machine, machine, stepped, stepLine, stoppedState, Move, stay, halt, go}
+use Rattle.definition_script.specs.declared.Decoded.{Decoded}
+use Rattle.definition_script.specs.declared.Decoded.the-variants.{Whole, Bad, Cut}
+use Rattle.definition_script.specs.Record.{isBody, isMisplaced, recordOf}
+use Rattle.text.specs.Put.{Fit}
+use Rattle.feed.specs.state.Change.{changedState}
+use Rattle.line.specs.line.LineDone.{LINE}
+use Rattle.definition_script.specs.Call.{Rings}
+use Rattle.definition_script.specs.Listing.{Machine, stepped, stepLine, stoppedState, machine, Move, stay, halt, go}
+use Rattle.definition_script.specs.Line.{stopOf}
+use Rattle.definition.specs.Status.{pick}
 
 -- the numbers that a block may begin with are a quarter of what 64 bits count, so that sums of two of them fit
 abbrev pub LIMIT : ℕ

@@ -1,13 +1,13 @@
 // One block of a script is fed to the machine that it drives: the pair, memory, rings and tables.
+use definition_script::State;
 ghost use mathlib.Core.Path.{_≡_};
 ghost use mathlib.Core.Bool.{true};
 ghost use lib.ListN.{length};
-ghost use Rattle.plain_call.specs.Rings.{rings};
+ghost use Rattle.definition_script.specs.Call.{rings};
 ghost use Rattle.feed.specs.Feed.{isReady, FeedDone};
 
+pub mod state;
 mod turn;
-
-pub use script_state::State;
 
 // After a block: the state, how many bytes of the input are done with, and how many of the output are written.
 pub struct Fed {
@@ -65,9 +65,9 @@ fn feed_ready(
             at,
         );
         let a = t.change;
-        s = script_state::with_ends(s, a);
-        if script_state::rebuilds_table(s, a) {
-            s = script_state::with_table(s, a);
+        s = crate::state::with_ends(s, a);
+        if crate::state::rebuilds_table(s, a) {
+            s = crate::state::with_table(s, a);
         }
         from = t.from;
         at = t.at;

@@ -1,12 +1,12 @@
 // One move of the machine that a script drives: a record is run and its line put out, or the script stops.
-use record::Decoded;
-use script_state::State;
-use script_state::StateChange;
+use crate::state::StateChange;
+use definition_script::Decoded;
+use definition_script::State;
 ghost use Prim.Native.Nat.{_+_, _≤_};
 ghost use mathlib.Core.Path.{_≡_};
 ghost use lib.ListN.{length, drop};
-ghost use Rattle.plain_call.specs.Rings.{rings};
-ghost use Rattle.feed.specs.Machine.{machine, moveOf};
+ghost use Rattle.definition_script.specs.Call.{rings};
+ghost use Rattle.definition_script.specs.Listing.{machine, moveOf};
 ghost use Rattle.feed.specs.Turn.{LIMIT, nextOf, StepMay, StepDone, StopDone, TurnMay, TurnDone};
 
 // After a step: what it leaves of the state, and the place in the output.
@@ -40,7 +40,7 @@ fn step(
     ensures { λ r. ⌜ StepDone (machine st (now (memory .entry)) (rings (now («ring_one» .entry)) (now («table_one» .entry)) (now («ring_two» .entry)) (now («table_two» .entry)))) tag (now (body .entry)) at (now (memory .exit)) (rings (now («ring_one» .exit)) (now («table_one» .exit)) (now («ring_two» .exit)) (now («table_two» .exit))) (now (out .entry)) (now (out .exit)) r ⌝ }
 {
     let p = st.pair;
-    let d = call::call(
+    let d = script_call::call::call(
         p,
         tag,
         body,
@@ -52,13 +52,13 @@ fn step(
     );
     let r = d.outcome;
     let a = r.answer;
-    let to = call_line::print(out, at, st.number, tag, body, r, memory);
-    delivered::settle(tag, body, a, memory);
+    let to = line::call_line::print(out, at, st.number, tag, body, r, memory);
+    script_call::delivered::settle(tag, body, a, memory);
     Stepped {
         change: StateChange {
             pair: d,
             number: st.number + 1,
-            ended: record::is_last(tag, a),
+            ended: script_call::record::is_last(tag, a),
         },
         at: to,
     }
@@ -71,7 +71,7 @@ fn stop(st: State, offset: u64, from: usize, out: &mut [u8], at: usize) -> Turne
 {
     let to = text::stop(out, at, offset + from as u64);
     Turned {
-        change: script_state::no_record(st, true),
+        change: crate::state::no_record(st, true),
         from,
         at: to,
         more: false,
@@ -87,11 +87,11 @@ fn next(ended: bool, number: u64, input: &[u8], from: usize) -> Decoded
     if ended {
         return Decoded::Cut;
     }
-    match record::decode(&input[from..]) {
+    match script_call::record::decode(&input[from..]) {
         Decoded::Cut => Decoded::Cut,
         Decoded::Bad => Decoded::Bad,
         Decoded::Whole(tag, n) => {
-            if record::is_misplaced(tag, number) {
+            if script_call::record::is_misplaced(tag, number) {
                 return Decoded::Bad;
             }
             Decoded::Whole(tag, n)
@@ -118,7 +118,7 @@ pub(crate) fn turn(
 {
     match next(st.ended, st.number, input, from) {
         Decoded::Cut => Turned {
-            change: script_state::no_record(st, st.ended),
+            change: crate::state::no_record(st, st.ended),
             from,
             at,
             more: false,

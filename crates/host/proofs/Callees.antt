@@ -26,48 +26,48 @@ use denote.Enum.Laws as EL
 use denote.Triple.Statement.{Contract}
 use denote.Triple.Spec.{tripleOf}
 use denote.Triple.Clauses.{ensured, lasts}
-use Rattle.reference_steps.proofs.Steps.{Asked, told, Handed, told-last}
-use Rattle.status.specs.declared.Answer.{Answer}
-use Rattle.status.specs.Answer.{answerWord, isDone}
-use Rattle.ends.specs.declared.Ends.{Ends}
-use Rattle.ends.specs.declared.Outcome.{Outcome}
-use Rattle.transfer.specs.declared.Transfer.{Transfer}
-use Rattle.transfer.proofs.Transfer as X
-use Rattle.transfer.proofs.Transfer.Laws as X′
-use Rattle.socket.specs.declared.Pair.{Pair}
-use Rattle.socket.proofs.Pair as T
-use Rattle.socket.proofs.Pair.Laws as T′
-use Rattle.ends.proofs.Outcome as K
-use Rattle.ends.proofs.Outcome.Laws as K′
-use Rattle.ends.proofs.Ends as E
-use Rattle.ends.proofs.Ends.Laws as E′
-use Rattle.status.proofs.Answer as N
-use Rattle.status.proofs.Answer.Laws as N′
-use Rattle.answers.specs.Wait.{waitAnswer as waitAnswerOf}
-use Rattle.host_values.specs.Disposition.{plainDisposeEnds}
-use Rattle.control.specs.Shutdown.{shutEnds}
-use Rattle.control_threshold.specs.Threshold.{readThresholdEnds, writeThresholdEnds}
-use Rattle.control.specs.Close.{closeEnds}
-use Rattle.socket.specs.Pair.{own, isOne, endsOf}
-use Rattle.socket.specs.Deferred.{settled, settledClose, registeredPair, takenPair}
-use Rattle.transfer_write.specs.Transfer.{wroteBy}
-use Rattle.transfer_read.specs.Transfer.{readBy}
+use Rattle.kept.proofs.steps.Steps.{Asked, told, Handed, told-last}
+use Rattle.definition.specs.declared.Answer.{Answer}
+use Rattle.definition.specs.Status.{answerWord, isDone}
+use Rattle.definition.specs.declared.Ends.{Ends}
+use Rattle.endpoint.specs.declared.ends.Outcome.{Outcome}
+use Rattle.transfer.specs.declared.change.Transfer.{Transfer}
+use Rattle.transfer.proofs.change.Transfer as X
+use Rattle.transfer.proofs.change.Transfer.Laws as X′
+use Rattle.definition.specs.declared.Pair.{Pair}
+use Rattle.definition.proofs.Pair as T
+use Rattle.definition.proofs.Pair.Laws as T′
+use Rattle.endpoint.proofs.ends.Outcome as K
+use Rattle.endpoint.proofs.ends.Outcome.Laws as K′
+use Rattle.definition.proofs.Ends as E
+use Rattle.definition.proofs.Ends.Laws as E′
+use Rattle.definition.proofs.Answer as N
+use Rattle.definition.proofs.Answer.Laws as N′
+use Rattle.definition.specs.Wait.{waitAnswer as waitAnswerOf}
+use Rattle.host.specs.values.Disposition.{plainDisposeEnds}
+use Rattle.control.specs.ends.ShutdownEnds.{shutEnds}
+use Rattle.control.specs.threshold.ThresholdEnds.{readThresholdEnds, writeThresholdEnds}
+use Rattle.control.specs.ends.CloseEnds.{closeEnds}
+use Rattle.definition.specs.Pair.{own, isOne, endsOf}
+use Rattle.socket.specs.Deferred.{settledStep, settledClose, registeredPair, takenPair}
+use Rattle.transfer.specs.write.WriteChange.{wroteBy}
+use Rattle.transfer.specs.read.ReadChange.{readBy}
 use Rattle.syscall.specs.Ends.{userDisposeEnds, userShutEnds}
 use Rattle.socket.proofs.ends_of as ends
-use Rattle.answers.proofs.wait_answer as wait-answer
-use Rattle.control.proofs.shutdown_ends as shutdown-ends
-use Rattle.control_threshold.proofs.read_threshold_ends as read-threshold-ends
-use Rattle.control_threshold.proofs.write_threshold_ends as write-threshold-ends
-use Rattle.control.proofs.close_ends as close-ends
-use Rattle.host_values.proofs.dispose_ends as dispose-ends
+use Rattle.answers.proofs.control.wait_answer as wait-answer
+use Rattle.control.proofs.ends.shutdown_ends as shutdown-ends
+use Rattle.control.proofs.threshold.read_threshold_ends as read-threshold-ends
+use Rattle.control.proofs.threshold.write_threshold_ends as write-threshold-ends
+use Rattle.control.proofs.ends.close_ends as close-ends
+use Rattle.host.proofs.values.dispose_ends as dispose-ends
 use Rattle.syscall.proofs.dispose_ends as user-dispose-ends
 use Rattle.syscall.proofs.shutdown_ends as user-shutdown-ends
-use Rattle.kept_pair.proofs.close as close
-use Rattle.kept_transfer.proofs.wrote as wrote
-use Rattle.kept_transfer.proofs.read as read
-use Rattle.kept_places.proofs.create as create
-use Rattle.kept_places.proofs.wait as wait
-use Rattle.kept_places.proofs.take as take
+use Rattle.kept.proofs.pair.close as close
+use Rattle.kept.proofs.transfers.wrote as wrote
+use Rattle.kept.proofs.transfers.read as read
+use Rattle.kept.proofs.places.create as create
+use Rattle.kept.proofs.places.wait as wait
+use Rattle.kept.proofs.places.take as take
 
 module _ {M : Type 1} (𝓤 : URA M) (H : Heap 𝓤) (A : Atoms 𝓤) (at-mem : Memory → SProp 𝓤) (run : Routine → Fun 𝓤) where
   abbrev pub ends-contract : Contract 𝓤
@@ -275,17 +275,17 @@ module _ {M : Type 1} (𝓤 : URA M) (H : Heap 𝓤) (A : Atoms 𝓤) (at-mem : 
     pub goes-wrote : (κ : Lft) (q : Share) (b o : ℕ) (γ : GName) (h : Pair) (a₁ : ℕ) (a₂ : Transfer) (v₂ : Val) → Is u32 a₁ (vint w32 a₁ ∷ []) → Is X.the-row a₂ (v₂ ∷ []) → ent 𝓤 (⋆ 𝓤 H A ((‵ (MutRef (named 0) κ T.the-row .own (record { ptr = (b, o); name = γ; now = h }) (vptr b o ∷ [])) ⊛ (‵ (flft κ q) ⊛ ‵ ftrue)) ∷ [])) (wrote-contract .pre (to-wrote κ q b o γ h a₁ a₂ v₂))
     goes-wrote κ q b o γ h a₁ a₂ v₂ i₁ i₂ = qed W ((‵ (MutRef (named 0) κ T.the-row .own (record { ptr = (b, o); name = γ; now = h }) (vptr b o ∷ [])) ⊛ (‵ (flft κ q) ⊛ ‵ ftrue)) ∷ []) ∵ split ! $ nothing ! $ owned ! X.the-row (Is X.the-row) ((LL.makes X.the-type X′.the-plain) 𝓤 H A) a₂ (v₂ ∷ []) i₂ $ join ! $ owned ! u32 (Is u32) (uint-makes 𝓤 H A W w32) a₁ _ i₁ $ join ! $ move ! (1 ∷ 0 ∷ []) $ join ! $ move ! (1 ∷ 0 ∷ []) $ join ! $ frame ! $ done !
 
-    pub gives-wrote : (κ : Lft) (q : Share) (b o : ℕ) (γ : GName) (h : Pair) (a₁ : ℕ) (a₂ : Transfer) (v₂ : Val) (v : Val) → ent 𝓤 (wrote-contract .post (to-wrote κ q b o γ h a₁ a₂ v₂) v) (mean 𝓤 H A (later (some (λ (y : ℤ). some (λ (w : (Pair × (Unit {0} × (Unit {0} × Unit {0})))). ((‵ (flft κ q) ⊛ ‵ ftrue) ⊛ ‵ (i64 .own y (v ∷ []))) ⊛ (‵ (fres γ (T.the-row .coded .code (w .0))) ⊛ raw (fact 𝓤 ((y ≡ answerWord (a₂ .answer)) × (w .0 ≡ settled (wroteBy (endsOf h) a₁ a₂) h .pair)))))))))
-    gives-wrote κ q b o γ h a₁ a₂ v₂ = told-last W i64 (‵ (flft κ q) ⊛ ‵ ftrue) (Pair × (Unit {0} × (Unit {0} × Unit {0}))) (lasts wrote.ended (κ, tt) (record { ptr = (b, o); name = γ; now = h }, (a₁, (a₂, tt)))) (λ w. fres γ (T.the-row .coded .code (w .0))) (λ y w. (y ≡ answerWord (a₂ .answer)) × (w .0 ≡ settled (wroteBy (endsOf h) a₁ a₂) h .pair)) (λ w. qed W (‵ (lasts wrote.ended (κ, tt) (record { ptr = (b, o); name = γ; now = h }, (a₁, (a₂, tt))) w) ∷ []) ∵ fsplit ! $ keep ! (0 ∷ []) $ done !)
+    pub gives-wrote : (κ : Lft) (q : Share) (b o : ℕ) (γ : GName) (h : Pair) (a₁ : ℕ) (a₂ : Transfer) (v₂ : Val) (v : Val) → ent 𝓤 (wrote-contract .post (to-wrote κ q b o γ h a₁ a₂ v₂) v) (mean 𝓤 H A (later (some (λ (y : ℤ). some (λ (w : (Pair × (Unit {0} × (Unit {0} × Unit {0})))). ((‵ (flft κ q) ⊛ ‵ ftrue) ⊛ ‵ (i64 .own y (v ∷ []))) ⊛ (‵ (fres γ (T.the-row .coded .code (w .0))) ⊛ raw (fact 𝓤 ((y ≡ answerWord (a₂ .answer)) × (w .0 ≡ settledStep (wroteBy (endsOf h) a₁ a₂) h .pair)))))))))
+    gives-wrote κ q b o γ h a₁ a₂ v₂ = told-last W i64 (‵ (flft κ q) ⊛ ‵ ftrue) (Pair × (Unit {0} × (Unit {0} × Unit {0}))) (lasts wrote.ended (κ, tt) (record { ptr = (b, o); name = γ; now = h }, (a₁, (a₂, tt)))) (λ w. fres γ (T.the-row .coded .code (w .0))) (λ y w. (y ≡ answerWord (a₂ .answer)) × (w .0 ≡ settledStep (wroteBy (endsOf h) a₁ a₂) h .pair)) (λ w. qed W (‵ (lasts wrote.ended (κ, tt) (record { ptr = (b, o); name = γ; now = h }, (a₁, (a₂, tt))) w) ∷ []) ∵ fsplit ! $ keep ! (0 ∷ []) $ done !)
 
     abbrev pub hand-wrote : (κ : Lft) (q : Share) (b o : ℕ) (γ : GName) (h : Pair) (a₁ : ℕ) (a₂ : Transfer) (v₂ : Val) → Is u32 a₁ (vint w32 a₁ ∷ []) → Is X.the-row a₂ (v₂ ∷ []) → Handed 𝓤 H A T.the-row κ q b o γ h
-    hand-wrote κ q b o γ h a₁ a₂ v₂ i₁ i₂ = record { contract = wrote-contract; ghost = to-wrote κ q b o γ h a₁ a₂ v₂; row = i64; Lasts = (Pair × (Unit {0} × (Unit {0} × Unit {0}))); last = λ w. w .0; says = λ y w. (y ≡ answerWord (a₂ .answer)) × (w .0 ≡ settled (wroteBy (endsOf h) a₁ a₂) h .pair); needs = goes-wrote κ q b o γ h a₁ a₂ v₂ i₁ i₂; gives = gives-wrote κ q b o γ h a₁ a₂ v₂ }
+    hand-wrote κ q b o γ h a₁ a₂ v₂ i₁ i₂ = record { contract = wrote-contract; ghost = to-wrote κ q b o γ h a₁ a₂ v₂; row = i64; Lasts = (Pair × (Unit {0} × (Unit {0} × Unit {0}))); last = λ w. w .0; says = λ y w. (y ≡ answerWord (a₂ .answer)) × (w .0 ≡ settledStep (wroteBy (endsOf h) a₁ a₂) h .pair); needs = goes-wrote κ q b o γ h a₁ a₂ v₂ i₁ i₂; gives = gives-wrote κ q b o γ h a₁ a₂ v₂ }
 
     pub goes-read : (κ : Lft) (q : Share) (b o : ℕ) (γ : GName) (h : Pair) (a₁ : ℕ) (a₂ : Transfer) (v₂ : Val) → Is u32 a₁ (vint w32 a₁ ∷ []) → Is X.the-row a₂ (v₂ ∷ []) → ent 𝓤 (⋆ 𝓤 H A ((‵ (MutRef (named 0) κ T.the-row .own (record { ptr = (b, o); name = γ; now = h }) (vptr b o ∷ [])) ⊛ (‵ (flft κ q) ⊛ ‵ ftrue)) ∷ [])) (read-contract .pre (to-read κ q b o γ h a₁ a₂ v₂))
     goes-read κ q b o γ h a₁ a₂ v₂ i₁ i₂ = qed W ((‵ (MutRef (named 0) κ T.the-row .own (record { ptr = (b, o); name = γ; now = h }) (vptr b o ∷ [])) ⊛ (‵ (flft κ q) ⊛ ‵ ftrue)) ∷ []) ∵ split ! $ nothing ! $ owned ! X.the-row (Is X.the-row) ((LL.makes X.the-type X′.the-plain) 𝓤 H A) a₂ (v₂ ∷ []) i₂ $ join ! $ owned ! u32 (Is u32) (uint-makes 𝓤 H A W w32) a₁ _ i₁ $ join ! $ move ! (1 ∷ 0 ∷ []) $ join ! $ move ! (1 ∷ 0 ∷ []) $ join ! $ frame ! $ done !
 
-    pub gives-read : (κ : Lft) (q : Share) (b o : ℕ) (γ : GName) (h : Pair) (a₁ : ℕ) (a₂ : Transfer) (v₂ : Val) (v : Val) → ent 𝓤 (read-contract .post (to-read κ q b o γ h a₁ a₂ v₂) v) (mean 𝓤 H A (later (some (λ (y : ℤ). some (λ (w : (Pair × (Unit {0} × (Unit {0} × Unit {0})))). ((‵ (flft κ q) ⊛ ‵ ftrue) ⊛ ‵ (i64 .own y (v ∷ []))) ⊛ (‵ (fres γ (T.the-row .coded .code (w .0))) ⊛ raw (fact 𝓤 ((y ≡ answerWord (a₂ .answer)) × (w .0 ≡ settled (readBy (endsOf h) a₁ a₂) h .pair)))))))))
-    gives-read κ q b o γ h a₁ a₂ v₂ = told-last W i64 (‵ (flft κ q) ⊛ ‵ ftrue) (Pair × (Unit {0} × (Unit {0} × Unit {0}))) (lasts read.ended (κ, tt) (record { ptr = (b, o); name = γ; now = h }, (a₁, (a₂, tt)))) (λ w. fres γ (T.the-row .coded .code (w .0))) (λ y w. (y ≡ answerWord (a₂ .answer)) × (w .0 ≡ settled (readBy (endsOf h) a₁ a₂) h .pair)) (λ w. qed W (‵ (lasts read.ended (κ, tt) (record { ptr = (b, o); name = γ; now = h }, (a₁, (a₂, tt))) w) ∷ []) ∵ fsplit ! $ keep ! (0 ∷ []) $ done !)
+    pub gives-read : (κ : Lft) (q : Share) (b o : ℕ) (γ : GName) (h : Pair) (a₁ : ℕ) (a₂ : Transfer) (v₂ : Val) (v : Val) → ent 𝓤 (read-contract .post (to-read κ q b o γ h a₁ a₂ v₂) v) (mean 𝓤 H A (later (some (λ (y : ℤ). some (λ (w : (Pair × (Unit {0} × (Unit {0} × Unit {0})))). ((‵ (flft κ q) ⊛ ‵ ftrue) ⊛ ‵ (i64 .own y (v ∷ []))) ⊛ (‵ (fres γ (T.the-row .coded .code (w .0))) ⊛ raw (fact 𝓤 ((y ≡ answerWord (a₂ .answer)) × (w .0 ≡ settledStep (readBy (endsOf h) a₁ a₂) h .pair)))))))))
+    gives-read κ q b o γ h a₁ a₂ v₂ = told-last W i64 (‵ (flft κ q) ⊛ ‵ ftrue) (Pair × (Unit {0} × (Unit {0} × Unit {0}))) (lasts read.ended (κ, tt) (record { ptr = (b, o); name = γ; now = h }, (a₁, (a₂, tt)))) (λ w. fres γ (T.the-row .coded .code (w .0))) (λ y w. (y ≡ answerWord (a₂ .answer)) × (w .0 ≡ settledStep (readBy (endsOf h) a₁ a₂) h .pair)) (λ w. qed W (‵ (lasts read.ended (κ, tt) (record { ptr = (b, o); name = γ; now = h }, (a₁, (a₂, tt))) w) ∷ []) ∵ fsplit ! $ keep ! (0 ∷ []) $ done !)
 
     abbrev pub hand-read : (κ : Lft) (q : Share) (b o : ℕ) (γ : GName) (h : Pair) (a₁ : ℕ) (a₂ : Transfer) (v₂ : Val) → Is u32 a₁ (vint w32 a₁ ∷ []) → Is X.the-row a₂ (v₂ ∷ []) → Handed 𝓤 H A T.the-row κ q b o γ h
-    hand-read κ q b o γ h a₁ a₂ v₂ i₁ i₂ = record { contract = read-contract; ghost = to-read κ q b o γ h a₁ a₂ v₂; row = i64; Lasts = (Pair × (Unit {0} × (Unit {0} × Unit {0}))); last = λ w. w .0; says = λ y w. (y ≡ answerWord (a₂ .answer)) × (w .0 ≡ settled (readBy (endsOf h) a₁ a₂) h .pair); needs = goes-read κ q b o γ h a₁ a₂ v₂ i₁ i₂; gives = gives-read κ q b o γ h a₁ a₂ v₂ }
+    hand-read κ q b o γ h a₁ a₂ v₂ i₁ i₂ = record { contract = read-contract; ghost = to-read κ q b o γ h a₁ a₂ v₂; row = i64; Lasts = (Pair × (Unit {0} × (Unit {0} × Unit {0}))); last = λ w. w .0; says = λ y w. (y ≡ answerWord (a₂ .answer)) × (w .0 ≡ settledStep (readBy (endsOf h) a₁ a₂) h .pair); needs = goes-read κ q b o γ h a₁ a₂ v₂ i₁ i₂; gives = gives-read κ q b o γ h a₁ a₂ v₂ }

@@ -1,23 +1,24 @@
 // The calls that a kernel links, over a pair that it keeps: each takes the pair behind a reference, leaves the next one there and
 // returns the answer's word, or the signal word of an end.
-use socket::Pair;
+use definition::Pair;
 ghost use mathlib.Core.Path.{_≡_};
 ghost use lib.ListN.{length};
 ghost use lib.Dec.{eqb};
-ghost use Rattle.create_answer.specs.Create.{createAnswer};
-ghost use Rattle.socket.specs.Pair.{isOne, newPair};
-ghost use Rattle.socket.specs.Tests.{Steps};
-ghost use Rattle.socket.specs.Write.{Wrote};
-ghost use Rattle.socket.specs.Read.{Read};
-ghost use Rattle.socket.specs.Disposition.{disposed, shutdownAnswer, shut};
-ghost use Rattle.socket.specs.Threshold.{readThresholdAnswer, readThresholdSet, writeThresholdAnswer, writeThresholdSet};
-ghost use Rattle.socket.specs.Wait.{waitAnswer, waited, closeAnswer, closed};
-ghost use Rattle.syscall.specs.Control.{dispositionOf, plainDisposeAnswer};
-ghost use Rattle.host_values.specs.Signal.{signalNumber};
-ghost use Rattle.host.specs.Host.{Answered};
+ghost use Rattle.definition.specs.Create.{createAnswer, newPair};
+ghost use Rattle.definition.specs.Pair.{isOne, endsOf};
+ghost use Rattle.definition.specs.Tests.{Steps};
+ghost use Rattle.definition.specs.Write.{Wrote};
+ghost use Rattle.definition.specs.Read.{Read};
+ghost use Rattle.definition.specs.Disposition.{disposed, dispositionOf, plainDisposeAnswer};
+ghost use Rattle.definition.specs.Shutdown.{shutdownAnswer, shut};
+ghost use Rattle.definition.specs.Threshold.{readThresholdAnswer, readThresholdSet, writeThresholdAnswer, writeThresholdSet};
+ghost use Rattle.definition.specs.Wait.{waitAnswer, waited};
+ghost use Rattle.definition.specs.Close.{closeAnswer, closed};
+ghost use Rattle.definition_runs.specs.Exported.{signalNumber, Answered};
 
 pub mod memory;
 pub mod records;
+pub mod values;
 
 // A new pair over the rings and tables of its two ends, of which it looks at the lengths. Where the call is refused, the record stays as it is.
 #[no_mangle]
@@ -34,7 +35,7 @@ pub extern "C" fn murgwethan_create(
 ) -> i64
     ensures { λ w. ⌜ Answered (Steps (now (p .entry)) (createAnswer kind capacity «rights_one» «rights_two» (length (now («ring_one» .entry))) (length (now («table_one» .entry))) (length (now («ring_two» .entry))) (length (now («table_two» .entry)))) (newPair (eqb kind 1) capacity «rights_one» «rights_two»)) (now (p .exit)) w ⌝ }
 {
-    let a = host_values::create_answer(
+    let a = crate::values::create_answer(
         kind,
         capacity,
         rights_one,
@@ -44,7 +45,7 @@ pub extern "C" fn murgwethan_create(
         ring_two,
         table_two,
     );
-    kept_places::create(p, a, kind, capacity, rights_one, rights_two)
+    kept::places::create(p, a, kind, capacity, rights_one, rights_two)
 }
 
 // Writes to the peer's queue. The ring and the table are the peer's.
@@ -58,8 +59,8 @@ pub extern "C" fn murgwethan_write(
 ) -> i64
     ensures { λ w. ⌜ Answered (Wrote (now (p .entry)) handle (now (bytes .entry)) (now (ring .entry)) (now (ring .exit)) (now (table .entry)) (now (table .exit))) (now (p .exit)) w ⌝ }
 {
-    let t = transfer_write::write_transfer(socket::ends_of(*p), handle, ring, table, bytes);
-    kept_transfer::wrote(p, handle, t)
+    let t = transfer::write::write_transfer(socket::ends_of(*p), handle, ring, table, bytes);
+    kept::transfers::wrote(p, handle, t)
 }
 
 // Reads the front of the own queue into the buffer. The ring and the table are the reader's. A peek leaves the bytes in the queue.
@@ -74,8 +75,8 @@ pub extern "C" fn murgwethan_read(
 ) -> i64
     ensures { λ w. ⌜ Answered (Read (now (p .entry)) handle peek (now (ring .entry)) (now (table .entry)) (now (buffer .entry)) (now (buffer .exit))) (now (p .exit)) w ⌝ }
 {
-    let t = transfer_read::read_transfer(socket::ends_of(*p), handle, peek, ring, table, buffer);
-    kept_transfer::read(p, handle, t)
+    let t = transfer::read::read_transfer(socket::ends_of(*p), handle, peek, ring, table, buffer);
+    kept::transfers::read(p, handle, t)
 }
 
 // Disables or enables the writing of an end and of its peer: 0 leaves it as it is, 1 disables it, 2 enables it, a number above 2 is refused. No right is
@@ -87,10 +88,10 @@ pub extern "C" fn murgwethan_set_disposition(
     disposition: u32,
     peer_disposition: u32,
 ) -> i64
-    ensures { λ w. ⌜ Answered (Steps (now (p .entry)) (plainDisposeAnswer (now (p .entry)) handle disposition «peer_disposition») (disposed (isOne handle) (dispositionOf disposition) (dispositionOf «peer_disposition») (now (p .entry)))) (now (p .exit)) w ⌝ }
+    ensures { λ w. ⌜ Answered (Steps (now (p .entry)) (plainDisposeAnswer (endsOf (now (p .entry))) handle disposition «peer_disposition») (disposed (isOne handle) (dispositionOf disposition) (dispositionOf «peer_disposition») (now (p .entry)))) (now (p .exit)) w ⌝ }
 {
-    let r = host_values::dispose_ends(socket::ends_of(*p), handle, disposition, peer_disposition);
-    kept_pair::outcome(p, r)
+    let r = crate::values::dispose_ends(socket::ends_of(*p), handle, disposition, peer_disposition);
+    kept::pair::outcome(p, r)
 }
 
 // Prevents reading or writing by the end of a handle; a peer that is open is shut by the opposite of each flag.
@@ -98,35 +99,35 @@ pub extern "C" fn murgwethan_set_disposition(
 pub extern "C" fn murgwethan_shutdown(p: &mut Pair, handle: u32, read: bool, write: bool) -> i64
     ensures { λ w. ⌜ Answered (Steps (now (p .entry)) (shutdownAnswer (now (p .entry)) handle) (shut (isOne handle) read write (now (p .entry)))) (now (p .exit)) w ⌝ }
 {
-    let r = control::shutdown_ends(socket::ends_of(*p), handle, read, write);
-    kept_pair::outcome(p, r)
+    let r = control::ends::shutdown_ends(socket::ends_of(*p), handle, read, write);
+    kept::pair::outcome(p, r)
 }
 
 // Sets the number of bytes from which on an end's word shows that enough bytes are queued for a read; 0 turns it off.
 #[no_mangle]
 pub extern "C" fn murgwethan_set_read_threshold(p: &mut Pair, handle: u32, threshold: u64) -> i64
-    ensures { λ w. ⌜ Answered (Steps (now (p .entry)) (readThresholdAnswer (now (p .entry)) handle threshold) (readThresholdSet (isOne handle) threshold (now (p .entry)))) (now (p .exit)) w ⌝ }
+    ensures { λ w. ⌜ Answered (Steps (now (p .entry)) (readThresholdAnswer (endsOf (now (p .entry))) handle threshold) (readThresholdSet (isOne handle) threshold (now (p .entry)))) (now (p .exit)) w ⌝ }
 {
-    let r = control_threshold::read_threshold_ends(socket::ends_of(*p), handle, threshold);
-    kept_pair::outcome(p, r)
+    let r = control::threshold::read_threshold_ends(socket::ends_of(*p), handle, threshold);
+    kept::pair::outcome(p, r)
 }
 
 // Sets the number of bytes from which on an end's word shows that there is enough room for a write; 0 turns it off.
 #[no_mangle]
 pub extern "C" fn murgwethan_set_write_threshold(p: &mut Pair, handle: u32, threshold: u64) -> i64
-    ensures { λ w. ⌜ Answered (Steps (now (p .entry)) (writeThresholdAnswer (now (p .entry)) handle threshold) (writeThresholdSet (isOne handle) threshold (now (p .entry)))) (now (p .exit)) w ⌝ }
+    ensures { λ w. ⌜ Answered (Steps (now (p .entry)) (writeThresholdAnswer (endsOf (now (p .entry))) handle threshold) (writeThresholdSet (isOne handle) threshold (now (p .entry)))) (now (p .exit)) w ⌝ }
 {
-    let r = control_threshold::write_threshold_ends(socket::ends_of(*p), handle, threshold);
-    kept_pair::outcome(p, r)
+    let r = control::threshold::write_threshold_ends(socket::ends_of(*p), handle, threshold);
+    kept::pair::outcome(p, r)
 }
 
 // Registers a wait of an end. It may fire now, by the word as it is; with edge 1 only a later change fires it.
 #[no_mangle]
 pub extern "C" fn murgwethan_wait(p: &mut Pair, handle: u32, key: u64, mask: u32, edge: u8) -> i64
-    ensures { λ w. ⌜ Answered (Steps (now (p .entry)) (waitAnswer (now (p .entry)) handle edge) (waited (isOne handle) key mask edge (now (p .entry)))) (now (p .exit)) w ⌝ }
+    ensures { λ w. ⌜ Answered (Steps (now (p .entry)) (waitAnswer (endsOf (now (p .entry))) handle edge) (waited (isOne handle) key mask edge (now (p .entry)))) (now (p .exit)) w ⌝ }
 {
-    let a = answers::wait_answer(socket::ends_of(*p), handle, edge);
-    kept_places::wait(p, a, handle, key, mask, edge)
+    let a = answers::control::wait_answer(socket::ends_of(*p), handle, edge);
+    kept::places::wait(p, a, handle, key, mask, edge)
 }
 
 // Closes the end of a handle: its queue and its waits vanish, packets stay, and an open peer is told by its word.
@@ -134,8 +135,8 @@ pub extern "C" fn murgwethan_wait(p: &mut Pair, handle: u32, key: u64, mask: u32
 pub extern "C" fn murgwethan_close(p: &mut Pair, handle: u32) -> i64
     ensures { λ w. ⌜ Answered (Steps (now (p .entry)) (closeAnswer (now (p .entry)) handle) (closed (isOne handle) (now (p .entry)))) (now (p .exit)) w ⌝ }
 {
-    let r = control::close_ends(socket::ends_of(*p), handle);
-    kept_pair::close(p, handle, r)
+    let r = control::ends::close_ends(socket::ends_of(*p), handle);
+    kept::pair::close(p, handle, r)
 }
 
 // The signal word of an end, after the tests of the record and of the handle. The pair stays as it is.
@@ -143,5 +144,5 @@ pub extern "C" fn murgwethan_close(p: &mut Pair, handle: u32) -> i64
 pub extern "C" fn murgwethan_signal(p: &mut Pair, handle: u32) -> i64
     ensures { λ w. ⌜ (w ≡ signalNumber (now (p .entry)) handle) × (now (p .exit) ≡ now (p .entry)) ⌝ }
 {
-    host_values::signal(*p, handle)
+    crate::values::signal(*p, handle)
 }

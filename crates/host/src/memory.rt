@@ -1,12 +1,12 @@
 // The calls over user memory: one slice that the caller lends, at a 64-bit base.
-use socket::Pair;
-ghost use Rattle.socket.specs.Pair.{isOne};
-ghost use Rattle.socket.specs.Tests.{Steps};
-ghost use Rattle.socket.specs.Disposition.{disposed, shut};
-ghost use Rattle.syscall.specs.Write.{UserWrote};
-ghost use Rattle.syscall.specs.Read.{UserRead};
-ghost use Rattle.syscall.specs.Control.{dispositionOf, userDisposeAnswer, userShutdownAnswer, shutsRead, shutsWrite};
-ghost use Rattle.host.specs.Host.{Answered};
+use definition::Pair;
+ghost use Rattle.definition.specs.Pair.{isOne, endsOf};
+ghost use Rattle.definition.specs.Tests.{Steps};
+ghost use Rattle.definition.specs.Disposition.{disposed, dispositionOf, userDisposeAnswer};
+ghost use Rattle.definition.specs.Shutdown.{shut, userShutdownAnswer, shutsRead, shutsWrite};
+ghost use Rattle.definition.specs.Write.{UserWrote};
+ghost use Rattle.definition.specs.Read.{UserRead};
+ghost use Rattle.definition_runs.specs.Exported.{Answered};
 
 // Writes the bytes of user memory to the peer's queue, and lands the count of those taken. The ring and the table are the peer's.
 #[no_mangle]
@@ -36,7 +36,7 @@ pub extern "C" fn murgwethan_user_write(
         ring,
         table,
     );
-    kept_pair::outcome(p, r)
+    kept::pair::outcome(p, r)
 }
 
 // Reads the front of the own queue into user memory, then lands the count over the bytes. Option 8 is a peek.
@@ -67,7 +67,7 @@ pub extern "C" fn murgwethan_user_read(
         ring,
         table,
     );
-    kept_pair::outcome(p, r)
+    kept::pair::outcome(p, r)
 }
 
 // Disables or enables the writing of an end and of its peer, by numbers from 0 to 2.
@@ -78,18 +78,18 @@ pub extern "C" fn murgwethan_user_set_disposition(
     disposition: u32,
     peer_disposition: u32,
 ) -> i64
-    ensures { λ w. ⌜ Answered (Steps (now (p .entry)) (userDisposeAnswer (now (p .entry)) handle disposition «peer_disposition») (disposed (isOne handle) (dispositionOf disposition) (dispositionOf «peer_disposition») (now (p .entry)))) (now (p .exit)) w ⌝ }
+    ensures { λ w. ⌜ Answered (Steps (now (p .entry)) (userDisposeAnswer (endsOf (now (p .entry))) handle disposition «peer_disposition») (disposed (isOne handle) (dispositionOf disposition) (dispositionOf «peer_disposition») (now (p .entry)))) (now (p .exit)) w ⌝ }
 {
     let r = syscall::dispose_ends(socket::ends_of(*p), handle, disposition, peer_disposition);
-    kept_pair::outcome(p, r)
+    kept::pair::outcome(p, r)
 }
 
 // Prevents reading or writing by the end of a handle: bit 0x1 of the options is write, 0x2 read, others are ignored. A peer that is open is shut by
 // the opposite of each.
 #[no_mangle]
 pub extern "C" fn murgwethan_user_shutdown(p: &mut Pair, handle: u32, options: u32) -> i64
-    ensures { λ w. ⌜ Answered (Steps (now (p .entry)) (userShutdownAnswer (now (p .entry)) handle) (shut (isOne handle) (shutsRead options) (shutsWrite options) (now (p .entry)))) (now (p .exit)) w ⌝ }
+    ensures { λ w. ⌜ Answered (Steps (now (p .entry)) (userShutdownAnswer (endsOf (now (p .entry))) handle) (shut (isOne handle) (shutsRead options) (shutsWrite options) (now (p .entry)))) (now (p .exit)) w ⌝ }
 {
     let r = syscall::shutdown_ends(socket::ends_of(*p), handle, options);
-    kept_pair::outcome(p, r)
+    kept::pair::outcome(p, r)
 }

@@ -1,22 +1,21 @@
 // The calls whose record goes to an array that the caller lends. A refused call leaves the array as it is.
-use socket::Pair;
+use definition::Pair;
 ghost use mathlib.Core.Path.{_≡_};
 ghost use mathlib.Core.List.{[]};
-ghost use Rattle.socket.specs.Pair.{isOne, own};
-ghost use Rattle.socket.specs.Tests.{lentOf};
-ghost use Rattle.socket.specs.Info.{infoAnswer};
-ghost use Rattle.socket.specs.Threshold.{thresholdsAnswer};
-ghost use Rattle.socket.specs.Wait.{takeAnswer, took};
-ghost use Rattle.host.specs.Host.{Answered};
-ghost use Rattle.host_values.specs.Records.{thresholdNumbers, infoNumbers, packetNumbers, Recorded};
+ghost use Rattle.definition.specs.Pair.{isOne, own, endsOf};
+ghost use Rattle.definition.specs.Tests.{lentOf};
+ghost use Rattle.definition.specs.Info.{infoAnswer};
+ghost use Rattle.definition.specs.Threshold.{thresholdsAnswer};
+ghost use Rattle.definition.specs.Wait.{takeAnswer, took};
+ghost use Rattle.definition_runs.specs.Exported.{Answered, thresholdNumbers, infoNumbers, packetNumbers, Recorded};
 
 // The read and the write threshold of an end.
 #[no_mangle]
 pub extern "C" fn murgwethan_thresholds(p: &mut Pair, handle: u32, out: &mut [u64; 2]) -> i64
-    ensures { λ w. ⌜ Answered (Recorded thresholdNumbers (now (p .entry)) (thresholdsAnswer (now (p .entry)) handle) (now (p .entry)) (now (out .entry)) (now (out .exit))) (now (p .exit)) w ⌝ }
+    ensures { λ w. ⌜ Answered (Recorded thresholdNumbers (now (p .entry)) (thresholdsAnswer (endsOf (now (p .entry))) handle) (now (p .entry)) (now (out .entry)) (now (out .exit))) (now (p .exit)) w ⌝ }
 {
-    let a = host_values::thresholds(*p, handle, out);
-    status::word(a)
+    let a = crate::values::thresholds(*p, handle, out);
+    endpoint::answer::word(a)
 }
 
 // Options, capacity, queued, available, the peer's capacity and queued. The table is the own one; only datagram pairs look at it.
@@ -27,10 +26,10 @@ pub extern "C" fn murgwethan_info(
     table: &[u32],
     out: &mut [u64; 6],
 ) -> i64
-    ensures { λ w. ⌜ Answered (Recorded infoNumbers (now (p .entry)) (infoAnswer (now (p .entry)) (lentOf ((now (p .entry)) .datagram) (own (isOne handle) (now (p .entry)) .queue) [] (now (table .entry))) handle) (now (p .entry)) (now (out .entry)) (now (out .exit))) (now (p .exit)) w ⌝ }
+    ensures { λ w. ⌜ Answered (Recorded infoNumbers (now (p .entry)) (infoAnswer (endsOf (now (p .entry))) (lentOf ((now (p .entry)) .datagram) (own (isOne handle) (endsOf (now (p .entry))) .queue) [] (now (table .entry))) handle) (now (p .entry)) (now (out .entry)) (now (out .exit))) (now (p .exit)) w ⌝ }
 {
-    let a = host_values::info(*p, handle, table, out);
-    status::word(a)
+    let a = crate::values::info(*p, handle, table, out);
+    endpoint::answer::word(a)
 }
 
 // Takes the oldest packet: its key, trigger, observed word, count and timestamp.
@@ -38,6 +37,6 @@ pub extern "C" fn murgwethan_info(
 pub extern "C" fn murgwethan_take(p: &mut Pair, out: &mut [u64; 5]) -> i64
     ensures { λ w. ⌜ Answered (Recorded packetNumbers (now (p .entry)) (takeAnswer (now (p .entry))) (took (now (p .entry))) (now (out .entry)) (now (out .exit))) (now (p .exit)) w ⌝ }
 {
-    let a = host_values::take_answer(*p, out);
-    kept_places::take(p, a)
+    let a = crate::values::take_answer(*p, out);
+    kept::places::take(p, a)
 }

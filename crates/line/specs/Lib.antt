@@ -1,3 +1,1 @@
--- 01 "Script program", line:
---   Line: one line of the listing
-pub mod Line
+pub mod line

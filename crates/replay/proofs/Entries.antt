@@ -5,18 +5,17 @@ use native.Mathlib.Omega.{arith}
 use mathlib.Core.Path.{_≡_, refl, sym, ap, subst, _∙_}
 use borrow.Author.Tests.{ltb-true, ltb-false}
 use lib.Dec.{ltb, eqb}
-use Rattle.status.specs.Choice.{pick}
+use Rattle.definition.specs.Status.{pick}
 use mathlib.Core.List.{List, _++_}
 use lib.ListN.{length, take, getD, length-take, length-drop}
 use Rattle.text.specs.Put.{Put, Written}
-use Rattle.feed.specs.Machine.{start}
-use Rattle.script.specs.Listing.{header, run, listing}
-use Rattle.tally.specs.declared.Comparison.{Comparison}
-use Rattle.tally.specs.declared.Comparison.the-variants.{Agrees, DiffersAt, NoRoom}
-use Rattle.tally.specs.declared.Tally.{Tally}
-use Rattle.tally.specs.Count.{missed, countedOf}
-use Rattle.tally.proofs.Counts.{counted-again, counted-first}
-use Rattle.report.specs.Report.{REPORT, reportText}
+use Rattle.definition_script.specs.Listing.{start, header, run, listing}
+use Rattle.report.specs.declared.tally.Comparison.{Comparison}
+use Rattle.report.specs.declared.tally.Comparison.the-variants.{Agrees, DiffersAt, NoRoom}
+use Rattle.report.specs.declared.tally.Tally.{Tally}
+use Rattle.report.specs.tally.Count.{missed, countedOf}
+use Rattle.report.proofs.tally.Counts.{counted-again, counted-first}
+use Rattle.report.specs.report.Report.{REPORT, reportText}
 use Rattle.replay.specs.declared.entry.Replayed.{Replayed}
 use Rattle.replay.specs.Entry.{fieldEnd, entryEnd, bytesOf, FirstDifference, Compares, EntryIn, roomFor, Agreement}
 use Rattle.replay.specs.Replay.{firstName, noTally, Tallied, begun, next, AllAgree, FirstMissed, AgreeTo, ReplayMay, Replays}

@@ -1,2 +1,1 @@
--- Entries: the stored entries, their tally and its report
 pub mod Entries

@@ -1,21 +1,20 @@
 -- The stored entries: where they lie in the input, and whether a stored listing agrees with that of its script. Of 01 it uses the listing of "Script
 -- program" alone.
-use Prim.Native.Nat.{ℕ, _+_, _-_, _≤_, _<_}
-use mathlib.Core.Path.{_≡_}
+use Prim.Native.Nat.{ℕ, _+_, _≤_, _<_, _-_}
 use mathlib.Core.List.{List}
+use mathlib.Core.Path.{_≡_}
 use lib.ListN.{length, take, drop, getD}
-use Rattle.record.specs.Fields.{four}
-use Rattle.text.specs.Put.{place}
-use Rattle.line.specs.Line.{LINE}
-use Rattle.feed.specs.Machine.{start}
-use Rattle.script.specs.Listing.{listing}
-use Rattle.listing.specs.Ran.{ranText}
-use Rattle.tally.specs.declared.Comparison.{Comparison}
-use Rattle.tally.specs.declared.Comparison.the-variants.{Agrees, DiffersAt, NoRoom}
 use Rattle.replay.specs.declared.entry.Field.{Field}
 use Rattle.replay.specs.declared.entry.Field.the-variants as Field
 use Rattle.replay.specs.declared.entry.Found.{Found}
 use Rattle.replay.specs.declared.entry.Found.the-variants as Found
+use Rattle.report.specs.declared.tally.Comparison.{Comparison}
+use Rattle.report.specs.declared.tally.Comparison.the-variants.{Agrees, DiffersAt, NoRoom}
+use Rattle.definition_script.specs.Record.{four}
+use Rattle.definition_script.specs.Listing.{listing, start}
+use Rattle.line.specs.line.LineDone.{LINE}
+use Rattle.listing.specs.listing.Ran.{ranText}
+use Rattle.definition_script.specs.Call.{writtenAt}
 
 -- where a field ends that begins at a place: four bytes with its length, and so many bytes
 abbrev pub fieldEnd : List ℕ → ℕ → ℕ
@@ -83,4 +82,4 @@ Agreement room s at scriptEnd end NoRoom = room < roomFor room s at scriptEnd
 -- a script is run: its comparison, and its text at the front of the buffer
 pub record EntryRun (s : List ℕ) (at scriptEnd end : ℕ) (out out′ : List ℕ) (r : Comparison) : Type 0 where
   pub comparison : Agreement (length out) s at scriptEnd end r
-  pub text : out′ ≡ place 0 (ranText (length out) start (bytesOf s at scriptEnd)) out
+  pub text : out′ ≡ writtenAt 0 (ranText (length out) start (bytesOf s at scriptEnd)) out

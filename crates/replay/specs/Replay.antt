@@ -1,17 +1,17 @@
 -- The stored entries run and counted, the first that does not agree, and the report in the buffer. It stands for no paragraph of 01.
-use Prim.Native.Nat.{ℕ, _+_, _-_, _≤_, _<_}
-use mathlib.Core.Path.{_≡_}
+use Prim.Native.Nat.{ℕ, _-_, _+_, _≤_, _<_}
 use mathlib.Core.List.{List}
-use lib.ListN.{length, take, drop}
+use mathlib.Core.Path.{_≡_}
+use lib.ListN.{take, drop, length}
 use lib.Dec.{ltb, eqb}
-use Rattle.text.specs.Put.{place}
-use Rattle.tally.specs.declared.Comparison.{Comparison}
-use Rattle.tally.specs.declared.Comparison.the-variants.{Agrees}
-use Rattle.tally.specs.declared.Tally.{Tally}
-use Rattle.tally.specs.Count.{countedOf}
-use Rattle.report.specs.Report.{REPORT, reportText}
+use Rattle.report.specs.declared.tally.Tally.{Tally}
+use Rattle.report.specs.declared.tally.Comparison.the-variants.{Agrees}
+use Rattle.report.specs.declared.tally.Comparison.{Comparison}
 use Rattle.replay.specs.declared.entry.Replayed.{Replayed}
-use Rattle.replay.specs.Entry.{entryEnd, EntryIn, bytesOf, Agreed, Agreement, EntryRun}
+use Rattle.report.specs.tally.Count.{countedOf}
+use Rattle.replay.specs.Entry.{EntryIn, EntryRun, Agreed, bytesOf, Agreement, entryEnd}
+use Rattle.report.specs.report.Report.{REPORT, reportText}
+use Rattle.definition_script.specs.Call.{writtenAt}
 
 -- the bytes between the two places of a tally: the name of the first entry that does not agree
 unfoldable pub firstName : List ℕ → Tally → List ℕ
@@ -70,4 +70,4 @@ pub record Replays (input : List ℕ) (used : ℕ) (out out′ : List ℕ) : Typ
   pub ran : Replayed
   pub left : List ℕ
   pub counted : AgreeTo (take used input) out left ran
-  pub report : out′ ≡ place 0 (reportText (ran .tally) (firstName (take used input) (ran .tally)) (ltb (ran .at) used) (eqb used (length input))) left
+  pub report : out′ ≡ writtenAt 0 (reportText (ran .tally) (firstName (take used input) (ran .tally)) (ltb (ran .at) used) (eqb used (length input))) left

@@ -1,11 +1,12 @@
 // The stored entries, each a name, a script and its listing: where they lie in the input, whether they agree, how many do, and where the name of
 // the first lies that does not.
-use tally::Comparison;
-use tally::Tally;
+use definition::Ends;
+use report::tally::Comparison;
+use report::tally::Tally;
 ghost use Prim.Native.Nat.{_+_, _≤_, _<_};
 ghost use mathlib.Core.Path.{_≡_};
 ghost use lib.ListN.{length};
-ghost use Rattle.record.specs.Fields.{four};
+ghost use Rattle.definition_script.specs.Record.{four};
 ghost use Rattle.replay.specs.Entry.{FieldAt, EntryAt, ScriptIn, Compares, EntryRun};
 ghost use Rattle.replay.specs.Replay.{AgreeTo};
 
@@ -106,7 +107,7 @@ fn replay_entry(
     ensures { λ r. ⌜ EntryRun (now (s .entry)) «name_end» «script_end» end (now (out .entry)) (now (out .exit)) r ⌝ }
 {
     let from = name_end + 4;
-    let n = listing::run_script(&s[from..script_end], out);
+    let n = listing::listing::run_script(&s[from..script_end], out);
     if out.len() - n < 8254 {
         return Comparison::NoRoom;
     }
@@ -134,7 +135,7 @@ pub fn replay_all(s: &[u8], out: &mut [u8]) -> Replayed
             }
             Found::Whole(name_end, script_end, end) => {
                 let o = replay_entry(s, name_end, script_end, end, out);
-                t = tally::counted(t, at + 4, name_end, o);
+                t = report::tally::counted(t, at + 4, name_end, o);
                 at = end;
             }
         }

@@ -3,13 +3,13 @@
 // fills the buffer; last how many agree. The stored scripts are this program's standard input. They were made in rust/differential, from the original, by
 //     cargo build --release --offline && target/release/sample FILE
 // For each script the input has its name, the script and the listing, each after a four-byte little-endian length.
-mod entry;
-
-use tally::Tally;
+use report::tally::Tally;
 ghost use Prim.Native.Nat.{_≤_};
 ghost use mathlib.Core.Path.{_≡_};
 ghost use lib.ListN.{length};
 ghost use Rattle.replay.specs.Replay.{firstName, ReplayMay, Replays};
+
+mod entry;
 
 const STDIN: i32 = 0;
 
@@ -49,7 +49,7 @@ fn replay(input: &[u8], used: usize, out: &mut [u8])
     let s = &input[0..used];
     let r = entry::replay_all(s, out);
     let t = r.tally;
-    let n = report::report(out, t, first_name(s, t), r.at < used, used == input.len());
+    let n = report::report::report(out, t, first_name(s, t), r.at < used, used == input.len());
     put(out, n);
 }
 

@@ -1,2 +1,2 @@
--- Report: what the program `replay` prints of its tally
-pub mod Report
+pub mod tally
+pub mod report

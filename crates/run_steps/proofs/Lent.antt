@@ -2,13 +2,14 @@
 use Prim.Native.Nat.{ℕ}
 use mathlib.Core.Path.{_≡_, refl, ap}
 use mathlib.Core.List.{List}
-use Rattle.status.specs.Answer.{countOf}
-use Rattle.socket.specs.declared.Pair.{Pair}
-use Rattle.socket.specs.declared.Step.{Step}
-use Rattle.syscall.specs.Read.{bytesLanded, BytesRead, UserRead}
-use Rattle.runs.specs.State.{Slices}
-use Rattle.runs.specs.Run.{did-read}
-use Rattle.run_steps.specs.Code.{slicesOf, ReadLent}
+use Rattle.definition.specs.Status.{countOf}
+use Rattle.definition.specs.declared.Pair.{Pair}
+use Rattle.definition.specs.declared.Step.{Step}
+use Rattle.definition.specs.Read.{bytesLanded, BytesRead, UserRead}
+use Rattle.definition.specs.Calls.{Slices}
+use Rattle.definition_runs.specs.Run.{did-read}
+use Rattle.definition_runs.specs.Exported.{slicesOf}
+use Rattle.run_steps.specs.Code.{ReadLent}
 
 pub rings : {l l′ : Slices} → l ≡ l′ → l .ring ≡ l′ .ring
 rings e = ap (λ (l : Slices). l .ring) e

@@ -1,21 +1,16 @@
 -- What the functions of src/ ensure: what a call of the code gives is a step of `Does`, on every state that has its pair and the slices
 -- that it is lent. The rest of the state is any. That `Does` has no other step for it is `CallsMatch`, in the crate runs. 01 "Two runs".
 use Prim.Native.Nat.{ℕ, _-_}
-use mathlib.Core.Path.{_≡_}
 use mathlib.Core.List.{List, []}
+use mathlib.Core.Path.{_≡_}
 use lib.ListN.{take, drop}
-use Rattle.status.specs.Answer.{countOf}
-use Rattle.socket.specs.declared.Pair.{Pair}
-use Rattle.socket.specs.declared.Step.{Step}
-use Rattle.socket.specs.Pair.{isOne}
-use Rattle.syscall.specs.Read.{BytesRead}
-use Rattle.runs.specs.Calls.{Create, Call, read, Input, input}
-use Rattle.runs.specs.State.{Slices, State, state, ownSlices, peerSlices, withPair, withPeer, seenOf, Outcome, gives}
-use Rattle.runs.specs.Chain.{Chain}
-use Rattle.runs.specs.Run.{Does, Run}
-
-abbrev pub slicesOf : (ring table : List ℕ) → Slices
-slicesOf ring table = record { ring = ring; table = table }
+use Rattle.definition.specs.declared.Pair.{Pair}
+use Rattle.definition.specs.declared.Step.{Step}
+use Rattle.definition.specs.Calls.{Call, input, Slices, state, withPair, gives, Input, ownSlices, read, peerSlices, withPeer, Create, State, seenOf, Outcome}
+use Rattle.definition_runs.specs.Run.{Does, Chain, Run}
+use Rattle.definition.specs.Pair.{isOne}
+use Rattle.definition.specs.Status.{countOf}
+use Rattle.definition.specs.Read.{BytesRead}
 
 -- a call that is lent no slice and looks at no memory
 abbrev pub StepOf : Pair → Call → Step → Type 0

@@ -1,17 +1,18 @@
 // The calls that a run is made of: a function here for create and for each case of `Does`, two for a read over user memory. Each makes the call, and
 // ensures that what the call gave is a step of `Does`. This shows that each case of `Does` asks for no more than its call ensures. No program calls
 // these functions.
-use endpoint::Disposition;
-use socket::Pair;
-use socket::Step;
+use definition::Disposition;
+use definition::Pair;
+use definition::Step;
 ghost use mathlib.Core.List.{List, []};
 ghost use Prim.Native.Nat.{ℕ};
 ghost use lib.ListN.{take};
-ghost use Rattle.status.specs.Answer.{countOf};
-ghost use Rattle.runs.specs.Calls.{input, control};
-ghost use Rattle.runs.specs.Calls;
-ghost use Rattle.user_answers.specs.Control.{dispositionNumber};
-ghost use Rattle.run_steps.specs.Code.{slicesOf, StepOf, OwnLent, ReadLent, PeerLent, Starts};
+ghost use Rattle.definition.specs.Status.{countOf};
+ghost use Rattle.definition.specs.Calls.{input, control, write, setDisposition, shutdown, plainWrite, plainRead, plainDisposition, plainShutdown, setReadThreshold, setWriteThreshold, getThresholds, getInfo, wait, takePacket, close};
+ghost use Rattle.definition.specs.Disposition.{dispositionNumber};
+ghost use Rattle.definition_runs.specs.Exported.{slicesOf};
+ghost use Rattle.run_steps.specs.Code.{StepOf, OwnLent, ReadLent, PeerLent, Starts};
+ghost use Rattle.definition.specs.Calls;
 
 pub fn create(
     kind: u32,
@@ -25,7 +26,7 @@ pub fn create(
 ) -> Step
     ensures { λ r. ⌜ Starts (record { kind = kind; capacity = capacity; rights1 = rights1; rights2 = rights2 }) (slicesOf (now (ring1 .entry)) (now (table1 .entry))) (slicesOf (now (ring2 .entry)) (now (table2 .entry))) r ⌝ }
 {
-    Pair::create(
+    socket::create::create(
         kind,
         capacity,
         rights1,
@@ -49,7 +50,7 @@ pub fn write(
     ring: &mut [u8],
     table: &mut [u32],
 ) -> Step
-    ensures { λ r. ⌜ PeerLent p handle (slicesOf (now (ring .entry)) (now (table .entry))) (slicesOf (now (ring .exit)) (now (table .exit))) (input (Calls.write handle options address count «count_at») base (now (memory .entry))) r (now (memory .exit)) ⌝ }
+    ensures { λ r. ⌜ PeerLent p handle (slicesOf (now (ring .entry)) (now (table .entry))) (slicesOf (now (ring .exit)) (now (table .exit))) (input (write handle options address count «count_at») base (now (memory .entry))) r (now (memory .exit)) ⌝ }
 {
     syscall::write(
         p,
@@ -121,29 +122,29 @@ pub fn read_in_parts(
         table,
     );
     let a = r.answer;
-    if status::is_done(a) {
-        user_memory::land_count(memory, base, count_at, status::count_of(a));
+    if endpoint::answer::is_done(a) {
+        user_answers::memory::land_count(memory, base, count_at, endpoint::answer::count_of(a));
         return r;
     }
     r
 }
 
 pub fn set_disposition(p: Pair, handle: u32, disposition: u32, peer_disposition: u32) -> Step
-    ensures { λ r. ⌜ StepOf p (control (Calls.setDisposition handle disposition «peer_disposition»)) r ⌝ }
+    ensures { λ r. ⌜ StepOf p (control (setDisposition handle disposition «peer_disposition»)) r ⌝ }
 {
     syscall::set_disposition(p, handle, disposition, peer_disposition)
 }
 
 pub fn shutdown(p: Pair, handle: u32, options: u32) -> Step
-    ensures { λ r. ⌜ StepOf p (control (Calls.shutdown handle options)) r ⌝ }
+    ensures { λ r. ⌜ StepOf p (control (shutdown handle options)) r ⌝ }
 {
     syscall::shutdown(p, handle, options)
 }
 
 pub fn plain_write(p: Pair, handle: u32, ring: &mut [u8], table: &mut [u32], bytes: &[u8]) -> Step
-    ensures { λ r. ⌜ ((base : ℕ) → PeerLent p handle (slicesOf (now (ring .entry)) (now (table .entry))) (slicesOf (now (ring .exit)) (now (table .exit))) (input (Calls.plainWrite handle) base (now (bytes .entry))) r (now (bytes .entry))) ⌝ }
+    ensures { λ r. ⌜ ((base : ℕ) → PeerLent p handle (slicesOf (now (ring .entry)) (now (table .entry))) (slicesOf (now (ring .exit)) (now (table .exit))) (input (plainWrite handle) base (now (bytes .entry))) r (now (bytes .entry))) ⌝ }
 {
-    p.write(handle, ring, table, bytes)
+    socket::write::write(p, handle, ring, table, bytes)
 }
 
 pub fn plain_read(
@@ -154,9 +155,9 @@ pub fn plain_read(
     table: &[u32],
     buffer: &mut [u8],
 ) -> Step
-    ensures { λ r. ⌜ ((base : ℕ) → OwnLent p handle (slicesOf (now (ring .entry)) (now (table .entry))) (input (Calls.plainRead handle peek) base (now (buffer .entry))) r (take (countOf (r .answer)) (now (buffer .exit))) (now (buffer .exit))) ⌝ }
+    ensures { λ r. ⌜ ((base : ℕ) → OwnLent p handle (slicesOf (now (ring .entry)) (now (table .entry))) (input (plainRead handle peek) base (now (buffer .entry))) r (take (countOf (r .answer)) (now (buffer .exit))) (now (buffer .exit))) ⌝ }
 {
-    p.read(handle, peek, ring, table, buffer)
+    socket::read::read(p, handle, peek, ring, table, buffer)
 }
 
 // The plain disposition by value takes an enum, so that no number above 2 can be passed. A run has such a call too: `murgwethan_set_disposition` of the
@@ -167,56 +168,56 @@ pub fn plain_disposition(
     disposition: Disposition,
     peer_disposition: Disposition,
 ) -> Step
-    ensures { λ r. ⌜ StepOf p (control (Calls.plainDisposition handle (dispositionNumber disposition) (dispositionNumber «peer_disposition»))) r ⌝ }
+    ensures { λ r. ⌜ StepOf p (control (plainDisposition handle (dispositionNumber disposition) (dispositionNumber «peer_disposition»))) r ⌝ }
 {
-    p.set_disposition(handle, disposition, peer_disposition)
+    socket::disposition::set_disposition(p, handle, disposition, peer_disposition)
 }
 
 pub fn plain_shutdown(p: Pair, handle: u32, read: bool, write: bool) -> Step
-    ensures { λ r. ⌜ StepOf p (control (Calls.plainShutdown handle read write)) r ⌝ }
+    ensures { λ r. ⌜ StepOf p (control (plainShutdown handle read write)) r ⌝ }
 {
-    p.shutdown(handle, read, write)
+    socket::shutdown::shutdown(p, handle, read, write)
 }
 
 pub fn set_read_threshold(p: Pair, handle: u32, threshold: u64) -> Step
-    ensures { λ r. ⌜ StepOf p (control (Calls.setReadThreshold handle threshold)) r ⌝ }
+    ensures { λ r. ⌜ StepOf p (control (setReadThreshold handle threshold)) r ⌝ }
 {
-    p.set_read_threshold(handle, threshold)
+    socket::threshold::set_read_threshold(p, handle, threshold)
 }
 
 pub fn set_write_threshold(p: Pair, handle: u32, threshold: u64) -> Step
-    ensures { λ r. ⌜ StepOf p (control (Calls.setWriteThreshold handle threshold)) r ⌝ }
+    ensures { λ r. ⌜ StepOf p (control (setWriteThreshold handle threshold)) r ⌝ }
 {
-    p.set_write_threshold(handle, threshold)
+    socket::threshold::set_write_threshold(p, handle, threshold)
 }
 
 pub fn get_rx_tx_threshold(p: Pair, handle: u32) -> Step
-    ensures { λ r. ⌜ StepOf p (control (Calls.getThresholds handle)) r ⌝ }
+    ensures { λ r. ⌜ StepOf p (control (getThresholds handle)) r ⌝ }
 {
-    p.get_rx_tx_threshold(handle)
+    socket::threshold::get_rx_tx_threshold(p, handle)
 }
 
 // Its own table is lent, and no ring.
 pub fn get_info(p: Pair, handle: u32, table: &[u32]) -> Step
-    ensures { λ r. ⌜ ((ring : List ℕ) (base : ℕ) (memory : List ℕ) → OwnLent p handle (slicesOf ring (now (table .entry))) (input (control (Calls.getInfo handle)) base memory) r [] memory) ⌝ }
+    ensures { λ r. ⌜ ((ring : List ℕ) (base : ℕ) (memory : List ℕ) → OwnLent p handle (slicesOf ring (now (table .entry))) (input (control (getInfo handle)) base memory) r [] memory) ⌝ }
 {
-    p.get_info(handle, table)
+    socket::info::get_info(p, handle, table)
 }
 
 pub fn wait(p: Pair, handle: u32, key: u64, mask: u32, edge: u8) -> Step
-    ensures { λ r. ⌜ StepOf p (control (Calls.wait handle key mask edge)) r ⌝ }
+    ensures { λ r. ⌜ StepOf p (control (wait handle key mask edge)) r ⌝ }
 {
-    p.wait(handle, key, mask, edge)
+    socket::wait::wait(p, handle, key, mask, edge)
 }
 
 pub fn take(p: Pair) -> Step
-    ensures { λ r. ⌜ StepOf p (control Calls.takePacket) r ⌝ }
+    ensures { λ r. ⌜ StepOf p (control takePacket) r ⌝ }
 {
-    p.take()
+    socket::wait::take(p)
 }
 
 pub fn close(p: Pair, handle: u32) -> Step
-    ensures { λ r. ⌜ StepOf p (Calls.close handle) r ⌝ }
+    ensures { λ r. ⌜ StepOf p (close handle) r ⌝ }
 {
-    p.close(handle)
+    socket::close::close(p, handle)
 }

@@ -6,37 +6,34 @@ use mathlib.Core.Logic.{⊎-elim}
 use lib.ListN.{length}
 use lib.Dec.{eqb}
 use borrow.Author.Tests.{eqb-true}
-use Rattle.status.specs.declared.Answer.{Answer}
-use Rattle.status.specs.Choice.{pick}
-use Rattle.status.specs.Answer.{isDone}
-use Rattle.status.proofs.Rules.{pick-on, pick-off}
-use Rattle.places.specs.declared.Places.{Places}
-use Rattle.places.specs.declared.Next.{Next}
-use Rattle.signal.specs.Signal.{WRITABLE, «PEER_CLOSED»}
-use Rattle.places.specs.Table.{sound}
-use Rattle.places.specs.Next.{done}
-use Rattle.port.specs.Port.{droppedOf, dropOf}
-use Rattle.places.proofs.Lists.{either}
-use Rattle.port.proofs.Operations.{drop-done}
-use Rattle.port.proofs.Idle.{idle-drop}
-use Rattle.port.proofs.Sound.{sound-drop}
-use Rattle.endpoint.specs.Endpoint.{withSignals, closedEnd}
-use Rattle.ends.specs.declared.Ends.{Ends}
-use Rattle.ends.specs.declared.Moved.{Moved}
-use Rattle.ends.specs.declared.Pending.{Pending}
-use Rattle.ends.specs.declared.Visits.{Visits}
-use Rattle.ends.specs.declared.Outcome.{Outcome}
-use Rattle.ends.specs.Outcome.{noVisit, noVisits, outcomeOf, keptEnds, unchangedEnds}
-use Rattle.ends_tests.proofs.Sound.{opening-passed}
-use Rattle.control.specs.Signal.{changedEnd, firstOnly}
-use Rattle.control.specs.Close.{closeVisit, closeMoved, closeOutcome, closeEnds}
-use Rattle.visits.specs.Visits.{visited}
-use Rattle.visits.proofs.Visiting.{visited-none, visited-idle}
-use Rattle.socket.specs.declared.Pair.{Pair}
-use Rattle.socket.specs.Pair.{isOne, own, peer, endsOf, withEnd, withPlaces, signalChange}
-use Rattle.socket.specs.Tests.{Steps}
-use Rattle.socket.specs.Wait.{closeAnswer, closed}
-use Rattle.socket.specs.Deferred.{visitedPair, visitedAll, withEnds, withOutcome, settled, withoutWaits, closedWaits, settledClose}
+use Rattle.definition.specs.declared.Answer.{Answer}
+use Rattle.definition.specs.Status.{pick, isDone}
+use Rattle.endpoint.proofs.answer.Rules.{pick-on, pick-off}
+use Rattle.definition.specs.declared.Places.{Places}
+use Rattle.definition.specs.declared.Next.{Next}
+use Rattle.definition.specs.Signal.{WRITABLE, «PEER_CLOSED»}
+use Rattle.definition.specs.Port.{sound, done, droppedOf, dropOf}
+use Rattle.port.proofs.places.Lists.{either}
+use Rattle.port.proofs.waits.Operations.{drop-done}
+use Rattle.port.proofs.waits.Idle.{idle-drop}
+use Rattle.port.proofs.waits.Sound.{sound-drop}
+use Rattle.definition.specs.Pair.{withSignals, isOne, own, peer, endsOf, withEnd, withPlaces}
+use Rattle.definition.specs.Close.{closedEnd, closeAnswer, closed}
+use Rattle.definition.specs.declared.Ends.{Ends}
+use Rattle.endpoint.specs.declared.ends.Moved.{Moved}
+use Rattle.endpoint.specs.declared.ends.Pending.{Pending}
+use Rattle.endpoint.specs.declared.ends.Visits.{Visits}
+use Rattle.endpoint.specs.declared.ends.Outcome.{Outcome}
+use Rattle.endpoint.specs.ends.Outcome.{noVisit, noVisits, outcomeOf, keptEnds, unchangedEnds}
+use Rattle.answers.proofs.tests.Sound.{opening-passed}
+use Rattle.control.specs.ends.Changes.{changedEnd, firstOnly}
+use Rattle.control.specs.ends.CloseEnds.{closeVisit, closeMoved, closeOutcome, closeEnds}
+use Rattle.port.specs.visits.Visits.{visited}
+use Rattle.port.proofs.visits.Visiting.{visited-none, visited-idle}
+use Rattle.definition.specs.declared.Pair.{Pair}
+use Rattle.definition.specs.Effect.{signalChange}
+use Rattle.definition.specs.Tests.{Steps}
+use Rattle.socket.specs.Deferred.{visitedPair, visitedAll, withEnds, withOutcome, settledStep, withoutWaits, closedWaits, settledClose}
 use Rattle.socket.proofs.Visiting.{no-visits, signal-visited, settled-pair}
 use Rattle.socket.proofs.Steps.{steps-refused, steps-done}
 
@@ -51,7 +48,7 @@ one-visit v q e = ap (λ (a : Pending). withPlaces (visited a (visited (v .first
 -- the code's step: one change at most
 by-fires : (f t : Bool) (r : Outcome) (p : Pair) → r .fires ≡ f → r .more ≡ noVisits → r .visits .second ≡ noVisit
     → settledClose t r p ≡ record { pair = pick f (droppedVisited t (r .visits) (withOutcome r p)) (withOutcome r p); answer = r .answer }
-unfolding settledClose settled visitedAll droppedVisited withoutWaits withEnds withPlaces dropOf pick
+unfolding settledClose settledStep visitedAll droppedVisited withoutWaits withEnds withPlaces dropOf pick
 by-fires true t r p f m n =
     rw f
     (ap (λ (k : Pair). record { pair = k; answer = r .answer })
@@ -75,7 +72,7 @@ unfolding pick
 by-closed true t m n p q r e g = e
 by-closed false t m n p q r e g = g
 
-closed-visited : (t : Bool) (p : Pair) → sound (p .places) ≡ true → closedPair t (closeMoved t (own t p) (peer t p)) p ≡ closed t p
+closed-visited : (t : Bool) (p : Pair) → sound (p .places) ≡ true → closedPair t (closeMoved t (own t (endsOf p)) (peer t (endsOf p))) p ≡ closed t p
 unfolding closeMoved closed droppedVisited closeVisit firstOnly keptEnds changedEnd visited withEnds withEnd withPlaces pick
 closed-visited true p s =
     by-closed (p .two .closed) true _ _ p _ _
@@ -102,22 +99,22 @@ unfolding pick
 second-none true a b e f = e
 second-none false a b e f = f
 
-one-change : (t : Bool) (p : Pair) → closeMoved t (own t p) (peer t p) .visits .second ≡ noVisit
+one-change : (t : Bool) (p : Pair) → closeMoved t (own t (endsOf p)) (peer t (endsOf p)) .visits .second ≡ noVisit
 unfolding closeMoved keptEnds firstOnly
-one-change t p = second-none (peer t p .closed) _ _ refl refl
+one-change t p = second-none (peer t (endsOf p) .closed) _ _ refl refl
 
 closed-settled : (p : Pair) (t : Bool) (a : Answer) → length (p .places .table) ≡ 128 → sound (p .places) ≡ true
-    → settledClose t (closeOutcome (p .places .waits) t a (closeMoved t (own t p) (peer t p))) p ≡ record { pair = closed t p; answer = a }
+    → settledClose t (closeOutcome (p .places .waits) t a (closeMoved t (own t (endsOf p)) (peer t (endsOf p)))) p ≡ record { pair = closed t p; answer = a }
 unfolding closeOutcome outcomeOf withEnds
 closed-settled p t a l s =
-    let m = closeMoved t (own t p) (peer t p) in
+    let m = closeMoved t (own t (endsOf p)) (peer t (endsOf p)) in
     let q = withEnds (pick t (m .own) (m .peer)) (pick t (m .peer) (m .own)) p in
     by-fires (not (eqb (p .places .waits) 0)) t _ p refl refl (one-change t p)
     ∙ ap (λ (k : Pair). record { pair = k; answer = a })
     (settled-pair (not (eqb (p .places .waits) 0)) (droppedVisited t (m .visits) q) q (λ f. no-waits t (m .visits) q l (none _ f)) ∙ closed-visited t p s)
 
 unchanged-settled : (t : Bool) (p : Pair) (a : Answer) → settledClose t (unchangedEnds (endsOf p) a) p ≡ record { pair = p; answer = a }
-unfolding settledClose settled unchangedEnds withEnds pick
+unfolding settledClose settledStep unchangedEnds withEnds pick
 unchanged-settled t p a = refl
 
 pub close-whole : (p : Pair) (h : ℕ) (e : Ends) (r : Outcome) → length (p .places .table) ≡ 128
@@ -140,7 +137,7 @@ close-whole p h e r l i g = by (isDone (closeAnswer p h)) refl
 
 -- the waits may be dropped once the ends are replaced
 pub closed-later : (t : Bool) (r : Outcome) (p : Pair) → closedWaits t r (withOutcome r p) ≡ settledClose t r p .pair
-unfolding closedWaits settledClose settled withoutWaits withPlaces withEnds pick
+unfolding closedWaits settledClose settledStep withoutWaits withPlaces withEnds pick
 closed-later t r p = by (r .fires)
   where
     by : (f : Bool) → pick f (visitedAll r (withoutWaits t (withOutcome r p))) (withOutcome r p)

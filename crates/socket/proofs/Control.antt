@@ -3,27 +3,26 @@ use Prim.Native.Nat.{ℕ}
 use mathlib.Core.Path.{_≡_, refl, sym, ap, _∙_}
 use mathlib.Core.Bool.{Bool, true, false, not}
 use lib.Bits.{bitOr}
-use Rattle.status.specs.Choice.{pick}
-use Rattle.signal.specs.Signal.{WRITABLE, «PEER_CLOSED», «WRITE_DISABLED», «PEER_WRITE_DISABLED», «READ_THRESHOLD», «WRITE_THRESHOLD»}
-use Rattle.places.specs.Table.{sound}
-use Rattle.port.proofs.Sound.{sound-change}
-use Rattle.endpoint.specs.declared.Disposition.{Disposition}
-use Rattle.endpoint.specs.declared.Disposition.the-variants.{Unchanged, Disable, Enable}
-use Rattle.endpoint.specs.Endpoint.{withSignals, withReadDisabled, withThresholds}
-use Rattle.bits.specs.Bits.{bitIf, reached}
-use Rattle.ends.specs.declared.Pending.{Pending}
-use Rattle.ends.specs.declared.Moved.{Moved}
-use Rattle.ends.specs.Outcome.{keptEnds}
-use Rattle.control.specs.Signal.{bitVisit, changedEnd, firstOnly}
-use Rattle.control_disposition.specs.Disposition.{writingVisit, ownDisposed, peerDisposed, ownMoved, peerMoved}
-use Rattle.control.specs.Shutdown.{shutVisit, shutMoved}
-use Rattle.control.specs.Shutdown as C
-use Rattle.control_threshold.specs.Threshold.{readThresholdMoved, writeThresholdMoved}
-use Rattle.socket.specs.declared.Pair.{Pair}
-use Rattle.socket.specs.Pair.{own, peer, withEnd, withPlaces, withChange, signalChange, putBit, switchReading}
-use Rattle.socket.specs.Disposition.{switchWriting, disposeOwn, disposePeer, disposedOwn, disposedPeer, disposed, shutEnd, shut}
-use Rattle.socket.specs.Threshold.{readThresholdSet, writeThresholdSet}
-use Rattle.visits.specs.Visits.{visited}
+use Rattle.definition.specs.Status.{pick}
+use Rattle.definition.specs.Signal.{WRITABLE, «PEER_CLOSED», «WRITE_DISABLED», «PEER_WRITE_DISABLED», «READ_THRESHOLD», «WRITE_THRESHOLD», bitIf, reached}
+use Rattle.definition.specs.Port.{sound}
+use Rattle.port.proofs.waits.Sound.{sound-change}
+use Rattle.definition.specs.declared.Disposition.{Disposition}
+use Rattle.definition.specs.declared.Disposition.the-variants.{Unchanged, Disable, Enable}
+use Rattle.definition.specs.Pair.{withSignals, withReadDisabled, withThresholds, own, peer, withEnd, withPlaces, endsOf}
+use Rattle.endpoint.specs.declared.ends.Pending.{Pending}
+use Rattle.endpoint.specs.declared.ends.Moved.{Moved}
+use Rattle.endpoint.specs.ends.Outcome.{keptEnds}
+use Rattle.control.specs.ends.Changes.{bitVisit, changedEnd, firstOnly}
+use Rattle.control.specs.disposition.DispositionEnds.{writingVisit, ownDisposed, peerDisposed, ownMoved, peerMoved}
+use Rattle.control.specs.ends.ShutdownEnds.{shutVisit, shutMoved, endShut}
+use Rattle.control.specs.threshold.ThresholdEnds.{readThresholdMoved, writeThresholdMoved}
+use Rattle.definition.specs.declared.Pair.{Pair}
+use Rattle.definition.specs.Effect.{withChange, signalChange, putBit, switchReading}
+use Rattle.definition.specs.Disposition.{switchWriting, disposeOwn, disposePeer, disposedOwn, disposedPeer, disposed}
+use Rattle.definition.specs.Shutdown.{shutEnd, shut}
+use Rattle.definition.specs.Threshold.{readThresholdSet, writeThresholdSet}
+use Rattle.port.specs.visits.Visits.{visited}
 use Rattle.socket.specs.Deferred.{visitedPair, withEnds}
 use Rattle.socket.proofs.Visiting.{movedPair, one-visited, two-visited, kept-visited}
 
@@ -41,7 +40,7 @@ switch-first false off clear set p = refl
 
 -- ---- disposition
 
-own-visited : (t off : Bool) (p : Pair) → sound (p .places) ≡ true → movedPair t (ownDisposed t (own t p) (peer t p) off) p ≡ disposeOwn t off p
+own-visited : (t off : Bool) (p : Pair) → sound (p .places) ≡ true → movedPair t (ownDisposed t (own t (endsOf p)) (peer t (endsOf p)) off) p ≡ disposeOwn t off p
 unfolding ownDisposed disposeOwn putBit switchWriting writingVisit bitVisit firstOnly changedEnd switchReading withEnds withEnd withReadDisabled withSignals visitedPair pick
 own-visited true off p s =
     by-closed (p .two .closed) true _ _ p _ _
@@ -52,7 +51,7 @@ own-visited false off p s =
     (sym (one-visited false _ _ p s))
     (sym (ap (signalChange true _ _) (switch-first false off _ _ p) ∙ two-visited false _ _ _ _ (switchReading true off p) s))
 
-peer-visited : (t off : Bool) (p : Pair) → sound (p .places) ≡ true → movedPair t (peerDisposed t (own t p) (peer t p) off) p ≡ disposePeer t off p
+peer-visited : (t off : Bool) (p : Pair) → sound (p .places) ≡ true → movedPair t (peerDisposed t (own t (endsOf p)) (peer t (endsOf p)) off) p ≡ disposePeer t off p
 unfolding peerDisposed disposePeer putBit switchWriting writingVisit bitVisit changedEnd switchReading withEnds withEnd withReadDisabled withSignals visitedPair pick
 peer-visited true off p s =
     by-closed (p .two .closed) true _ _ p _ _
@@ -63,13 +62,13 @@ peer-visited false off p s =
     (kept-visited false (switchReading false off p))
     (sym (two-visited true _ _ _ _ (switchReading false off p) s))
 
-pub own-disposed : (t : Bool) (d : Disposition) (p : Pair) → sound (p .places) ≡ true → movedPair t (ownMoved t (own t p) (peer t p) d) p ≡ disposedOwn t d p
+pub own-disposed : (t : Bool) (d : Disposition) (p : Pair) → sound (p .places) ≡ true → movedPair t (ownMoved t (own t (endsOf p)) (peer t (endsOf p)) d) p ≡ disposedOwn t d p
 unfolding ownMoved disposedOwn
 own-disposed t Unchanged p s = kept-visited t p
 own-disposed t Disable p s = own-visited t true p s
 own-disposed t Enable p s = own-visited t false p s
 
-pub peer-disposed : (t : Bool) (d : Disposition) (p : Pair) → sound (p .places) ≡ true → movedPair t (peerMoved t (own t p) (peer t p) d) p ≡ disposedPeer t d p
+pub peer-disposed : (t : Bool) (d : Disposition) (p : Pair) → sound (p .places) ≡ true → movedPair t (peerMoved t (own t (endsOf p)) (peer t (endsOf p)) d) p ≡ disposedPeer t d p
 unfolding peerMoved disposedPeer
 peer-disposed t Unchanged p s = kept-visited t p
 peer-disposed t Disable p s = peer-visited t true p s
@@ -78,8 +77,8 @@ peer-disposed t Enable p s = peer-visited t false p s
 -- ---- shutdown
 
 shut-end : (t read write : Bool) (p : Pair) → sound (p .places) ≡ true
-    → movedPair t (firstOnly (C.shutEnd t read write (own t p)) (peer t p) (shutVisit t (own t p .signals) read write)) p ≡ shutEnd t read write p
-unfolding C.shutEnd shutEnd shutVisit changedEnd firstOnly switchReading withEnds withEnd withReadDisabled withSignals visitedPair pick
+    → movedPair t (firstOnly (endShut t read write (own t (endsOf p))) (peer t (endsOf p)) (shutVisit t (own t (endsOf p) .signals) read write)) p ≡ shutEnd t read write p
+unfolding endShut shutEnd shutVisit changedEnd firstOnly switchReading withEnds withEnd withReadDisabled withSignals visitedPair pick
 shut-end true true write p s = sym (one-visited true _ _ (switchReading true true p) s)
 shut-end true false write p s = sym (one-visited true _ _ p s)
 shut-end false true write p s = sym (one-visited false _ _ (switchReading false true p) s)
@@ -88,30 +87,30 @@ shut-end false false write p s = sym (one-visited false _ _ p s)
 shut-both : (t read write : Bool) (p : Pair) → sound (p .places) ≡ true
     → movedPair t
     (record {
-      own = C.shutEnd t read write (own t p);
-      peer = C.shutEnd (not t) (not read) (not write) (peer t p);
+      own = endShut t read write (own t (endsOf p));
+      peer = endShut (not t) (not read) (not write) (peer t (endsOf p));
       visits =
           record {
-            first = shutVisit t (own t p .signals) read write;
-            second = shutVisit (not t) (peer t p .signals) (not read) (not write);
+            first = shutVisit t (own t (endsOf p) .signals) read write;
+            second = shutVisit (not t) (peer t (endsOf p) .signals) (not read) (not write);
           };
     })
     p
     ≡ shutEnd (not t) (not read) (not write) (shutEnd t read write p)
-unfolding C.shutEnd shutEnd shutVisit changedEnd switchReading withEnds withEnd withReadDisabled withSignals visitedPair pick
+unfolding endShut shutEnd shutVisit changedEnd switchReading withEnds withEnd withReadDisabled withSignals visitedPair pick
 shut-both true true write p s = sym (two-visited true _ _ _ _ (switchReading true true p) s)
 shut-both true false write p s = sym (ap (signalChange false _ _) (switch-first true true _ _ p) ∙ two-visited true _ _ _ _ (switchReading false true p) s)
 shut-both false true write p s = sym (two-visited false _ _ _ _ (switchReading false true p) s)
 shut-both false false write p s = sym (ap (signalChange true _ _) (switch-first false true _ _ p) ∙ two-visited false _ _ _ _ (switchReading true true p) s)
 
-pub shut-visited : (t read write : Bool) (p : Pair) → sound (p .places) ≡ true → movedPair t (shutMoved t (own t p) (peer t p) read write) p ≡ shut t read write p
+pub shut-visited : (t read write : Bool) (p : Pair) → sound (p .places) ≡ true → movedPair t (shutMoved t (own t (endsOf p)) (peer t (endsOf p)) read write) p ≡ shut t read write p
 unfolding shutMoved shut
-shut-visited t read write p s = by-closed (peer t p .closed) t _ _ p _ _ (shut-end t read write p s) (shut-both t read write p s)
+shut-visited t read write p s = by-closed (peer t (endsOf p) .closed) t _ _ p _ _ (shut-end t read write p s) (shut-both t read write p s)
 
 -- ---- thresholds
 
 pub read-threshold-visited : (t : Bool) (n : ℕ) (p : Pair) → sound (p .places) ≡ true
-    → movedPair t (readThresholdMoved t (own t p) (peer t p) n) p ≡ readThresholdSet t n p
+    → movedPair t (readThresholdMoved t (own t (endsOf p)) (peer t (endsOf p)) n) p ≡ readThresholdSet t n p
 unfolding readThresholdMoved readThresholdSet putBit bitVisit firstOnly changedEnd withEnds withEnd withThresholds withSignals visitedPair pick
 read-threshold-visited true n p s =
     sym (one-visited true _ _ (withEnd true (withThresholds (record { read = n; write = p .one .thresholds .write }) (p .one)) p) s)
@@ -119,7 +118,7 @@ read-threshold-visited false n p s =
     sym (one-visited false _ _ (withEnd false (withThresholds (record { read = n; write = p .two .thresholds .write }) (p .two)) p) s)
 
 pub write-threshold-visited : (t : Bool) (n : ℕ) (p : Pair) → sound (p .places) ≡ true
-    → movedPair t (writeThresholdMoved (p .capacity) t (own t p) (peer t p) n) p ≡ writeThresholdSet t n p
+    → movedPair t (writeThresholdMoved (p .capacity) t (own t (endsOf p)) (peer t (endsOf p)) n) p ≡ writeThresholdSet t n p
 unfolding writeThresholdMoved writeThresholdSet putBit bitVisit firstOnly changedEnd withEnds withEnd withThresholds withSignals visitedPair pick
 write-threshold-visited true n p s =
     sym (one-visited true _ _ (withEnd true (withThresholds (record { read = p .one .thresholds .read; write = n }) (p .one)) p) s)

@@ -2,13 +2,11 @@
 use Prim.Native.Nat.{ℕ}
 use mathlib.Core.Path.{_≡_}
 use lib.Dec.{eqb}
-use Rattle.status.specs.Choice.{pick}
-use Rattle.status.specs.Answer.{isDone}
-use Rattle.create_answer.specs.Create.{createAnswer}
-use Rattle.create_answer.specs.Held.{heldRights}
-use Rattle.create_answer.proofs.Held.{held-made}
-use Rattle.socket.specs.declared.Pair.{Pair}
-use Rattle.socket.specs.Pair.{newPair}
+use Rattle.definition.specs.Status.{pick, isDone}
+use Rattle.definition.specs.Create.{createAnswer, newPair}
+use Rattle.answers.specs.create.Held.{heldRights}
+use Rattle.answers.proofs.create.Held.{held-made}
+use Rattle.definition.specs.declared.Pair.{Pair}
 
 pub new-held : (kind C r s ring1 table1 ring2 table2 : ℕ) (p : Pair)
     → pick (isDone (createAnswer kind C r s ring1 table1 ring2 table2)) (newPair (eqb kind 1) C (heldRights r) (heldRights s)) p

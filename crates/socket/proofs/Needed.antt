@@ -2,15 +2,15 @@
 use mathlib.Core.Path.{_≡_, refl, sym, ap, _∙_}
 use mathlib.Core.Bool.{Bool, true, false}
 use lib.ListN.{length}
-use Rattle.status.specs.Choice.{pick, _and_, _or_}
-use Rattle.places.specs.declared.Places.{Places}
-use Rattle.places.specs.Table.{onlyWait}
-use Rattle.ends.specs.declared.Outcome.{Outcome}
-use Rattle.visits.specs.Visits.{anyDue, visitedEach}
-use Rattle.visits.proofs.Visiting.{none-due}
-use Rattle.socket.specs.declared.Pair.{Pair}
-use Rattle.socket.specs.Pair.{withPlaces}
-use Rattle.socket.specs.Deferred.{needsVisit, visitedPair, visitedAll, withEnds, withOutcome, settled}
+use Rattle.definition.specs.Status.{pick, _and_, _or_}
+use Rattle.definition.specs.declared.Places.{Places}
+use Rattle.port.specs.places.Table.{onlyWait}
+use Rattle.endpoint.specs.declared.ends.Outcome.{Outcome}
+use Rattle.port.specs.visits.Visits.{anyDue, visitedEach}
+use Rattle.port.proofs.visits.Visiting.{none-due}
+use Rattle.definition.specs.declared.Pair.{Pair}
+use Rattle.definition.specs.Pair.{withPlaces}
+use Rattle.socket.specs.Deferred.{needsVisit, visitedPair, visitedAll, withEnds, withOutcome, settledStep}
 
 -- the visits of all changes are those of the table
 each-all : (r : Outcome) (p : Pair) → withPlaces (visitedEach r (p .places)) p ≡ visitedAll r p
@@ -29,10 +29,10 @@ need r p l = by (r .fires) (onlyWait (p .places)) (anyDue r (p .places)) refl
     by true false true e = refl
     by true false false e = sym (sym (each-all r p) ∙ ap (λ (t : Places). withPlaces t p) (none-due r (p .places) l e))
 
--- the pair of a settled call
+-- the pair of a settledStep call
 pub settled-need : (r : Outcome) (p : Pair) → length (p .places .table) ≡ 128
-    → pick (needsVisit r (withOutcome r p .places)) (visitedAll r (withOutcome r p)) (withOutcome r p) ≡ settled r p .pair
-unfolding settled withEnds
+    → pick (needsVisit r (withOutcome r p .places)) (visitedAll r (withOutcome r p)) (withOutcome r p) ≡ settledStep r p .pair
+unfolding settledStep withEnds
 settled-need r p l = need r (withOutcome r p) l
 
 -- where the only place used is a wait

@@ -6,128 +6,122 @@ use mathlib.Core.List.{List}
 use lib.ListN.{length}
 use lib.Dec.{eqb}
 use borrow.Author.Tests.{eqb-false}
-use Rattle.status.specs.declared.Answer.{Answer}
-use Rattle.status.specs.Choice.{pick, _or_}
-use Rattle.status.specs.Answer.{isDone, countOf}
-use Rattle.status.proofs.Chains.{counted, neither, then-both}
-use Rattle.places.specs.Table.{sound}
-use Rattle.endpoint.specs.Queue.{firstLength}
-use Rattle.ends.specs.declared.Ends.{Ends}
-use Rattle.ends.specs.declared.Moved.{Moved}
-use Rattle.ends.specs.declared.Outcome.{Outcome}
-use Rattle.ends_tests.specs.Tests.{lentOf}
-use Rattle.ends.specs.Outcome.{keptEnds, unchangedEnds}
-use Rattle.transfer_write.specs.Write.{fedEnds, wroteEnds, EndsWrote}
-use Rattle.write_answer.specs.Write as W
-use Rattle.transfer_read.specs.Read.{leaving, drainedEnds, readEnds, EndsRead}
-use Rattle.read_answer.specs.Read as R
-use Rattle.socket.specs.declared.Pair.{Pair}
-use Rattle.socket.specs.declared.Step.{Step}
-use Rattle.socket.specs.Pair.{isOne, own, peer, endsOf}
-use Rattle.socket.specs.Write.{wrote, pairWritten, Wrote}
-use Rattle.socket.specs.Read.{consumed, pairRead, Read}
-use Rattle.threshold_answers.specs.Threshold.{readThresholdAnswer, writeThresholdAnswer}
-use Rattle.ends_tests.proofs.Sound.{passed, opening-passed}
-use Rattle.control.specs.Signal.{movedIf}
-use Rattle.control.specs.Shutdown.{shutEnds}
-use Rattle.control_threshold.specs.Threshold.{readThresholdEnds, writeThresholdEnds}
-use Rattle.control.proofs.Outcomes.{refused, done}
-use Rattle.socket.specs.Tests.{Steps}
-use Rattle.socket.specs.Disposition.{shutdownAnswer, shut}
-use Rattle.socket.specs.Threshold.{readThresholdSet, writeThresholdSet}
+use Rattle.definition.specs.declared.Answer.{Answer}
+use Rattle.definition.specs.Status.{pick, _or_, isDone, countOf}
+use Rattle.endpoint.proofs.answer.Chains.{counted, neither, then-both}
+use Rattle.definition.specs.Port.{sound}
+use Rattle.definition.specs.Tests.{firstLength, lentOf, Steps}
+use Rattle.definition.specs.declared.Ends.{Ends}
+use Rattle.endpoint.specs.declared.ends.Moved.{Moved}
+use Rattle.endpoint.specs.declared.ends.Outcome.{Outcome}
+use Rattle.endpoint.specs.ends.Outcome.{keptEnds, unchangedEnds}
+use Rattle.transfer.specs.write.WriteEnds.{fedEnds, wroteEnds, EndsWrote}
+use Rattle.definition.specs.Read.{leaving, consumed, pairRead, Read, readAnswer}
+use Rattle.transfer.specs.read.ReadEnds.{drainedEnds, readEnds, EndsRead}
+use Rattle.definition.specs.declared.Pair.{Pair}
+use Rattle.definition.specs.declared.Step.{Step}
+use Rattle.definition.specs.Pair.{isOne, own, peer, endsOf}
+use Rattle.definition.specs.Write.{wrote, pairWritten, Wrote, writeAnswer}
+use Rattle.definition.specs.Threshold.{readThresholdAnswer, writeThresholdAnswer, readThresholdSet, writeThresholdSet}
+use Rattle.answers.proofs.tests.Sound.{passed, opening-passed}
+use Rattle.control.specs.ends.Changes.{movedIf}
+use Rattle.control.specs.ends.ShutdownEnds.{shutEnds}
+use Rattle.control.specs.threshold.ThresholdEnds.{readThresholdEnds, writeThresholdEnds}
+use Rattle.control.proofs.ends.Outcomes.{refused, done}
+use Rattle.definition.specs.Shutdown.{shutdownAnswer, shut}
 use Rattle.socket.proofs.Control.{shut-visited, read-threshold-visited, write-threshold-visited}
-use Rattle.socket.specs.Deferred.{settled, withEnds}
+use Rattle.socket.specs.Deferred.{settledStep, withEnds}
 use Rattle.socket.proofs.Steps.{steps-refused, steps-done}
 use Rattle.socket.proofs.Visiting.{movedPair, kept-visited, fed-visited, drained-visited, settled-moved}
 
 moved-wrote : (b t : Bool) (m : ℕ) (p : Pair) → (b ≡ false → sound (p .places) ≡ true)
-    → movedPair t (pick b (keptEnds (own t p) (peer t p)) (fedEnds (p .datagram) (p .capacity) t (own t p) (peer t p) m)) p ≡ pick b p (wrote t m p)
+    → movedPair t (pick b (keptEnds (own t (endsOf p)) (peer t (endsOf p))) (fedEnds (p .datagram) (p .capacity) t (own t (endsOf p)) (peer t (endsOf p)) m)) p ≡ pick b p (wrote t m p)
 unfolding pick
 moved-wrote true t m p s = kept-visited t p
 moved-wrote false t m p s = fed-visited t m p (s refl)
 
 moved-read : (b t : Bool) (n : ℕ) (p : Pair) → (b ≡ false → sound (p .places) ≡ true)
-    → movedPair t (pick b (keptEnds (own t p) (peer t p)) (drainedEnds (p .datagram) (p .capacity) t (own t p) (peer t p) n)) p ≡ pick b p (consumed t n p)
+    → movedPair t (pick b (keptEnds (own t (endsOf p)) (peer t (endsOf p))) (drainedEnds (p .datagram) (p .capacity) t (own t (endsOf p)) (peer t (endsOf p)) n)) p ≡ pick b p (consumed t n p)
 unfolding pick
 moved-read true t n p s = kept-visited t p
 moved-read false t n p s = drained-visited t n p (s refl)
 
 module _ (p : Pair) (h : ℕ) (a : Answer) (r : Outcome) (l : length (p .places .table) ≡ 128)
     (s : (countOf a ≡ 0 → ⊥) → sound (p .places) ≡ true) where
-  pub wrote-settled : r ≡ wroteEnds (endsOf p) h a → settled r p ≡ record { pair = pairWritten p h (countOf a); answer = a }
+  pub wrote-settled : r ≡ wroteEnds (endsOf p) h a → settledStep r p ≡ record { pair = pairWritten p h (countOf a); answer = a }
   unfolding wroteEnds pairWritten
   wrote-settled e =
-      ap (λ (k : Outcome). settled k p) e
+      ap (λ (k : Outcome). settledStep k p) e
       ∙ settled-moved p (isOne h) a _ l
       ∙ ap (λ (q : Pair). record { pair = q; answer = a }) (moved-wrote (eqb (countOf a) 0) (isOne h) (countOf a) p (λ z. s (eqb-false _ _ z)))
 
   pub read-settled : (peek : Bool) (first : ℕ) → r ≡ readEnds (endsOf p) h peek first a
-      → settled r p ≡ record { pair = pairRead p h peek first (countOf a); answer = a }
+      → settledStep r p ≡ record { pair = pairRead p h peek first (countOf a); answer = a }
   unfolding readEnds pairRead
   read-settled peek first e =
-      ap (λ (k : Outcome). settled k p) e
+      ap (λ (k : Outcome). settledStep k p) e
       ∙ settled-moved p (isOne h) a _ l
       ∙ ap (λ (q : Pair). record { pair = q; answer = a })
       (moved-read (peek or eqb (countOf a) 0) (isOne h) (leaving (p .datagram) first (countOf a)) p (λ z. s (eqb-false _ _ (neither _ _ z .1))))
 
 pub wrote-whole : (p : Pair) (h : ℕ) (src ring ring′ table table′ : List ℕ) (e : Ends) (r : Outcome) → length (p .places .table) ≡ 128
-    → e ≡ endsOf p → EndsWrote e h src ring ring′ table table′ r → Wrote p h src ring ring′ table table′ (settled r p)
-unfolding W.writeAnswer
+    → e ≡ endsOf p → EndsWrote e h src ring ring′ table table′ r → Wrote p h src ring ring′ table table′ (settledStep r p)
+unfolding writeAnswer
 wrote-whole p h src ring ring′ table table′ e r l f v =
     let w = subst (λ (k : Ends). EndsWrote k h src ring ring′ table table′ r) f v in
-    let z = lentOf (p .datagram) (peer (isOne h) p .queue) ring table in
+    let z = lentOf (p .datagram) (peer (isOne h) (endsOf p) .queue) ring table in
     let s : (countOf (r .answer) ≡ 0 → ⊥) → sound (p .places) ≡ true
-    = λ (n : countOf (r .answer) ≡ 0 → ⊥). passed (endsOf p) h (peer (isOne h) p .queue) z _ (r .answer) (w .answer) (counted (r .answer) n) .sound .places in
+    = λ (n : countOf (r .answer) ≡ 0 → ⊥). passed (endsOf p) h (peer (isOne h) (endsOf p) .queue) z _ (r .answer) (w .answer) (counted (r .answer) n) .sound .places in
     subst (λ (k : Step). Wrote p h src ring ring′ table table′ k) (sym (wrote-settled p h (r .answer) r l s (w .next)))
     (record { answer = w .answer; pair = refl; bytes = w .bytes; lengths = w .lengths })
 
 pub read-whole : (p : Pair) (h : ℕ) (peek : Bool) (ring table buffer buffer′ : List ℕ) (e : Ends) (r : Outcome) → length (p .places .table) ≡ 128
-    → e ≡ endsOf p → EndsRead e h peek ring table buffer buffer′ r → Read p h peek ring table buffer buffer′ (settled r p)
-unfolding R.readAnswer
+    → e ≡ endsOf p → EndsRead e h peek ring table buffer buffer′ r → Read p h peek ring table buffer buffer′ (settledStep r p)
+unfolding readAnswer
 read-whole p h peek ring table buffer buffer′ e r l f v =
     let w = subst (λ (k : Ends). EndsRead k h peek ring table buffer buffer′ r) f v in
-    let z = lentOf (p .datagram) (own (isOne h) p .queue) ring table in
+    let z = lentOf (p .datagram) (own (isOne h) (endsOf p) .queue) ring table in
     let s : (countOf (r .answer) ≡ 0 → ⊥) → sound (p .places) ≡ true
-    = λ (n : countOf (r .answer) ≡ 0 → ⊥). passed (endsOf p) h (own (isOne h) p .queue) z _ (r .answer) (w .answer) (counted (r .answer) n) .sound .places in
-    let first = firstLength (p .datagram) (own (isOne h) p .queue) table in
+    = λ (n : countOf (r .answer) ≡ 0 → ⊥). passed (endsOf p) h (own (isOne h) (endsOf p) .queue) z _ (r .answer) (w .answer) (counted (r .answer) n) .sound .places in
+    let first = firstLength (p .datagram) (own (isOne h) (endsOf p) .queue) table in
     subst (λ (k : Step). Read p h peek ring table buffer buffer′ k) (sym (read-settled p h (r .answer) r l s peek first (w .next)))
     (record { answer = w .answer; pair = refl; bytes = w .bytes })
 
 -- ---- a call that changes both ends or none
 
-pub unchanged-settled : (p : Pair) (a : Answer) → settled (unchangedEnds (endsOf p) a) p ≡ record { pair = p; answer = a }
-unfolding settled unchangedEnds withEnds pick
+pub unchanged-settled : (p : Pair) (a : Answer) → settledStep (unchangedEnds (endsOf p) a) p ≡ record { pair = p; answer = a }
+unfolding settledStep unchangedEnds withEnds pick
 unchanged-settled p a = refl
 
 pub moved-whole : (p : Pair) (h : ℕ) (a : Answer) (m : Moved) (q : Pair) (r : Outcome) → length (p .places .table) ≡ 128
-    → r ≡ movedIf (endsOf p) h a m → (isDone a ≡ true → movedPair (isOne h) m p ≡ q) → Steps p a q (settled r p)
+    → r ≡ movedIf (endsOf p) h a m → (isDone a ≡ true → movedPair (isOne h) m p ≡ q) → Steps p a q (settledStep r p)
 moved-whole p h a m q r l g w = by (isDone a) refl
   where
-    by : (b : Bool) → isDone a ≡ b → Steps p a q (settled r p)
+    by : (b : Bool) → isDone a ≡ b → Steps p a q (settledStep r p)
     by true d =
-        subst (Steps p a q) (sym (ap (λ (k : Outcome). settled k p) (g ∙ done (endsOf p) h a a m refl d) ∙ settled-moved p (isOne h) a m l))
+        subst (Steps p a q) (sym (ap (λ (k : Outcome). settledStep k p) (g ∙ done (endsOf p) h a a m refl d) ∙ settled-moved p (isOne h) a m l))
         (steps-done p q (movedPair (isOne h) m p) a a refl d (w d))
     by false d =
-        subst (Steps p a q) (sym (ap (λ (k : Outcome). settled k p) (g ∙ refused (endsOf p) h a a m refl d) ∙ unchanged-settled p a))
+        subst (Steps p a q) (sym (ap (λ (k : Outcome). settledStep k p) (g ∙ refused (endsOf p) h a a m refl d) ∙ unchanged-settled p a))
         (steps-refused p p q a a refl d refl)
 
 module _ (p : Pair) (h : ℕ) where
   pub shutdown-whole : (read write : Bool) (e : Ends) (r : Outcome) → length (p .places .table) ≡ 128 → e ≡ endsOf p → r ≡ shutEnds e h read write
-      → Steps p (shutdownAnswer p h) (shut (isOne h) read write p) (settled r p)
+      → Steps p (shutdownAnswer p h) (shut (isOne h) read write p) (settledStep r p)
   unfolding shutEnds shutdownAnswer
   shutdown-whole read write e r l f g =
       moved-whole p h _ _ _ r l (g ∙ ap (λ (k : Ends). shutEnds k h read write) f)
       (λ d. shut-visited (isOne h) read write p (opening-passed (endsOf p) h d .places))
 
   pub read-threshold-whole : (n : ℕ) (e : Ends) (r : Outcome) → length (p .places .table) ≡ 128 → e ≡ endsOf p → r ≡ readThresholdEnds e h n
-      → Steps p (readThresholdAnswer (endsOf p) h n) (readThresholdSet (isOne h) n p) (settled r p)
+      → Steps p (readThresholdAnswer (endsOf p) h n) (readThresholdSet (isOne h) n p) (settledStep r p)
   unfolding readThresholdEnds readThresholdAnswer
   read-threshold-whole n e r l f g =
       moved-whole p h _ _ _ r l (g ∙ ap (λ (k : Ends). readThresholdEnds k h n) f)
       (λ d. read-threshold-visited (isOne h) n p (opening-passed (endsOf p) h (then-both _ _ d .0) .places))
 
   pub write-threshold-whole : (n : ℕ) (e : Ends) (r : Outcome) → length (p .places .table) ≡ 128 → e ≡ endsOf p → r ≡ writeThresholdEnds e h n
-      → Steps p (writeThresholdAnswer (endsOf p) h n) (writeThresholdSet (isOne h) n p) (settled r p)
+      → Steps p (writeThresholdAnswer (endsOf p) h n) (writeThresholdSet (isOne h) n p) (settledStep r p)
   unfolding writeThresholdEnds writeThresholdAnswer
   write-threshold-whole n e r l f g =
       moved-whole p h _ _ _ r l (g ∙ ap (λ (k : Ends). writeThresholdEnds k h n) f)

@@ -1,12 +1,11 @@
 -- A call that is lent nothing, put together from its answer and its next pair. Assumes nothing.
 use mathlib.Core.Path.{_≡_, refl, sym, ap, _∙_}
 use mathlib.Core.Bool.{Bool, true, false}
-use Rattle.status.specs.declared.Answer.{Answer}
-use Rattle.status.specs.Choice.{pick}
-use Rattle.status.specs.Answer.{isDone}
-use Rattle.status.proofs.Rules.{pick-on, pick-off}
-use Rattle.socket.specs.declared.Pair.{Pair}
-use Rattle.socket.specs.Tests.{Steps}
+use Rattle.definition.specs.declared.Answer.{Answer}
+use Rattle.definition.specs.Status.{pick, isDone}
+use Rattle.endpoint.proofs.answer.Rules.{pick-on, pick-off}
+use Rattle.definition.specs.declared.Pair.{Pair}
+use Rattle.definition.specs.Tests.{Steps}
 
 pub steps-refused : (p p′ q : Pair) (a x : Answer) → x ≡ a → isDone x ≡ false → p′ ≡ p → Steps p a q (record { pair = p′; answer = x })
 steps-refused p p′ q a x e f g =

@@ -7,32 +7,31 @@ use mir.Val.{Val}
 use denote.Laws.{Is}
 use denote.Struct.Laws as LL
 use lib.ListN.{length}
-use Rattle.status.specs.declared.Answer.{Answer}
-use Rattle.status.specs.Choice.{pick, _or_}
-use Rattle.status.proofs.Chains.{neither}
-use Rattle.places.specs.declared.Places.{Places}
-use Rattle.signal.specs.Signal.{changedWord}
-use Rattle.places.specs.Table.{sound}
-use Rattle.signal_change.specs.SignalChange.{changeOf}
-use Rattle.places.proofs.Lists.{either}
-use Rattle.signal_change.proofs.Operations.{change-sound}
-use Rattle.places.proofs.Size.{table-128}
-use Rattle.port.proofs.Sound.{sound-change}
-use Rattle.endpoint.specs.Endpoint.{withQueue, withSignals}
-use Rattle.ends.specs.declared.Visits.{Visits}
-use Rattle.ends.specs.declared.Moved.{Moved}
-use Rattle.ends.specs.Outcome.{noVisit, noVisits, canFire, anyFires, outcomeOf, keptEnds}
-use Rattle.transfer_write.specs.Write.{fedQueue, fedEnds}
-use Rattle.transfer_read.specs.Read.{drainedQueue, drainedEnds}
-use Rattle.socket.specs.declared.Pair.{Pair}
-use Rattle.socket.proofs.Pair as T
-use Rattle.socket.proofs.Pair.Laws as T′
-use Rattle.socket.specs.Pair.{own, peer, withEnd, withPlaces, withChange, signalChange}
-use Rattle.socket.specs.Write.{wrote}
-use Rattle.socket.specs.Read.{consumed}
-use Rattle.visits.specs.Visits.{visited}
-use Rattle.visits.proofs.Visiting.{visited-none, cannot-fire as table-cannot-fire}
-use Rattle.socket.specs.Deferred.{visitedPair, visitedAll, settled, withEnds}
+use Rattle.definition.specs.declared.Answer.{Answer}
+use Rattle.definition.specs.Status.{pick, _or_}
+use Rattle.endpoint.proofs.answer.Chains.{neither}
+use Rattle.definition.specs.declared.Places.{Places}
+use Rattle.definition.specs.Signal.{changedWord}
+use Rattle.definition.specs.Port.{sound, changeOf}
+use Rattle.port.proofs.places.Lists.{either}
+use Rattle.port.proofs.signal_change.Operations.{change-sound}
+use Rattle.port.proofs.places.Size.{table-128}
+use Rattle.port.proofs.waits.Sound.{sound-change}
+use Rattle.definition.specs.Pair.{withQueue, withSignals, own, peer, withEnd, withPlaces, endsOf}
+use Rattle.endpoint.specs.declared.ends.Visits.{Visits}
+use Rattle.endpoint.specs.declared.ends.Moved.{Moved}
+use Rattle.endpoint.specs.ends.Outcome.{noVisit, noVisits, canFire, anyFires, outcomeOf, keptEnds}
+use Rattle.definition.specs.Write.{fedQueue, wrote}
+use Rattle.transfer.specs.write.WriteEnds.{fedEnds}
+use Rattle.definition.specs.Read.{drainedQueue, consumed}
+use Rattle.transfer.specs.read.ReadEnds.{drainedEnds}
+use Rattle.definition.specs.declared.Pair.{Pair}
+use Rattle.definition.proofs.Pair as T
+use Rattle.definition.proofs.Pair.Laws as T′
+use Rattle.definition.specs.Effect.{withChange, signalChange}
+use Rattle.port.specs.visits.Visits.{visited}
+use Rattle.port.proofs.visits.Visiting.{visited-none, cannot-fire as table-cannot-fire}
+use Rattle.socket.specs.Deferred.{visitedPair, visitedAll, settledStep, withEnds}
 
 -- ---- changes that fire nothing
 
@@ -47,9 +46,9 @@ changed-word one w clear set t s = ap (λ c. c .word) (change-sound one w clear 
 
 pub signal-visited : (t : Bool) (clear set : ℕ) (p : Pair) → sound (p .places) ≡ true
     → signalChange t clear set p
-    ≡ withPlaces (changeOf t (own t p .signals) clear set (p .places) .places) (withEnd t (withSignals (changedWord clear set (own t p .signals)) (own t p)) p)
+    ≡ withPlaces (changeOf t (own t (endsOf p) .signals) clear set (p .places) .places) (withEnd t (withSignals (changedWord clear set (own t (endsOf p) .signals)) (own t (endsOf p))) p)
 unfolding signalChange withChange
-signal-visited t clear set p s = rw (changed-word t (own t p .signals) clear set (p .places) s) refl
+signal-visited t clear set p s = rw (changed-word t (own t (endsOf p) .signals) clear set (p .places) s) refl
 
 -- the pair after a call by end t: the ends that it moved, then the visits
 abbrev pub movedPair : Bool → Moved → Pair → Pair
@@ -60,12 +59,12 @@ pub two-visited : (t : Bool) (clear set clear′ set′ : ℕ) (p : Pair) → so
     → signalChange (not t) clear′ set′ (signalChange t clear set p)
     ≡ movedPair t
     (record {
-      own = withSignals (changedWord clear set (own t p .signals)) (own t p);
-      peer = withSignals (changedWord clear′ set′ (peer t p .signals)) (peer t p);
+      own = withSignals (changedWord clear set (own t (endsOf p) .signals)) (own t (endsOf p));
+      peer = withSignals (changedWord clear′ set′ (peer t (endsOf p) .signals)) (peer t (endsOf p));
       visits =
           record {
-            first = record { one = t; word = own t p .signals; clear = clear; set = set };
-            second = record { one = not t; word = peer t p .signals; clear = clear′; set = set′ };
+            first = record { one = t; word = own t (endsOf p) .signals; clear = clear; set = set };
+            second = record { one = not t; word = peer t (endsOf p) .signals; clear = clear′; set = set′ };
           };
     })
     p
@@ -78,12 +77,12 @@ two-visited false clear set clear′ set′ p s =
     ∙ signal-visited true clear′ set′ _ (sound-change (p .places) s false (p .two .signals) clear set)
 
 pub fed-visited : (t : Bool) (m : ℕ) (p : Pair) → sound (p .places) ≡ true
-    → movedPair t (fedEnds (p .datagram) (p .capacity) t (own t p) (peer t p) m) p ≡ wrote t m p
+    → movedPair t (fedEnds (p .datagram) (p .capacity) t (own t (endsOf p)) (peer t (endsOf p)) m) p ≡ wrote t m p
 unfolding fedEnds wrote withEnds withEnd withSignals withQueue visitedPair pick
 fed-visited true m p s = sym (two-visited false 0 _ _ 0 (withEnd false (withQueue (fedQueue (p .datagram) m (p .two .queue)) (p .two)) p) s)
 fed-visited false m p s = sym (two-visited true 0 _ _ 0 (withEnd true (withQueue (fedQueue (p .datagram) m (p .one .queue)) (p .one)) p) s)
 
-pub kept-visited : (t : Bool) (p : Pair) → movedPair t (keptEnds (own t p) (peer t p)) p ≡ p
+pub kept-visited : (t : Bool) (p : Pair) → movedPair t (keptEnds (own t (endsOf p)) (peer t (endsOf p))) p ≡ p
 unfolding keptEnds visitedPair withEnds withPlaces pick
 kept-visited true p = rw (visited-none (p .places), visited-none (p .places)) refl
 kept-visited false p = rw (visited-none (p .places), visited-none (p .places)) refl
@@ -93,9 +92,9 @@ pub one-visited : (t : Bool) (clear set : ℕ) (p : Pair) → sound (p .places) 
     → signalChange t clear set p
     ≡ movedPair t
     (record {
-      own = withSignals (changedWord clear set (own t p .signals)) (own t p);
-      peer = peer t p;
-      visits = record { first = record { one = t; word = own t p .signals; clear = clear; set = set }; second = noVisit };
+      own = withSignals (changedWord clear set (own t (endsOf p) .signals)) (own t (endsOf p));
+      peer = peer t (endsOf p);
+      visits = record { first = record { one = t; word = own t (endsOf p) .signals; clear = clear; set = set }; second = noVisit };
     })
     p
 unfolding visitedPair visited withEnds withEnd withPlaces pick
@@ -111,17 +110,17 @@ by-closed : (t c : Bool) (lost gained : ℕ) (q : Pair) → sound (q .places) �
     → movedPair t
     (pick c
     (record {
-      own = withSignals (changedWord lost 0 (own t q .signals)) (own t q);
-      peer = peer t q;
-      visits = record { first = record { one = t; word = own t q .signals; clear = lost; set = 0 }; second = noVisit };
+      own = withSignals (changedWord lost 0 (own t (endsOf q) .signals)) (own t (endsOf q));
+      peer = peer t (endsOf q);
+      visits = record { first = record { one = t; word = own t (endsOf q) .signals; clear = lost; set = 0 }; second = noVisit };
     })
     (record {
-      own = withSignals (changedWord lost 0 (own t q .signals)) (own t q);
-      peer = withSignals (changedWord 0 gained (peer t q .signals)) (peer t q);
+      own = withSignals (changedWord lost 0 (own t (endsOf q) .signals)) (own t (endsOf q));
+      peer = withSignals (changedWord 0 gained (peer t (endsOf q) .signals)) (peer t (endsOf q));
       visits =
           record {
-            first = record { one = t; word = own t q .signals; clear = lost; set = 0 };
-            second = record { one = not t; word = peer t q .signals; clear = 0; set = gained };
+            first = record { one = t; word = own t (endsOf q) .signals; clear = lost; set = 0 };
+            second = record { one = not t; word = peer t (endsOf q) .signals; clear = 0; set = gained };
           };
     }))
     q
@@ -131,7 +130,7 @@ by-closed t true lost gained q s = sym (one-visited t lost 0 q s)
 by-closed t false lost gained q s = sym (two-visited t lost 0 0 gained q s)
 
 pub drained-visited : (t : Bool) (n : ℕ) (p : Pair) → sound (p .places) ≡ true
-    → movedPair t (drainedEnds (p .datagram) (p .capacity) t (own t p) (peer t p) n) p ≡ consumed t n p
+    → movedPair t (drainedEnds (p .datagram) (p .capacity) t (own t (endsOf p)) (peer t (endsOf p)) n) p ≡ consumed t n p
 unfolding drainedEnds consumed withEnds withEnd withQueue withSignals visitedPair
 drained-visited true n p s =
     by-closed true (p .two .closed) _ _ (withEnd true (withQueue (drainedQueue (p .datagram) (p .capacity) n (p .one .queue)) (p .one)) p) s
@@ -155,8 +154,8 @@ pub no-visits : (p : Pair) → visitedPair noVisits p ≡ p
 no-visits p = visited-both noVisits p (visited-none (p .places)) (visited-none (p .places))
 
 pub settled-moved : (p : Pair) (t : Bool) (a : Answer) (d : Moved) → length (p .places .table) ≡ 128
-    → settled (outcomeOf (p .places .waits) t a d noVisits) p ≡ record { pair = movedPair t d p; answer = a }
-unfolding settled visitedAll outcomeOf withEnds anyFires
+    → settledStep (outcomeOf (p .places .waits) t a d noVisits) p ≡ record { pair = movedPair t d p; answer = a }
+unfolding settledStep visitedAll outcomeOf withEnds anyFires
 settled-moved p t a d l =
     let q = withEnds (pick t (d .own) (d .peer)) (pick t (d .peer) (d .own)) p in
     let f = anyFires (p .places .waits) (d .visits) noVisits in

@@ -7,28 +7,24 @@ use native.Mathlib.Omega.{arith}
 use lib.ListN.{getD}
 use lib.Dec.{eqb}
 use borrow.Author.Tests.{eqb-true, eqb-false}
-use Rattle.status.specs.declared.Status.the-variants.{ShouldWait}
-use Rattle.status.specs.declared.Record.the-variants.{Packet}
-use Rattle.status.specs.declared.Answer.{Answer}
-use Rattle.status.specs.declared.Answer.the-variants.{Done}
-use Rattle.status.specs.Choice.{pick, _and_}
-use Rattle.status.specs.Answer.{isDone, refuseIf, _then_}
-use Rattle.status.proofs.Chains.{then-both, refuse-passed}
-use Rattle.places.specs.declared.Places.{Places}
-use Rattle.places.specs.declared.Next.{Next}
-use Rattle.places.specs.Table.{sound, free, packetsOf, packetOf}
-use Rattle.places.specs.Next.{done, refused}
-use Rattle.port.specs.Port.{registerOf}
-use Rattle.packets.specs.Packets.{takeOf}
-use Rattle.places.proofs.Lists.{either}
-use Rattle.port.proofs.Operations.{register-done}
-use Rattle.packets.proofs.Operations.{take-none, take-done}
-use Rattle.ends_tests.proofs.Sound.{sound-passed}
-use Rattle.answers.proofs.Passed.{wait-room}
-use Rattle.socket.specs.declared.Pair.{Pair}
-use Rattle.socket.specs.Pair.{isOne, own, endsOf, withPlaces}
-use Rattle.socket.specs.Tests.{Steps}
-use Rattle.socket.specs.Wait.{waitAnswer, waited, takeAnswer, took}
+use Rattle.definition.specs.declared.Status.the-variants.{ShouldWait}
+use Rattle.definition.specs.declared.Record.the-variants.{Packet}
+use Rattle.definition.specs.declared.Answer.{Answer}
+use Rattle.definition.specs.declared.Answer.the-variants.{Done}
+use Rattle.definition.specs.Status.{pick, _and_, isDone, refuseIf, _then_}
+use Rattle.endpoint.proofs.answer.Chains.{then-both, refuse-passed}
+use Rattle.definition.specs.declared.Places.{Places}
+use Rattle.definition.specs.declared.Next.{Next}
+use Rattle.definition.specs.Port.{sound, free, packetsOf, packetOf, done, refused, registerOf, takeOf}
+use Rattle.port.proofs.places.Lists.{either}
+use Rattle.port.proofs.waits.Operations.{register-done}
+use Rattle.port.proofs.packets.Operations.{take-none, take-done}
+use Rattle.answers.proofs.tests.Sound.{sound-passed}
+use Rattle.answers.proofs.control.Passed.{wait-room}
+use Rattle.definition.specs.declared.Pair.{Pair}
+use Rattle.definition.specs.Pair.{isOne, own, endsOf, withPlaces}
+use Rattle.definition.specs.Tests.{Steps}
+use Rattle.definition.specs.Wait.{waitAnswer, waited, takeAnswer, took}
 use Rattle.socket.specs.Deferred.{registeredPair, takenPair}
 
 -- the next pair by the answer: the next table where the call is done, else the same pair
@@ -37,8 +33,8 @@ unfolding pick withPlaces
 by-answer true c p q p′ t e f g = f ∙ rw e (g refl)
 by-answer false c p q p′ t e f g = f ∙ rw e refl
 
-pub wait-steps : (p : Pair) (h key mask edge : ℕ) (x : Answer) (p′ : Pair) → x ≡ waitAnswer p h edge → p′ ≡ registeredPair (isDone x) (isOne h) key mask edge p
-    → Steps p (waitAnswer p h edge) (waited (isOne h) key mask edge p) (record { pair = p′; answer = x })
+pub wait-steps : (p : Pair) (h key mask edge : ℕ) (x : Answer) (p′ : Pair) → x ≡ waitAnswer (endsOf p) h edge → p′ ≡ registeredPair (isDone x) (isOne h) key mask edge p
+    → Steps p (waitAnswer (endsOf p) h edge) (waited (isOne h) key mask edge p) (record { pair = p′; answer = x })
 unfolding waited registeredPair done
 wait-steps p h key mask edge x p′ e f =
     record {
@@ -46,7 +42,7 @@ wait-steps p h key mask edge x p′ e f =
       pair =
           by-answer _ (isDone x) p _ p′ _ (ap isDone e) f
           (λ w. ap (λ (n : Next). withPlaces (n .places) p)
-          (register-done (isOne h) (own (isOne h) p .signals) key mask (eqb edge 1) (p .places) (wait-room (endsOf p) h edge _ refl w)));
+          (register-done (isOne h) (own (isOne h) (endsOf p) .signals) key mask (eqb edge 1) (p .places) (wait-room (endsOf p) h edge _ refl w)));
     }
 
 -- the same with the test of the first place

@@ -3,18 +3,17 @@
 use Prim.Native.Nat.{ℕ}
 use mathlib.Core.Bool.{Bool}
 use lib.Dec.{eqb}
-use Rattle.status.specs.Choice.{pick, _and_, _or_}
-use Rattle.places.specs.declared.Places.{Places}
-use Rattle.port.specs.Port.{registerOf, dropOf}
-use Rattle.packets.specs.Packets.{takeOf}
-use Rattle.places.specs.Table.{onlyWait}
-use Rattle.endpoint.specs.declared.Endpoint.{Endpoint}
-use Rattle.ends.specs.declared.Visits.{Visits}
-use Rattle.ends.specs.declared.Outcome.{Outcome}
-use Rattle.visits.specs.Visits.{anyDue, visited}
-use Rattle.socket.specs.declared.Pair.{Pair}
-use Rattle.socket.specs.declared.Step.{Step}
-use Rattle.socket.specs.Pair.{own, withPlaces}
+use Rattle.endpoint.specs.declared.ends.Visits.{Visits}
+use Rattle.definition.specs.declared.Pair.{Pair}
+use Rattle.endpoint.specs.declared.ends.Outcome.{Outcome}
+use Rattle.definition.specs.declared.Places.{Places}
+use Rattle.definition.specs.declared.Endpoint.{Endpoint}
+use Rattle.definition.specs.declared.Step.{Step}
+use Rattle.port.specs.visits.Visits.{visited, anyDue}
+use Rattle.definition.specs.Pair.{withPlaces, own, endsOf}
+use Rattle.definition.specs.Status.{_and_, _or_, pick}
+use Rattle.port.specs.places.Table.{onlyWait}
+use Rattle.definition.specs.Port.{dropOf, registerOf, takeOf}
 
 -- the pair after the waits of two changes are visited
 unfoldable pub visitedPair : Visits → Pair → Pair
@@ -37,8 +36,8 @@ abbrev pub withOutcome : Outcome → Pair → Pair
 withOutcome r p = withEnds (r .one) (r .two) p
 
 -- the step of a call with this outcome, once the waits are visited where one can fire
-unfoldable pub settled : Outcome → Pair → Step
-settled r p = record { pair = pick (r .fires) (visitedAll r (withOutcome r p)) (withOutcome r p); answer = r .answer }
+unfoldable pub settledStep : Outcome → Pair → Step
+settledStep r p = record { pair = pick (r .fires) (visitedAll r (withOutcome r p)) (withOutcome r p); answer = r .answer }
 
 -- 01 "Delivered bytes", close: the waits of end t are gone
 unfoldable pub withoutWaits : Bool → Pair → Pair
@@ -50,12 +49,12 @@ closedWaits t r p = pick (r .fires) (visitedAll r (withoutWaits t p)) p
 
 -- the step of a close with this outcome, by end t: its waits are gone before those of its peer are visited
 unfoldable pub settledClose : Bool → Outcome → Pair → Step
-settledClose t r p = settled r (pick (r .fires) (withoutWaits t p) p)
+settledClose t r p = settledStep r (pick (r .fires) (withoutWaits t p) p)
 
 -- 01 "Signal word and packets": the pair with a wait of end t more, where that is asked
 unfoldable pub registeredPair : (asked t : Bool) → (key mask edge : ℕ) → Pair → Pair
 registeredPair asked t key mask edge p =
-    withPlaces (pick asked (registerOf t (own t p .signals) key mask (eqb edge 1) (p .places) .places) (p .places)) p
+    withPlaces (pick asked (registerOf t (own t (endsOf p) .signals) key mask (eqb edge 1) (p .places) .places) (p .places)) p
 
 -- 01 "Signal word and packets": the pair without its oldest packet, where that is asked
 unfoldable pub takenPair : (asked : Bool) → Pair → Pair

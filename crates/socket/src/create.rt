@@ -1,29 +1,26 @@
 // Create.
-use crate::Pair;
-use crate::Step;
-use bits::bit_if;
-use create_answer::held_rights;
-use endpoint::Endpoint;
-use places::Places;
+use answers::create::held_rights;
+use definition::Endpoint;
+use definition::Pair;
+use definition::Step;
+use endpoint::bits::bit_if;
 ghost use mathlib.Core.Path.{_≡_};
 ghost use mathlib.Core.Bool.{false};
 ghost use lib.ListN.{length};
 ghost use lib.Dec.{eqb};
-ghost use Rattle.status.specs.Choice.{pick};
-ghost use Rattle.endpoint.specs.Endpoint.{newEnd, noEnd};
-ghost use Rattle.create_answer.specs.Create.{createAnswer};
-ghost use Rattle.create_answer.specs.Held.{heldRights};
-ghost use Rattle.socket.specs.Pair.{newPair, noPair};
-ghost use Rattle.socket.specs.Tests.{Steps};
+ghost use Rattle.definition.specs.Status.{pick};
+ghost use Rattle.definition.specs.Create.{newEnd, noEnd, createAnswer, newPair, noPair};
+ghost use Rattle.answers.specs.create.Held.{heldRights};
+ghost use Rattle.definition.specs.Tests.{Steps};
 
 // A new end, or one that was never made.
 fn end_if(made: bool, rights: u32) -> Endpoint
     ensures { λ r. ⌜ r ≡ pick made (newEnd (heldRights rights)) noEnd ⌝ }
 {
     if made {
-        return Endpoint::new(held_rights(rights));
+        return endpoint::end::new_end(held_rights(rights));
     }
-    Endpoint::none()
+    endpoint::end::no_end()
 }
 
 fn datagram_if(made: bool, datagram: bool) -> bool
@@ -48,7 +45,7 @@ fn pair_if(made: bool, datagram: bool, capacity: u32, rights_one: u32, rights_tw
         capacity: bit_if(made, capacity),
         one,
         two,
-        places: Places::new(),
+        places: port::places::new_places(),
     }
 }
 
@@ -61,40 +58,38 @@ pub fn new_pair(kind: u32, capacity: u32, rights_one: u32, rights_two: u32) -> P
         spare1: 0,
         spare2: 0,
         capacity,
-        one: Endpoint::new(held_rights(rights_one)),
-        two: Endpoint::new(held_rights(rights_two)),
-        places: Places::new(),
+        one: endpoint::end::new_end(held_rights(rights_one)),
+        two: endpoint::end::new_end(held_rights(rights_two)),
+        places: port::places::new_places(),
     }
 }
 
-impl Pair {
-    // A new pair. Each later call is lent the rings and tables that it uses; create looks at the lengths of all four.
-    pub fn create(
-        kind: u32,
-        capacity: u32,
-        rights_one: u32,
-        rights_two: u32,
-        ring_one: &[u8],
-        table_one: &[u32],
-        ring_two: &[u8],
-        table_two: &[u32],
-    ) -> Step
-        ensures { λ r. ⌜ Steps noPair (createAnswer kind capacity «rights_one» «rights_two» (length (now («ring_one» .entry))) (length (now («table_one» .entry))) (length (now («ring_two» .entry))) (length (now («table_two» .entry)))) (newPair (eqb kind 1) capacity «rights_one» «rights_two») r ⌝ }
-    {
-        let a = create_answer::create_answer(
-            kind,
-            capacity,
-            rights_one,
-            rights_two,
-            ring_one.len(),
-            table_one.len(),
-            ring_two.len(),
-            table_two.len(),
-        );
-        let made = status::is_done(a);
-        Step {
-            pair: pair_if(made, kind == 1, capacity, rights_one, rights_two),
-            answer: a,
-        }
+// A new pair. Each later call is lent the rings and tables that it uses; create looks at the lengths of all four.
+pub fn create(
+    kind: u32,
+    capacity: u32,
+    rights_one: u32,
+    rights_two: u32,
+    ring_one: &[u8],
+    table_one: &[u32],
+    ring_two: &[u8],
+    table_two: &[u32],
+) -> Step
+    ensures { λ r. ⌜ Steps noPair (createAnswer kind capacity «rights_one» «rights_two» (length (now («ring_one» .entry))) (length (now («table_one» .entry))) (length (now («ring_two» .entry))) (length (now («table_two» .entry)))) (newPair (eqb kind 1) capacity «rights_one» «rights_two») r ⌝ }
+{
+    let a = answers::create::create_answer(
+        kind,
+        capacity,
+        rights_one,
+        rights_two,
+        ring_one.len(),
+        table_one.len(),
+        ring_two.len(),
+        table_two.len(),
+    );
+    let made = endpoint::answer::is_done(a);
+    Step {
+        pair: pair_if(made, kind == 1, capacity, rights_one, rights_two),
+        answer: a,
     }
 }

@@ -1,20 +1,20 @@
 // A call whose waits are visited last. A caller that keeps the pair in place so passes the table of places on only where a wait can fire, and
 // the table is rebuilt only where one does.
-use crate::Pair;
-use crate::Step;
 use crate::parts;
-use ends::Outcome;
+use definition::Pair;
+use definition::Step;
+use endpoint::ends::Outcome;
 ghost use mathlib.Core.Path.{_≡_};
-ghost use Rattle.status.specs.Choice.{pick};
-ghost use Rattle.places.specs.Table.{onlyWait};
-ghost use Rattle.socket.specs.Pair.{isOne};
-ghost use Rattle.socket.specs.Deferred.{needsVisit, visitedAll, withOutcome, settled, withoutWaits};
+ghost use Rattle.definition.specs.Status.{pick};
+ghost use Rattle.port.specs.places.Table.{onlyWait};
+ghost use Rattle.definition.specs.Pair.{isOne};
+ghost use Rattle.socket.specs.Deferred.{needsVisit, visitedAll, withOutcome, settledStep, withoutWaits};
 
 // Whether the only place used is a wait.
 pub fn has_only_wait(p: Pair) -> bool
     ensures { λ r. ⌜ r ≡ onlyWait (p .places) ⌝ }
 {
-    places::is_only_wait(p.places.packets, p.places.waits)
+    port::places::is_only_wait(p.places.packets, p.places.waits)
 }
 
 // Whether the waits are to be visited: where one fires, and where the only place used is a wait, which is as quickly visited as asked.
@@ -27,7 +27,7 @@ pub fn needs_visit(p: Pair, r: Outcome) -> bool
     if has_only_wait(p) {
         return true;
     }
-    visits::any_due(p.places, r)
+    port::visits::any_due(p.places, r)
 }
 
 // Visits the waits of all changes of a call.
@@ -35,10 +35,10 @@ pub fn visit_each(p: Pair, r: Outcome) -> Pair
     ensures { λ q. ⌜ q ≡ visitedAll r p ⌝ }
 {
     let mut t = p.places;
-    t = visits::visited(t, r.visits.first);
-    t = visits::visited(t, r.visits.second);
-    t = visits::visited(t, r.more.first);
-    t = visits::visited(t, r.more.second);
+    t = port::visits::visited(t, r.visits.first);
+    t = port::visits::visited(t, r.visits.second);
+    t = port::visits::visited(t, r.more.first);
+    t = port::visits::visited(t, r.more.second);
     parts::with_places(p, t)
 }
 
@@ -46,7 +46,7 @@ pub fn visit_each(p: Pair, r: Outcome) -> Pair
 pub fn visit_only(p: Pair, r: Outcome) -> Pair
     ensures { λ q. ⌜ q ≡ pick (onlyWait (p .places)) (visitedAll r p) p ⌝ }
 {
-    let t = visits::visited_alone(p.places, r);
+    let t = port::visits::visited_alone(p.places, r);
     parts::with_places(p, t)
 }
 
@@ -82,7 +82,7 @@ fn visit(p: Pair, r: Outcome) -> Pair
 
 // The step of a call with this outcome: the waits are visited where one can fire.
 pub fn settle(p: Pair, r: Outcome) -> Step
-    ensures { λ s. ⌜ s ≡ settled r p ⌝ }
+    ensures { λ s. ⌜ s ≡ settledStep r p ⌝ }
 {
     let answer = r.answer;
     Step {
@@ -95,7 +95,7 @@ pub fn settle(p: Pair, r: Outcome) -> Step
 pub fn without_waits(p: Pair, handle: u32) -> Pair
     ensures { λ r. ⌜ r ≡ withoutWaits (isOne handle) p ⌝ }
 {
-    let n = port::drop_waits(p.places, handle == 1);
+    let n = port::waits::drop_waits(p.places, handle == 1);
     let places = n.places;
     parts::with_places(p, places)
 }
@@ -104,11 +104,11 @@ pub fn without_waits(p: Pair, handle: u32) -> Pair
 pub fn close_waits(p: Pair, handle: u32, r: Outcome) -> Pair
     ensures { λ q. ⌜ q ≡ visitedAll r (withoutWaits (isOne handle) p) ⌝ }
 {
-    let n = port::drop_waits(p.places, handle == 1);
+    let n = port::waits::drop_waits(p.places, handle == 1);
     let mut t = n.places;
-    t = visits::visited(t, r.visits.first);
-    t = visits::visited(t, r.visits.second);
-    t = visits::visited(t, r.more.first);
-    t = visits::visited(t, r.more.second);
+    t = port::visits::visited(t, r.visits.first);
+    t = port::visits::visited(t, r.visits.second);
+    t = port::visits::visited(t, r.more.first);
+    t = port::visits::visited(t, r.more.second);
     parts::with_places(p, t)
 }

@@ -1,12 +1,12 @@
 // The parts of a pair: its ends by the caller's handle, and its places. `one` names an end: true is end 1.
-use crate::Pair;
-use endpoint::Endpoint;
-use endpoint::SignalWord;
-use ends::Ends;
-use ends_tests::is_handle;
-use places::Places;
+use answers::tests::is_handle;
+use definition::Endpoint;
+use definition::Ends;
+use definition::Pair;
+use definition::Places;
+use definition::SignalWord;
 ghost use mathlib.Core.Path.{_≡_};
-ghost use Rattle.socket.specs.Pair.{own, endsOf, shownBy, withPlaces};
+ghost use Rattle.definition.specs.Pair.{own, endsOf, shownBy, withPlaces};
 
 // The pair without its table of places, of which every answer but that of take is made.
 pub fn ends_of(p: Pair) -> Ends
@@ -26,7 +26,7 @@ pub fn ends_of(p: Pair) -> Ends
 
 // End 1 if asked for it, else end 2.
 pub fn own(p: Pair, one: bool) -> Endpoint
-    ensures { λ r. ⌜ r ≡ own one p ⌝ }
+    ensures { λ r. ⌜ r ≡ own one (endsOf p) ⌝ }
 {
     if one {
         let e = p.one;
@@ -53,15 +53,13 @@ pub fn with_places(p: Pair, places: Places) -> Pair
     }
 }
 
-impl Pair {
-    // The word that the end of a handle shows.
-    pub fn signal(self, handle: u32) -> SignalWord
-        ensures { λ r. ⌜ r ≡ shownBy self handle ⌝ }
-    {
-        if !is_handle(handle) {
-            return SignalWord::Closed;
-        }
-        let e = own(self, handle == 1);
-        e.shown()
+// The word that the end of a handle shows.
+pub fn signal(p: Pair, handle: u32) -> SignalWord
+    ensures { λ r. ⌜ r ≡ shownBy p handle ⌝ }
+{
+    if !is_handle(handle) {
+        return SignalWord::Closed;
     }
+    let e = own(p, handle == 1);
+    endpoint::end::shown(e)
 }

@@ -1,16 +1,15 @@
 // Waits and their packets. Whether a call is done is passed on to the table, so that the next table is made by the same statements in either case.
-use crate::Pair;
-use crate::Step;
 use crate::parts;
-use status::Answer;
-use status::is_done;
+use definition::Answer;
+use definition::Pair;
+use definition::Step;
+use endpoint::answer::is_done;
 ghost use mathlib.Core.Path.{_≡_};
-ghost use Rattle.status.specs.Choice.{pick};
-ghost use Rattle.status.specs.Answer.{isDone};
-ghost use Rattle.places.specs.Table.{unused, onlyPacket};
-ghost use Rattle.socket.specs.Pair.{isOne};
-ghost use Rattle.socket.specs.Tests.{Steps};
-ghost use Rattle.socket.specs.Wait.{waitAnswer, waited, takeAnswer, took};
+ghost use Rattle.definition.specs.Status.{pick, isDone};
+ghost use Rattle.port.specs.places.Table.{unused, onlyPacket};
+ghost use Rattle.definition.specs.Pair.{isOne, endsOf};
+ghost use Rattle.definition.specs.Tests.{Steps};
+ghost use Rattle.definition.specs.Wait.{waitAnswer, waited, takeAnswer, took};
 ghost use Rattle.socket.specs.Deferred.{registeredPair, takenPair};
 
 // The pair with a wait more, if the answer is done.
@@ -20,7 +19,7 @@ pub fn registered(p: Pair, a: Answer, handle: u32, key: u64, mask: u32, edge: u8
     let one = handle == 1;
     let e = parts::own(p, one);
     let places = p.places;
-    let next = port::registered(places, is_done(a), one, e.signals, key, mask, edge == 1);
+    let next = port::waits::registered(places, is_done(a), one, e.signals, key, mask, edge == 1);
     parts::with_places(p, next)
 }
 
@@ -28,7 +27,7 @@ pub fn registered(p: Pair, a: Answer, handle: u32, key: u64, mask: u32, edge: u8
 pub fn is_unused(p: Pair) -> bool
     ensures { λ r. ⌜ r ≡ unused (p .places) ⌝ }
 {
-    places::is_unused(p.places.packets, p.places.waits)
+    port::places::is_unused(p.places.packets, p.places.waits)
 }
 
 // The same as `registered` for a pair of which no place is used.
@@ -38,7 +37,15 @@ pub fn registered_first(p: Pair, a: Answer, handle: u32, key: u64, mask: u32, ed
     let one = handle == 1;
     let e = parts::own(p, one);
     let places = p.places;
-    let next = port::first_registered(places, is_done(a), one, e.signals, key, mask, edge == 1);
+    let next = port::waits::first_registered(
+        places,
+        is_done(a),
+        one,
+        e.signals,
+        key,
+        mask,
+        edge == 1,
+    );
     parts::with_places(p, next)
 }
 
@@ -46,12 +53,12 @@ pub fn registered_first(p: Pair, a: Answer, handle: u32, key: u64, mask: u32, ed
 pub fn take_answer(p: Pair) -> Answer
     ensures { λ r. ⌜ r ≡ takeAnswer p ⌝ }
 {
-    let a = ends_tests::sound_test(parts::ends_of(p));
+    let a = answers::tests::sound_test(parts::ends_of(p));
     if !is_done(a) {
         return a;
     }
     let places = p.places;
-    packets::oldest(places)
+    port::packets::oldest(places)
 }
 
 // The pair without its oldest packet, if the answer is done.
@@ -59,7 +66,7 @@ pub fn taken(p: Pair, a: Answer) -> Pair
     ensures { λ r. ⌜ r ≡ takenPair (isDone a) p ⌝ }
 {
     let places = p.places;
-    let next = packets::taken(places, is_done(a));
+    let next = port::packets::taken(places, is_done(a));
     parts::with_places(p, next)
 }
 
@@ -67,7 +74,7 @@ pub fn taken(p: Pair, a: Answer) -> Pair
 pub fn has_only_packet(p: Pair) -> bool
     ensures { λ r. ⌜ r ≡ onlyPacket (p .places) ⌝ }
 {
-    places::is_only_packet(p.places.packets, p.places.waits)
+    port::places::is_only_packet(p.places.packets, p.places.waits)
 }
 
 // The same as `taken` for a pair whose only place used is a packet.
@@ -75,30 +82,28 @@ pub fn taken_only(p: Pair, a: Answer) -> Pair
     ensures { λ r. ⌜ r ≡ pick (onlyPacket (p .places)) (takenPair (isDone a) p) p ⌝ }
 {
     let places = p.places;
-    let next = packets::only_taken(places, is_done(a));
+    let next = port::packets::only_taken(places, is_done(a));
     parts::with_places(p, next)
 }
 
-impl Pair {
-    // Registers a wait of an end. It may fire now, by the word as it is; with edge 1 only a later change fires it.
-    pub fn wait(self, handle: u32, key: u64, mask: u32, edge: u8) -> Step
-        ensures { λ r. ⌜ Steps self (waitAnswer self handle edge) (waited (isOne handle) key mask edge self) r ⌝ }
-    {
-        let a = answers::wait_answer(parts::ends_of(self), handle, edge);
-        Step {
-            pair: registered(self, a, handle, key, mask, edge),
-            answer: a,
-        }
+// Registers a wait of an end. It may fire now, by the word as it is; with edge 1 only a later change fires it.
+pub fn wait(p: Pair, handle: u32, key: u64, mask: u32, edge: u8) -> Step
+    ensures { λ r. ⌜ Steps p (waitAnswer (endsOf p) handle edge) (waited (isOne handle) key mask edge p) r ⌝ }
+{
+    let a = answers::control::wait_answer(parts::ends_of(p), handle, edge);
+    Step {
+        pair: registered(p, a, handle, key, mask, edge),
+        answer: a,
     }
+}
 
-    // Takes the oldest packet.
-    pub fn take(self) -> Step
-        ensures { λ r. ⌜ Steps self (takeAnswer self) (took self) r ⌝ }
-    {
-        let a = take_answer(self);
-        Step {
-            pair: taken(self, a),
-            answer: a,
-        }
+// Takes the oldest packet.
+pub fn take(p: Pair) -> Step
+    ensures { λ r. ⌜ Steps p (takeAnswer p) (took p) r ⌝ }
+{
+    let a = take_answer(p);
+    Step {
+        pair: taken(p, a),
+        answer: a,
     }
 }

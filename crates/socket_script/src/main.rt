@@ -1,13 +1,12 @@
 // A script from standard input; its listing to standard output. Both go in large blocks.
-use buffer::Progress;
+use buffer::buffer::Progress;
 ghost use Prim.Native.Nat.{_≤_};
 ghost use mathlib.Core.Path.{_≡_};
 ghost use lib.ListN.{length, take};
-ghost use Rattle.text.specs.Put.{place};
-ghost use Rattle.plain_call.specs.Rings.{rings};
-ghost use Rattle.script.specs.Listing.{header, closing};
-ghost use Rattle.blocks.specs.Drain.{ReadIn, DrainMay, held, Drained};
-ghost use Rattle.blocks.specs.Run.{RunMay, RunDone};
+ghost use Rattle.definition_script.specs.Call.{writtenAt, rings};
+ghost use Rattle.definition_script.specs.Listing.{header, closing};
+ghost use Rattle.buffer.specs.blocks.Drain.{ReadIn, DrainMay, held, Drained};
+ghost use Rattle.buffer.specs.blocks.BlocksRun.{RunMay, RunDone};
 
 const STDIN: i32 = 0;
 
@@ -66,7 +65,7 @@ fn drain(
     let mut q = p;
     loop {
         let used = q.used;
-        q = buffer::advance(
+        q = buffer::buffer::advance(
             q,
             buffer,
             memory,
@@ -88,20 +87,20 @@ fn drain(
 // The first line.
 fn begin(out: &mut [u8])
     requires { ⌜ 22 ≤ length (now out) ⌝ }
-    ensures { λ _. ⌜ now (out .exit) ≡ place 0 header (now (out .entry)) ⌝ }
+    ensures { λ _. ⌜ now (out .exit) ≡ writtenAt 0 header (now (out .entry)) ⌝ }
 {
-    let n = script::header(out);
+    let n = listing::script::header(out);
     put(out, n);
 }
 
 // The end of the input.
 fn finish(p: Progress, buffer: &[u8], out: &mut [u8])
     requires { ⌜ (p .used ≤ length (now buffer)) × (26 ≤ length (now out)) ⌝ }
-    ensures { λ _. ⌜ now (out .exit) ≡ place 0 (closing (p .offset) (p .state .ended) (take (p .used) (now (buffer .entry)))) (now (out .entry)) ⌝ }
+    ensures { λ _. ⌜ now (out .exit) ≡ writtenAt 0 (closing (p .offset) (p .state .ended) (take (p .used) (now (buffer .entry)))) (now (out .entry)) ⌝ }
 {
     let st = p.state;
     let used = p.used;
-    let n = script::finish(st, p.offset, &buffer[0..used], out);
+    let n = listing::script::finish(st, p.offset, &buffer[0..used], out);
     put(out, n);
 }
 
@@ -118,7 +117,7 @@ fn run(
     requires { ⌜ RunMay (now memory) (rings (now «ring_one») (now «table_one») (now «ring_two») (now «table_two»)) (now buffer) (now out) ⌝ }
     ensures { λ _. ⌜ RunDone (now (memory .entry)) (rings (now («ring_one» .entry)) (now («table_one» .entry)) (now («ring_two» .entry)) (now («table_two» .entry))) (now (buffer .entry)) (now (out .entry)) (now (memory .exit)) (rings (now («ring_one» .exit)) (now («table_one» .exit)) (now («ring_two» .exit)) (now («table_two» .exit))) (now (buffer .exit)) (now (out .exit)) ⌝ }
 {
-    let mut p = buffer::first();
+    let mut p = buffer::buffer::first();
     let mut reading = true;
     begin(out);
     while reading {
@@ -138,7 +137,7 @@ fn run(
             table_two,
             out,
         );
-        if !blocks::reads_on(p.state.ended, p.offset) {
+        if !buffer::blocks::reads_on(p.state.ended, p.offset) {
             reading = false;
         }
     }

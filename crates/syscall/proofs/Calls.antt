@@ -8,33 +8,28 @@ use lib.ListN.{length, take, drop, length-take, length-drop}
 use lib.Seq.{length-paste}
 use lib.Dec.{eqb}
 use borrow.Author.Tests.{eq-eqb, ne-eqb, eqb-true, eqb-false}
-use Rattle.status.specs.declared.Answer.{Answer}
-use Rattle.status.specs.declared.Answer.the-variants.{Done, Refused}
-use Rattle.status.specs.Choice.{pick}
-use Rattle.status.specs.Answer.{countOf, isDone}
-use Rattle.status.proofs.Rules.{pick-on, pick-off}
-use Rattle.status.proofs.Chains.{counted}
-use Rattle.ring.proofs.Laws.{length-front}
-use Rattle.endpoint.specs.Queue.{firstLength}
-use Rattle.ends.specs.Outcome.{outcomeOf}
-use Rattle.transfer_read.specs.Read.{readEnds, EndsRead, bufferRead as endsBufferRead}
-use Rattle.transfer_write.specs.Write.{wroteEnds, EndsWrote, ringFed, ringWritten as endsRingWritten, tableWritten as endsTableWritten}
-use Rattle.ends.specs.declared.Ends.{Ends}
-use Rattle.ends.specs.declared.Outcome.{Outcome}
-use Rattle.transfer_read.proofs.Moved.{read-drains}
-use Rattle.socket.specs.declared.Pair.{Pair}
-use Rattle.socket.specs.declared.Step.{Step}
-use Rattle.socket.specs.Pair.{isOne, endsOf, own, peer}
-use Rattle.socket.specs.Tests.{lentOf}
-use Rattle.socket.specs.Write.{writeAnswer, ringWritten, tableWritten}
-use Rattle.socket.specs.Read.{readAnswer, bufferRead}
+use Rattle.definition.specs.declared.Answer.{Answer}
+use Rattle.definition.specs.declared.Answer.the-variants.{Done, Refused}
+use Rattle.definition.specs.Status.{pick, countOf, isDone}
+use Rattle.endpoint.proofs.answer.Rules.{pick-on, pick-off}
+use Rattle.endpoint.proofs.answer.Chains.{counted}
+use Rattle.ring.proofs.copy.Laws.{length-front, put-take}
+use Rattle.definition.specs.Tests.{firstLength, lentOf}
+use Rattle.endpoint.specs.ends.Outcome.{outcomeOf}
+use Rattle.transfer.specs.read.ReadEnds.{readEnds, EndsRead}
+use Rattle.definition.specs.Read.{bufferRead as endsBufferRead, readAnswer, bufferRead, isPeek, userReadAnswer, bytesLanded, BytesRead, UserRead}
+use Rattle.transfer.specs.write.WriteEnds.{wroteEnds, EndsWrote}
+use Rattle.definition.specs.Write.{ringFed, ringWritten as endsRingWritten, tableWritten as endsTableWritten, writeAnswer, ringWritten, tableWritten, userWriteAnswer}
+use Rattle.definition.specs.declared.Ends.{Ends}
+use Rattle.endpoint.specs.declared.ends.Outcome.{Outcome}
+use Rattle.transfer.proofs.read.Moved.{read-drains}
+use Rattle.definition.specs.declared.Pair.{Pair}
+use Rattle.definition.specs.declared.Step.{Step}
+use Rattle.definition.specs.Pair.{isOne, endsOf, own, peer}
 use Rattle.syscall.specs.Ends.{pairOf, EndsUserWrote, EndsBytesRead, EndsUserRead}
-use Rattle.user_memory.specs.Memory.{countFits, countLanded, countPut}
-use Rattle.syscall.specs.Write.{userWriteAnswer}
-use Rattle.syscall.specs.Read.{isPeek, userReadAnswer, bytesLanded, BytesRead, UserRead}
-use Rattle.ring.proofs.Lists.{copied-part}
-use Rattle.ring.proofs.Laws.{put-take}
-use Rattle.user_memory.proofs.Landed.{fits-in, count-put}
+use Rattle.definition.specs.Memory.{countFits, countLanded, countPut}
+use Rattle.ring.proofs.copy.Lists.{copied-part}
+use Rattle.user_answers.proofs.memory.Landed.{fits-in, count-put}
 use Rattle.syscall.proofs.Passed.{read-passed, write-passed}
 
 -- a refused call moves nothing
@@ -47,39 +42,39 @@ none-moved (Refused s) e = refl
 
 -- a count of 0 changes no slice
 pub taken-none : (p : Pair) (h m : ℕ) (src ring table : List ℕ) → m ≡ 0
-    → (ring ≡ ringWritten p h m src ring) × (table ≡ tableWritten p h m table)
+    → (ring ≡ ringWritten (endsOf p) h m src ring) × (table ≡ tableWritten (endsOf p) h m table)
 unfolding endsRingWritten endsTableWritten
 taken-none p h m src ring table z =
     let t : eqb m 0 ≡ true = eq-eqb m 0 z in
     (pick-on _ _ _ _ _ t refl, pick-on _ _ _ _ _ t refl)
 
 -- of src, only the first m bytes matter
-ring-part : (p : Pair) (h m : ℕ) (src ring : List ℕ) → m ≤ length src → ringWritten p h m (take m src) ring ≡ ringWritten p h m src ring
+ring-part : (p : Pair) (h m : ℕ) (src ring : List ℕ) → m ≤ length src → ringWritten (endsOf p) h m (take m src) ring ≡ ringWritten (endsOf p) h m src ring
 unfolding endsRingWritten ringFed
 ring-part p h m src ring has = rw (put-take (p .capacity) _ m src ring has) refl
 
 -- the write of the part of memory that is taken takes it all
 pub taken-all : (e : Ends) (h k : ℕ) (a : Answer) (memory ring ring′ table table′ : List ℕ) (at : ℕ) (r : Outcome)
     → EndsWrote e h (take k (drop at memory)) ring ring′ table table′ r
-    → writeAnswer (pairOf e) (lentOf (e .datagram) (peer (isOne h) (pairOf e) .queue) ring table) h (countOf a) ≡ a
+    → writeAnswer (endsOf (pairOf e)) (lentOf (e .datagram) (peer (isOne h) (endsOf (pairOf e)) .queue) ring table) h (countOf a) ≡ a
     → k ≡ countOf a → at + countOf a ≤ length memory
-    → (r ≡ wroteEnds e h a) × (ring′ ≡ ringWritten (pairOf e) h (countOf a) (drop at memory) ring)
-    × (table′ ≡ tableWritten (pairOf e) h (countOf a) table)
+    → (r ≡ wroteEnds e h a) × (ring′ ≡ ringWritten (endsOf (pairOf e)) h (countOf a) (drop at memory) ring)
+    × (table′ ≡ tableWritten (endsOf (pairOf e)) h (countOf a) table)
 taken-all e h k a memory ring ring′ table table′ at r w whole same room =
     let has : length (drop at memory) ≡ length memory - at = length-drop at memory in
     let n : length (take k (drop at memory)) ≡ countOf a = simp (length-take, length-drop) (omega arith) in
     let is : r .answer ≡ a
-    = w .answer ∙ ap (writeAnswer (pairOf e) (lentOf (e .datagram) (peer (isOne h) (pairOf e) .queue) ring table) h) n ∙ whole in
-    let fed : ring′ ≡ ringWritten (pairOf e) h (countOf a) (drop at memory) ring
+    = w .answer ∙ ap (writeAnswer (endsOf (pairOf e)) (lentOf (e .datagram) (peer (isOne h) (endsOf (pairOf e)) .queue) ring table) h) n ∙ whole in
+    let fed : ring′ ≡ ringWritten (endsOf (pairOf e)) h (countOf a) (drop at memory) ring
     = w .bytes ∙ rw (is, same) (ring-part (pairOf e) h (countOf a) (drop at memory) ring (omega arith)) in
-    (w .next ∙ ap (wroteEnds e h) is, fed, w .lengths ∙ ap (λ (x : Answer). tableWritten (pairOf e) h (countOf x) table) is)
+    (w .next ∙ ap (wroteEnds e h) is, fed, w .lengths ∙ ap (λ (x : Answer). tableWritten (endsOf (pairOf e)) h (countOf x) table) is)
 
 -- a write that was answered x
 module _ (e : Ends) (h base options address n countAt : ℕ) (memory ring table : List ℕ) (x : Answer) (r : Outcome)
-    (told : x ≡ userWriteAnswer (pairOf e) (lentOf (e .datagram) (peer (isOne h) (pairOf e) .queue) ring table) h base (length memory) options address n countAt)
+    (told : x ≡ userWriteAnswer (endsOf (pairOf e)) (lentOf (e .datagram) (peer (isOne h) (endsOf (pairOf e)) .queue) ring table) h base (length memory) options address n countAt)
     (next : r ≡ wroteEnds e h x) where
-  wrote-by : (memory′ ring′ table′ : List ℕ) → ring′ ≡ ringWritten (pairOf e) h (countOf x) (drop (address - base) memory) ring
-      → table′ ≡ tableWritten (pairOf e) h (countOf x) table
+  wrote-by : (memory′ ring′ table′ : List ℕ) → ring′ ≡ ringWritten (endsOf (pairOf e)) h (countOf x) (drop (address - base) memory) ring
+      → table′ ≡ tableWritten (endsOf (pairOf e)) h (countOf x) table
       → memory′ ≡ pick (isDone x) (countLanded base countAt (countOf x) memory) memory
       → EndsUserWrote e h base options address n countAt memory memory′ ring ring′ table table′ r
   unfolding wroteEnds outcomeOf
@@ -93,8 +88,8 @@ module _ (e : Ends) (h base options address n countAt : ℕ) (memory ring table 
       wrote-by memory ring table (w .0) (w .1) (pick-off _ _ _ _ _ d refl)
 
   pub wrote-some : (m : ℕ) (memory′ ring′ table′ : List ℕ) → isDone x ≡ true → m ≡ countOf x
-      → ring′ ≡ ringWritten (pairOf e) h (countOf x) (drop (address - base) memory) ring
-      → table′ ≡ tableWritten (pairOf e) h (countOf x) table
+      → ring′ ≡ ringWritten (endsOf (pairOf e)) h (countOf x) (drop (address - base) memory) ring
+      → table′ ≡ tableWritten (endsOf (pairOf e)) h (countOf x) table
       → memory′ ≡ countPut base countAt m memory
       → EndsUserWrote e h base options address n countAt memory memory′ ring ring′ table table′ r
   wrote-some m memory′ ring′ table′ d k b c u =
@@ -109,7 +104,7 @@ unfolding bytesLanded
 none-landed p h base address k ring memory z = sym (pick-on _ _ _ _ _ (eq-eqb k 0 z) refl)
 
 module _ (p : Pair) (h base options address n countAt : ℕ) (ring table memory : List ℕ) (x : Answer)
-    (e : x ≡ userReadAnswer p (lentOf (p .datagram) (own (isOne h) p .queue) ring table) h base (length memory) options address n countAt) where
+    (e : x ≡ userReadAnswer (endsOf p) (lentOf (p .datagram) (own (isOne h) (endsOf p) .queue) ring table) h base (length memory) options address n countAt) where
   -- the part of memory that a read may fill
   pub read-room : (countOf x ≡ 0 → ⊥) → (base ≤ address) × (address - base + n ≤ length memory)
   read-room z =
@@ -118,8 +113,8 @@ module _ (p : Pair) (h base options address n countAt : ℕ) (ring table memory 
 
   -- the read of that part reads the same, and its bytes land
   pub read-some : (k : ℕ) (buffer′ : List ℕ) (y : Answer) → (countOf x ≡ 0 → ⊥) → k ≡ n
-      → y ≡ readAnswer p (lentOf (p .datagram) (own (isOne h) p .queue) ring table) h (length (take k (drop (address - base) memory)))
-      → buffer′ ≡ bufferRead p h (countOf y) ring (take k (drop (address - base) memory))
+      → y ≡ readAnswer (endsOf p) (lentOf (p .datagram) (own (isOne h) (endsOf p) .queue) ring table) h (length (take k (drop (address - base) memory)))
+      → buffer′ ≡ bufferRead (endsOf p) h (countOf y) ring (take k (drop (address - base) memory))
       → (y ≡ x)
       × (take (address - base) memory ++ (buffer′ ++ drop k (drop (address - base) memory)) ≡ bytesLanded p h base address (countOf y) ring memory)
   unfolding endsBufferRead bytesLanded
@@ -127,7 +122,7 @@ module _ (p : Pair) (h base options address n countAt : ℕ) (ring table memory 
       let w = read-passed p _ h base (length memory) options address n countAt x e (counted x z) in
       let room = read-room z in
       let size : length (take k (drop (address - base) memory)) ≡ n = simp (length-take, length-drop) (omega (arith, room .1)) in
-      let is : y ≡ x = a ∙ ap (readAnswer p (lentOf (p .datagram) (own (isOne h) p .queue) ring table) h) size ∙ sym (w .plain) in
+      let is : y ≡ x = a ∙ ap (readAnswer (endsOf p) (lentOf (p .datagram) (own (isOne h) (endsOf p) .queue) ring table) h) size ∙ sym (w .plain) in
       let t : eqb (countOf y) 0 ≡ false = ne-eqb (countOf y) 0 (λ q. z (ap countOf (sym is) ∙ q)) in (
         is,
         pick-off _ _ _ _ _ t
@@ -148,9 +143,9 @@ module _ (p : Pair) (h base options address n countAt : ℕ) (ring table memory 
           let room = read-room z in
           let part : List ℕ = take n (drop (address - base) memory) in
           let size : length part ≡ n = simp (length-take, length-drop) (omega (arith, room .1)) in
-          let lent = lentOf (p .datagram) (own (isOne h) p .queue) ring table in
-          let d = read-drains (endsOf p) h ring table part x (countOf x) (w .plain ∙ ap (readAnswer p lent h) (sym size)) refl z in
-          let has = length-front (p .capacity) (own (isOne h) p .queue .bytes .start) (countOf x) ring (d .drain .start) (d .most) (d .long) in
+          let lent = lentOf (p .datagram) (own (isOne h) (endsOf p) .queue) ring table in
+          let d = read-drains (endsOf p) h ring table part x (countOf x) (w .plain ∙ ap (readAnswer (endsOf p) lent h) (sym size)) refl z in
+          let has = length-front (p .capacity) (own (isOne h) (endsOf p) .queue .bytes .start) (countOf x) ring (d .drain .start) (d .most) (d .long) in
           ap length (sym (pick-off _ _ _ _ _ f refl))
           ∙ length-paste memory (address - base) _ (countOf x) (omega (arith, w .most, room .1)) (omega (arith, has))
 
@@ -186,9 +181,9 @@ count-after p h base options address n countAt ring table memory memory′ memor
 -- the same of the two ends
 module _ (e : Ends) (h base options address n countAt : ℕ) (ring table memory : List ℕ) where
   pub ends-none : (x : Answer) (r : Outcome)
-      → x ≡ userReadAnswer (pairOf e) (lentOf (e .datagram) (own (isOne h) (pairOf e) .queue) ring table) h base (length memory) options address n countAt
+      → x ≡ userReadAnswer (endsOf (pairOf e)) (lentOf (e .datagram) (own (isOne h) (endsOf (pairOf e)) .queue) ring table) h base (length memory) options address n countAt
       → countOf x ≡ 0
-      → r ≡ readEnds e h (isPeek options) (firstLength (e .datagram) (own (isOne h) (pairOf e) .queue) table) x
+      → r ≡ readEnds e h (isPeek options) (firstLength (e .datagram) (own (isOne h) (endsOf (pairOf e)) .queue) table) x
       → EndsBytesRead e h base options address n countAt ring table memory memory r
   unfolding readEnds outcomeOf
   ends-none x r told z next =
@@ -196,7 +191,7 @@ module _ (e : Ends) (h base options address n countAt : ℕ) (ring table memory 
       (record { answer = told; next = refl; user = sym (none-landed (pairOf e) h base address (countOf x) ring memory z) })
 
   pub ends-some : (x : Answer) (r : Outcome) (k : ℕ) (buffer′ : List ℕ)
-      → x ≡ userReadAnswer (pairOf e) (lentOf (e .datagram) (own (isOne h) (pairOf e) .queue) ring table) h base (length memory) options address n countAt
+      → x ≡ userReadAnswer (endsOf (pairOf e)) (lentOf (e .datagram) (own (isOne h) (endsOf (pairOf e)) .queue) ring table) h base (length memory) options address n countAt
       → (countOf x ≡ 0 → ⊥) → k ≡ n
       → EndsRead e h (isPeek options) ring table (take k (drop (address - base) memory)) buffer′ r
       → EndsBytesRead e h base options address n countAt ring table memory

@@ -6,41 +6,30 @@ use mathlib.Core.Bool.{Bool, true, false}
 use native.Mathlib.Omega.{arith}
 use lib.Dec.{ltb}
 use borrow.Author.Tests.{ltb-false, le-ltb}
-use Rattle.status.specs.declared.Status.{Status}
-use Rattle.status.specs.declared.Record.the-variants.{Count}
-use Rattle.status.specs.declared.Answer.{Answer}
-use Rattle.status.specs.declared.Answer.the-variants.{Done}
-use Rattle.status.specs.Choice.{pick}
-use Rattle.status.specs.Answer.{isDone, countOf, recordCount, refuseIf, refuseUnless, _then_, ok}
-use Rattle.status.proofs.Rules.{refuse-off, pass-last, pass-unless}
-use Rattle.status.proofs.Chains.{then-both, then-is, refuse-passed, unless-passed}
-use Rattle.endpoint.specs.declared.Endpoint.{Endpoint}
-use Rattle.write_size.specs.Write.{datagramSize, writeSize}
-use Rattle.sizes.specs.Read.{readSize}
-use Rattle.answers.specs.Disposition.{disposeAnswer as endsDisposeAnswer}
-use Rattle.read_answer.specs.Read.{readAnswer as endsReadAnswer}
-use Rattle.ends_tests.specs.Tests.{openingTest, handleTest as endsHandleTest}
-use Rattle.write_answer.specs.Write.{writeAnswer}
-use Rattle.ends_tests.proofs.Sound.{SoundEnds, sound-passed}
-use Rattle.transfer_write.proofs.Moved.{write-fits}
-use Rattle.transfer_read.proofs.Moved.{read-fits}
-use Rattle.socket.specs.declared.Pair.{Pair}
-use Rattle.socket.specs.Pair.{isOne, endsOf, own, peer}
-use Rattle.socket.specs.Tests.{Lent, handleTest}
-use Rattle.socket.specs.Read.{readAnswer}
-use Rattle.socket.specs.Disposition.{disposeAnswer, shutdownAnswer}
-use Rattle.user_memory.specs.Memory.{fits, countFits}
-use Rattle.user_answers.specs.Lookup.{lookup}
-use Rattle.user_write_answer.specs.Write.{writeRanges, userWriteAnswer as endsUserWriteAnswer}
-use Rattle.user_read_answer.specs.Read.{userReadAnswer as endsUserReadAnswer}
-use Rattle.user_answers.specs.Control.{userDisposeAnswer as endsUserDisposeAnswer, userShutdownAnswer as endsUserShutdownAnswer}
-use Rattle.syscall.specs.Write.{userWriteAnswer, Taking}
-use Rattle.syscall.specs.Read.{userReadAnswer}
-use Rattle.syscall.specs.Control.{dispositionOf, userDisposeAnswer, userShutdownAnswer}
-use Rattle.user_memory.proofs.Landed.{fits-in}
+use Rattle.definition.specs.declared.Status.{Status}
+use Rattle.definition.specs.declared.Record.the-variants.{Count}
+use Rattle.definition.specs.declared.Answer.{Answer}
+use Rattle.definition.specs.declared.Answer.the-variants.{Done}
+use Rattle.definition.specs.Status.{pick, isDone, countOf, recordCount, refuseIf, refuseUnless, _then_, ok}
+use Rattle.endpoint.proofs.answer.Rules.{refuse-off, pass-last, pass-unless}
+use Rattle.endpoint.proofs.answer.Chains.{then-both, then-is, refuse-passed, unless-passed}
+use Rattle.definition.specs.declared.Endpoint.{Endpoint}
+use Rattle.definition.specs.Write.{datagramSize, writeSize, writeAnswer, writeRanges, userWriteAnswer as endsUserWriteAnswer, userWriteAnswer}
+use Rattle.definition.specs.Read.{readSize, readAnswer as endsReadAnswer, readAnswer, userReadAnswer as endsUserReadAnswer, userReadAnswer}
+use Rattle.definition.specs.Disposition.{disposeAnswer as endsDisposeAnswer, disposeAnswer, userDisposeAnswer as endsUserDisposeAnswer, dispositionOf, userDisposeAnswer}
+use Rattle.definition.specs.Tests.{openingTest, handleTest as endsHandleTest, Lent, handleTest}
+use Rattle.answers.proofs.tests.Sound.{SoundEnds, sound-passed}
+use Rattle.transfer.proofs.write.Moved.{write-fits}
+use Rattle.transfer.proofs.read.Moved.{read-fits}
+use Rattle.definition.specs.declared.Pair.{Pair}
+use Rattle.definition.specs.Pair.{isOne, endsOf, own, peer}
+use Rattle.definition.specs.Shutdown.{shutdownAnswer, userShutdownAnswer as endsUserShutdownAnswer, userShutdownAnswer}
+use Rattle.definition.specs.Memory.{fits, countFits, lookup}
+use Rattle.syscall.specs.Taking.{Taking}
+use Rattle.user_answers.proofs.memory.Landed.{fits-in}
 
 -- a lookup that passed: the handle is open, and the rest is what the call without user memory asks
-handle-passed : (p : Pair) (h right : ℕ) → isDone (lookup (endsOf p) h right) ≡ true → isDone (handleTest p h) ≡ true
+handle-passed : (p : Pair) (h right : ℕ) → isDone (lookup (endsOf p) h right) ≡ true → isDone (handleTest (endsOf p) h) ≡ true
 unfolding lookup
 handle-passed p h right d = then-both _ _ d .0
 
@@ -115,7 +104,7 @@ pub record WritePassed (p : Pair) (z : Lent) (h base size address countAt : ℕ)
   pub count : countFits base size countAt ≡ true
 
 pub write-passed : (p : Pair) (z : Lent) (h base size options address n countAt : ℕ) (x : Answer)
-    → x ≡ userWriteAnswer p z h base size options address n countAt → isDone x ≡ true → WritePassed p z h base size address countAt x
+    → x ≡ userWriteAnswer (endsOf p) z h base size options address n countAt → isDone x ≡ true → WritePassed p z h base size address countAt x
 unfolding endsUserWriteAnswer writeAnswer
 write-passed p z h base size options address n countAt x e d =
     let s = then-both _ _ (ap isDone (sym e) ∙ d) in
@@ -124,7 +113,7 @@ write-passed p z h base size options address n countAt x e d =
     let u = then-both _ _ (o .1) in
     let f = then-both _ _ (u .1) in
     let r = ranges-passed base size address countAt _ (f .1) in
-    let is : x ≡ writeSize (p .datagram) (p .capacity) (own (isOne h) p) (peer (isOne h) p) n
+    let is : x ≡ writeSize (p .datagram) (p .capacity) (own (isOne h) (endsOf p)) (peer (isOne h) (endsOf p)) n
     = e ∙ then-is _ _ (s .0) ∙ then-is _ _ (l .0) ∙ then-is _ _ (o .0) ∙ then-is _ _ (u .0) ∙ then-is _ _ (f .0) ∙ r .rest in
     let lies = fits-in base size address (countOf x) (rw is (r .bytes)) in
     record {
@@ -137,7 +126,7 @@ write-passed p z h base size options address n countAt x e d =
                 then-is _ _ (s .0)
                 ∙ then-is _ _ (l .0)
                 ∙ then-is _ _ (handle-passed p h 2 (f .0))
-                ∙ write-again (p .datagram) (p .capacity) (own (isOne h) p) (peer (isOne h) p) n (countOf x) (r .sized) (ap countOf is)
+                ∙ write-again (p .datagram) (p .capacity) (own (isOne h) (endsOf p)) (peer (isOne h) (endsOf p)) n (countOf x) (r .sized) (ap countOf is)
                 ∙ sym is;
           };
       count = r .count;
@@ -148,13 +137,13 @@ write-passed p z h base size options address n countAt x e d =
 -- a read that is done: it is the read without user memory
 pub record ReadPassed (p : Pair) (z : Lent) (h base size address n countAt : ℕ) (x : Answer) : Type 0 where
   pub sound : SoundEnds (endsOf p)
-  pub plain : x ≡ readAnswer p z h n
+  pub plain : x ≡ readAnswer (endsOf p) z h n
   pub most : countOf x ≤ n
   pub bytes : fits base size address n ≡ true
   pub count : countFits base size countAt ≡ true
 
 pub read-passed : (p : Pair) (z : Lent) (h base size options address n countAt : ℕ) (x : Answer)
-    → x ≡ userReadAnswer p z h base size options address n countAt → isDone x ≡ true → ReadPassed p z h base size address n countAt x
+    → x ≡ userReadAnswer (endsOf p) z h base size options address n countAt → isDone x ≡ true → ReadPassed p z h base size address n countAt x
 unfolding endsUserReadAnswer endsReadAnswer
 read-passed p z h base size options address n countAt x e d =
     let s = then-both _ _ (ap isDone (sym e) ∙ d) in
@@ -164,7 +153,7 @@ read-passed p z h base size options address n countAt x e d =
     let f = then-both _ _ (o .1) in
     let b = then-both _ _ (f .1) in
     let c = then-both _ _ (b .1) in
-    let is : x ≡ readSize (p .datagram) (own (isOne h) p) (peer (isOne h) p) (z .first) n
+    let is : x ≡ readSize (p .datagram) (own (isOne h) (endsOf p)) (peer (isOne h) (endsOf p)) (z .first) n
     = e
     ∙ then-is _ _ (s .0)
     ∙ then-is _ _ (l .0)
@@ -173,7 +162,7 @@ read-passed p z h base size options address n countAt x e d =
     ∙ then-is _ _ (f .0)
     ∙ then-is _ _ (b .0)
     ∙ then-is _ _ (c .0) in
-    let some = read-fits (p .datagram) (own (isOne h) p) (peer (isOne h) p) (z .first) n (c .1) .1 in
+    let some = read-fits (p .datagram) (own (isOne h) (endsOf p)) (peer (isOne h) (endsOf p)) (z .first) n (c .1) .1 in
     record {
       sound = sound-passed (endsOf p) (s .0);
       plain = is ∙ sym (then-is _ _ (s .0) ∙ then-is _ _ (l .0) ∙ then-is _ _ (handle-passed p h 1 (f .0)));
@@ -191,8 +180,8 @@ unless-ok b s d = sym (pass-unless b s (unless-passed b s d))
 refuse-ok : (b : Bool) (s : Status) → isDone (refuseIf b s) ≡ true → refuseIf b s ≡ ok
 refuse-ok b s d = sym (pass-last b s (refuse-passed b s d))
 
-pub dispose-passed : (p : Pair) (h a b : ℕ) → isDone (userDisposeAnswer p h a b) ≡ true
-    → disposeAnswer p h (dispositionOf a) (dispositionOf b) ≡ userDisposeAnswer p h a b
+pub dispose-passed : (p : Pair) (h a b : ℕ) → isDone (userDisposeAnswer (endsOf p) h a b) ≡ true
+    → disposeAnswer (endsOf p) h (dispositionOf a) (dispositionOf b) ≡ userDisposeAnswer (endsOf p) h a b
 unfolding endsUserDisposeAnswer endsDisposeAnswer openingTest
 dispose-passed p h a b d =
     let s = then-both _ _ d in
@@ -203,7 +192,7 @@ dispose-passed p h a b d =
     then-is _ _ (ap isDone (then-is _ _ (s .0)) ∙ o)
     ∙ sym (then-is _ _ (s .0) ∙ then-is _ _ (u .0) ∙ then-is _ _ (v .0) ∙ then-is _ _ (f .0))
 
-pub shutdown-passed : (p : Pair) (h : ℕ) → isDone (userShutdownAnswer p h) ≡ true → shutdownAnswer p h ≡ userShutdownAnswer p h
+pub shutdown-passed : (p : Pair) (h : ℕ) → isDone (userShutdownAnswer (endsOf p) h) ≡ true → shutdownAnswer p h ≡ userShutdownAnswer (endsOf p) h
 unfolding endsUserShutdownAnswer shutdownAnswer openingTest lookup endsHandleTest
 shutdown-passed p h d =
     let s = then-both _ _ d in

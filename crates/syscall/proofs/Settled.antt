@@ -4,25 +4,22 @@ use mathlib.Core.Path.{_≡_, refl, sym, ap, subst, _∙_}
 use mathlib.Core.Bool.{true}
 use mathlib.Core.List.{List}
 use lib.ListN.{length}
-use Rattle.status.specs.Choice.{pick}
-use Rattle.status.specs.Answer.{countOf, isDone}
-use Rattle.status.proofs.Chains.{counted}
-use Rattle.places.specs.Table.{sound}
-use Rattle.endpoint.specs.Queue.{firstLength}
-use Rattle.transfer_read.specs.Read.{readEnds}
-use Rattle.ends.specs.declared.Ends.{Ends}
-use Rattle.ends.specs.declared.Outcome.{Outcome}
-use Rattle.socket.specs.declared.Pair.{Pair}
-use Rattle.socket.specs.declared.Step.{Step}
-use Rattle.socket.specs.Pair.{isOne, own, endsOf}
-use Rattle.socket.specs.Tests.{lentOf}
-use Rattle.socket.specs.Read.{pairRead}
-use Rattle.socket.specs.Deferred.{settled}
+use Rattle.definition.specs.Status.{pick, countOf, isDone}
+use Rattle.endpoint.proofs.answer.Chains.{counted}
+use Rattle.definition.specs.Port.{sound}
+use Rattle.definition.specs.Tests.{firstLength, lentOf}
+use Rattle.transfer.specs.read.ReadEnds.{readEnds}
+use Rattle.definition.specs.declared.Ends.{Ends}
+use Rattle.endpoint.specs.declared.ends.Outcome.{Outcome}
+use Rattle.definition.specs.declared.Pair.{Pair}
+use Rattle.definition.specs.declared.Step.{Step}
+use Rattle.definition.specs.Pair.{isOne, own, endsOf}
+use Rattle.definition.specs.Read.{pairRead, isPeek, userReadAnswer, bytesLanded, BytesRead, UserRead}
+use Rattle.socket.specs.Deferred.{settledStep}
 use Rattle.socket.proofs.Settled.{wrote-settled, read-settled}
 use Rattle.syscall.specs.Ends.{pairOf, EndsUserWrote, EndsBytesRead, EndsUserRead}
-use Rattle.user_memory.specs.Memory.{countLanded}
-use Rattle.syscall.specs.Write.{UserWrote}
-use Rattle.syscall.specs.Read.{isPeek, userReadAnswer, bytesLanded, BytesRead, UserRead}
+use Rattle.definition.specs.Memory.{countLanded}
+use Rattle.definition.specs.Write.{UserWrote}
 use Rattle.syscall.proofs.Passed.{write-passed, read-passed}
 use Rattle.syscall.proofs.Same.{same-write, same-read, same-landed}
 
@@ -30,7 +27,7 @@ module _ (p : Pair) (h base options address n countAt : ℕ) (e : Ends) (r : Out
     (f : e ≡ endsOf p) where
   pub wrote-whole : (memory memory′ ring ring′ table table′ : List ℕ)
       → EndsUserWrote e h base options address n countAt memory memory′ ring ring′ table table′ r
-      → UserWrote p h base options address n countAt memory memory′ ring ring′ table table′ (settled r p)
+      → UserWrote p h base options address n countAt memory memory′ ring ring′ table table′ (settledStep r p)
   wrote-whole memory memory′ ring ring′ table table′ u =
       let a = r .answer in
       let w = subst (λ (k : Ends). EndsUserWrote k h base options address n countAt memory memory′ ring ring′ table table′ r) f u in
@@ -50,16 +47,16 @@ module _ (p : Pair) (h base options address n countAt : ℕ) (e : Ends) (r : Out
   module _ (ring table memory memory′ : List ℕ) where
     -- the first queued length of the ends
     abbrev firstOf : Ends → ℕ
-    firstOf k = firstLength (k .datagram) (own (isOne h) (pairOf k) .queue) table
+    firstOf k = firstLength (k .datagram) (own (isOne h) (endsOf (pairOf k)) .queue) table
 
     -- the answer and the step
-    read-is : r .answer ≡ userReadAnswer (pairOf e) (lentOf (e .datagram) (own (isOne h) (pairOf e) .queue) ring table) h base (length memory) options address n countAt
+    read-is : r .answer ≡ userReadAnswer (endsOf (pairOf e)) (lentOf (e .datagram) (own (isOne h) (endsOf (pairOf e)) .queue) ring table) h base (length memory) options address n countAt
         → r ≡ readEnds e h (isPeek options) (firstOf e) (r .answer)
-        → (r .answer ≡ userReadAnswer p (lentOf (p .datagram) (own (isOne h) p .queue) ring table) h base (length memory) options address n countAt)
-        × (settled r p ≡ record { pair = pairRead p h (isPeek options) (firstLength (p .datagram) (own (isOne h) p .queue) table) (countOf (r .answer)); answer = r .answer })
+        → (r .answer ≡ userReadAnswer (endsOf p) (lentOf (p .datagram) (own (isOne h) (endsOf p) .queue) ring table) h base (length memory) options address n countAt)
+        × (settledStep r p ≡ record { pair = pairRead p h (isPeek options) (firstLength (p .datagram) (own (isOne h) (endsOf p) .queue) table) (countOf (r .answer)); answer = r .answer })
     read-is answer next =
         let a = r .answer in
-        let told = subst (λ (k : Ends). a ≡ userReadAnswer (pairOf k) (lentOf (k .datagram) (own (isOne h) (pairOf k) .queue) ring table) h base (length memory) options address n countAt) f answer in
+        let told = subst (λ (k : Ends). a ≡ userReadAnswer (endsOf (pairOf k)) (lentOf (k .datagram) (own (isOne h) (endsOf (pairOf k)) .queue) ring table) h base (length memory) options address n countAt) f answer in
         let x = told ∙ same-read p h base (length memory) options address n countAt ring table in
         let s : (countOf a ≡ 0 → ⊥) → sound (p .places) ≡ true
         = λ (z : countOf a ≡ 0 → ⊥). read-passed p _ h base (length memory) options address n countAt a x (counted a z) .sound .places in
@@ -72,14 +69,14 @@ module _ (p : Pair) (h base options address n countAt : ℕ) (e : Ends) (r : Out
         ∙ same-landed p h base address (countOf (r .answer)) ring memory
 
     pub bytes-whole : EndsBytesRead e h base options address n countAt ring table memory memory′ r
-        → BytesRead p h base options address n countAt ring table memory memory′ (settled r p)
+        → BytesRead p h base options address n countAt ring table memory memory′ (settledStep r p)
     bytes-whole w =
         let x = read-is (w .answer) (w .next) in
         subst (λ (k : Step). BytesRead p h base options address n countAt ring table memory memory′ k) (sym (x .1))
         (record { answer = x .0; pair = refl; user = w .user ∙ landed-is })
 
     pub read-whole : EndsUserRead e h base options address n countAt ring table memory memory′ r
-        → UserRead p h base options address n countAt ring table memory memory′ (settled r p)
+        → UserRead p h base options address n countAt ring table memory memory′ (settledStep r p)
     read-whole w =
         let x = read-is (w .answer) (w .next) in
         subst (λ (k : Step). UserRead p h base options address n countAt ring table memory memory′ k) (sym (x .1))

@@ -1,26 +1,24 @@
 -- The calls over user memory by the two ends of a pair: no answer looks at the table of places. 01 "Calls over user memory".
 use Prim.Native.Nat.{ℕ, _-_}
+use mathlib.Core.List.{[], List}
 use mathlib.Core.Path.{_≡_}
-use mathlib.Core.List.{List, []}
 use lib.ListN.{length, drop}
-use Rattle.status.specs.Choice.{pick}
-use Rattle.status.specs.Answer.{isDone, countOf}
-use Rattle.ends.specs.declared.Ends.{Ends}
-use Rattle.ends.specs.declared.Outcome.{Outcome}
-use Rattle.ends.specs.Outcome.{unchangedEnds}
-use Rattle.control_disposition.specs.Disposition.{disposeEnds}
-use Rattle.control.specs.Shutdown.{shutEnds}
-use Rattle.endpoint.specs.Queue.{firstLength}
-use Rattle.transfer_write.specs.Write.{wroteEnds}
-use Rattle.transfer_read.specs.Read.{readEnds}
-use Rattle.socket.specs.declared.Pair.{Pair}
-use Rattle.socket.specs.Pair.{isOne, own, peer}
-use Rattle.socket.specs.Tests.{lentOf}
-use Rattle.socket.specs.Write.{ringWritten, tableWritten}
-use Rattle.user_memory.specs.Memory.{countLanded}
-use Rattle.syscall.specs.Write.{userWriteAnswer}
-use Rattle.syscall.specs.Read.{isPeek, userReadAnswer, bytesLanded}
-use Rattle.syscall.specs.Control.{dispositionOf, userDisposeAnswer, shutsRead, shutsWrite, userShutdownAnswer}
+use Rattle.definition.specs.declared.Ends.{Ends}
+use Rattle.definition.specs.declared.Pair.{Pair}
+use Rattle.endpoint.specs.declared.ends.Outcome.{Outcome}
+use Rattle.definition.specs.Status.{pick, isDone, countOf}
+use Rattle.transfer.specs.write.WriteEnds.{wroteEnds}
+use Rattle.definition.specs.Pair.{isOne, peer, endsOf, own}
+use Rattle.definition.specs.Tests.{lentOf, firstLength}
+use Rattle.definition.specs.Write.{ringWritten, tableWritten, userWriteAnswer}
+use Rattle.definition.specs.Memory.{countLanded}
+use Rattle.transfer.specs.read.ReadEnds.{readEnds}
+use Rattle.definition.specs.Read.{isPeek, userReadAnswer, bytesLanded}
+use Rattle.endpoint.specs.ends.Outcome.{unchangedEnds}
+use Rattle.control.specs.disposition.DispositionEnds.{disposeEnds}
+use Rattle.definition.specs.Disposition.{dispositionOf, userDisposeAnswer}
+use Rattle.control.specs.ends.ShutdownEnds.{shutEnds}
+use Rattle.definition.specs.Shutdown.{shutsRead, shutsWrite, userShutdownAnswer}
 
 -- a pair of these ends
 abbrev pub pairOf : Ends → Pair
@@ -38,22 +36,22 @@ pairOf e =
 -- a write: its answer, the two ends by its answer, and each slice. The law `wrote-whole` of proofs/Settled: once the waits are visited this is
 -- `UserWrote`.
 pub record EndsUserWrote (e : Ends) (h base options address n countAt : ℕ) (memory memory′ ring ring′ table table′ : List ℕ) (r : Outcome) : Type 0 where
-  pub answer : r .answer ≡ userWriteAnswer (pairOf e) (lentOf (e .datagram) (peer (isOne h) (pairOf e) .queue) ring table) h base (length memory) options address n countAt
+  pub answer : r .answer ≡ userWriteAnswer (endsOf (pairOf e)) (lentOf (e .datagram) (peer (isOne h) (endsOf (pairOf e)) .queue) ring table) h base (length memory) options address n countAt
   pub next : r ≡ wroteEnds e h (r .answer)
-  pub bytes : ring′ ≡ ringWritten (pairOf e) h (countOf (r .answer)) (drop (address - base) memory) ring
-  pub lengths : table′ ≡ tableWritten (pairOf e) h (countOf (r .answer)) table
+  pub bytes : ring′ ≡ ringWritten (endsOf (pairOf e)) h (countOf (r .answer)) (drop (address - base) memory) ring
+  pub lengths : table′ ≡ tableWritten (endsOf (pairOf e)) h (countOf (r .answer)) table
   pub user : memory′ ≡ pick (isDone (r .answer)) (countLanded base countAt (countOf (r .answer)) memory) memory
 
 -- a read or peek, but for its count. The law `bytes-whole` of proofs/Settled: once the waits are visited this is `BytesRead`.
 pub record EndsBytesRead (e : Ends) (h base options address n countAt : ℕ) (ring table memory memory′ : List ℕ) (r : Outcome) : Type 0 where
-  pub answer : r .answer ≡ userReadAnswer (pairOf e) (lentOf (e .datagram) (own (isOne h) (pairOf e) .queue) ring table) h base (length memory) options address n countAt
-  pub next : r ≡ readEnds e h (isPeek options) (firstLength (e .datagram) (own (isOne h) (pairOf e) .queue) table) (r .answer)
+  pub answer : r .answer ≡ userReadAnswer (endsOf (pairOf e)) (lentOf (e .datagram) (own (isOne h) (endsOf (pairOf e)) .queue) ring table) h base (length memory) options address n countAt
+  pub next : r ≡ readEnds e h (isPeek options) (firstLength (e .datagram) (own (isOne h) (endsOf (pairOf e)) .queue) table) (r .answer)
   pub user : memory′ ≡ bytesLanded (pairOf e) h base address (countOf (r .answer)) ring memory
 
 -- a read or peek. The law `read-whole` of proofs/Settled: once the waits are visited this is `UserRead`.
 pub record EndsUserRead (e : Ends) (h base options address n countAt : ℕ) (ring table memory memory′ : List ℕ) (r : Outcome) : Type 0 where
-  pub answer : r .answer ≡ userReadAnswer (pairOf e) (lentOf (e .datagram) (own (isOne h) (pairOf e) .queue) ring table) h base (length memory) options address n countAt
-  pub next : r ≡ readEnds e h (isPeek options) (firstLength (e .datagram) (own (isOne h) (pairOf e) .queue) table) (r .answer)
+  pub answer : r .answer ≡ userReadAnswer (endsOf (pairOf e)) (lentOf (e .datagram) (own (isOne h) (endsOf (pairOf e)) .queue) ring table) h base (length memory) options address n countAt
+  pub next : r ≡ readEnds e h (isPeek options) (firstLength (e .datagram) (own (isOne h) (endsOf (pairOf e)) .queue) table) (r .answer)
   pub user :
       memory′
       ≡ pick (isDone (r .answer)) (countLanded base countAt (countOf (r .answer)) (bytesLanded (pairOf e) h base address (countOf (r .answer)) ring memory)) memory
@@ -61,11 +59,11 @@ pub record EndsUserRead (e : Ends) (h base options address n countAt : ℕ) (rin
 -- the outcome of a disposition by the answer: a refused call changes nothing
 unfoldable pub userDisposeEnds : Ends → (h disposition peerDisposition : ℕ) → Outcome
 userDisposeEnds e h a b =
-    let x = userDisposeAnswer (pairOf e) h a b in
+    let x = userDisposeAnswer (endsOf (pairOf e)) h a b in
     pick (isDone x) (disposeEnds e h (dispositionOf a) (dispositionOf b)) (unchangedEnds e x)
 
 -- the outcome of a shutdown
 unfoldable pub userShutEnds : Ends → (h options : ℕ) → Outcome
 userShutEnds e h options =
-    let x = userShutdownAnswer (pairOf e) h in
+    let x = userShutdownAnswer (endsOf (pairOf e)) h in
     pick (isDone x) (shutEnds e h (shutsRead options) (shutsWrite options)) (unchangedEnds e x)

@@ -1,21 +1,21 @@
 // The calls over user memory that change the two ends and leave the visit of the waits for later.
-use ends::Ends;
-use ends::Outcome;
-use ends::unchanged;
-use status::Answer;
-use user_answers::Buffer;
-use user_memory::land_count;
-use user_read_answer::SOCKET_PEEK;
+use definition::Answer;
+use definition::Ends;
+use endpoint::ends::Outcome;
+use endpoint::ends::unchanged;
+use user_answers::lookup::Buffer;
+use user_answers::memory::land_count;
+use user_answers::read::SOCKET_PEEK;
 ghost use mathlib.Core.Path.{_≡_};
 ghost use Prim.Native.Nat.{_-_};
 ghost use lib.ListN.{length, drop};
-ghost use Rattle.status.specs.Answer.{countOf};
-ghost use Rattle.transfer_write.specs.Write.{wroteEnds};
-ghost use Rattle.socket.specs.Pair.{isOne, peer};
-ghost use Rattle.socket.specs.Tests.{lentOf};
-ghost use Rattle.socket.specs.Write.{ringWritten, tableWritten};
+ghost use Rattle.definition.specs.Status.{countOf};
+ghost use Rattle.transfer.specs.write.WriteEnds.{wroteEnds};
+ghost use Rattle.definition.specs.Pair.{isOne, peer, endsOf};
+ghost use Rattle.definition.specs.Tests.{lentOf};
+ghost use Rattle.definition.specs.Write.{ringWritten, tableWritten};
 ghost use Rattle.syscall.specs.Ends.{pairOf, EndsUserWrote, EndsBytesRead, EndsUserRead, userDisposeEnds, userShutEnds};
-ghost use Rattle.syscall.specs.Write.{Taking};
+ghost use Rattle.syscall.specs.Taking.{Taking};
 
 // The bits of a shutdown's options; others are ignored.
 const SHUTDOWN_WRITE: u32 = 1;
@@ -33,16 +33,16 @@ fn write_bytes(
     ring: &mut [u8],
     table: &mut [u32],
 ) -> Outcome
-    requires { ⌜ Taking (pairOf p) handle base (length (now memory)) address a (lentOf (p .datagram) (peer (isOne handle) (pairOf p) .queue) (now ring) (now table)) ⌝ }
-    ensures { λ r. ⌜ (r ≡ wroteEnds p handle a) × (now (ring .exit) ≡ ringWritten (pairOf p) handle (countOf a) (drop (address - base) (now (memory .entry))) (now (ring .entry))) × (now (table .exit) ≡ tableWritten (pairOf p) handle (countOf a) (now (table .entry))) ⌝ }
+    requires { ⌜ Taking (pairOf p) handle base (length (now memory)) address a (lentOf (p .datagram) (peer (isOne handle) (endsOf (pairOf p)) .queue) (now ring) (now table)) ⌝ }
+    ensures { λ r. ⌜ (r ≡ wroteEnds p handle a) × (now (ring .exit) ≡ ringWritten (endsOf (pairOf p)) handle (countOf a) (drop (address - base) (now (memory .entry))) (now (ring .entry))) × (now (table .exit) ≡ tableWritten (endsOf (pairOf p)) handle (countOf a) (now (table .entry))) ⌝ }
 {
-    let m = status::count_of(a);
+    let m = endpoint::answer::count_of(a);
     if m == 0 {
         return unchanged(p, a);
     }
     let from = (address - base) as usize;
     let to = from + m as usize;
-    transfer_write::write_ends(p, handle, ring, table, &memory[from..to])
+    transfer::write::write_ends(p, handle, ring, table, &memory[from..to])
 }
 
 // Writes the bytes of user memory to the peer's queue and lands the count of those taken, but leaves the visit of the waits for later.
@@ -67,12 +67,12 @@ pub fn write_ends(
         count,
         count_at,
     };
-    let a = user_write_answer::write_answer(p, handle, options, b, ring, table);
-    if !status::is_done(a) {
+    let a = user_answers::write::write_answer(p, handle, options, b, ring, table);
+    if !endpoint::answer::is_done(a) {
         return unchanged(p, a);
     }
     let r = write_bytes(p, handle, base, memory, address, a, ring, table);
-    land_count(memory, base, count_at, status::count_of(a));
+    land_count(memory, base, count_at, endpoint::answer::count_of(a));
     r
 }
 
@@ -98,13 +98,13 @@ pub fn read_bytes_ends(
         count,
         count_at,
     };
-    let a = user_read_answer::read_answer(p, handle, options, b, ring, table);
-    if status::count_of(a) == 0 {
+    let a = user_answers::read::read_answer(p, handle, options, b, ring, table);
+    if endpoint::answer::count_of(a) == 0 {
         return unchanged(p, a);
     }
     let from = (address - base) as usize;
     let to = from + count as usize;
-    transfer_read::read_ends(
+    transfer::read::read_ends(
         p,
         handle,
         options == SOCKET_PEEK,
@@ -142,8 +142,8 @@ pub fn read_ends(
         table,
     );
     let a = r.answer;
-    if status::is_done(a) {
-        land_count(memory, base, count_at, status::count_of(a));
+    if endpoint::answer::is_done(a) {
+        land_count(memory, base, count_at, endpoint::answer::count_of(a));
         return r;
     }
     r
@@ -153,15 +153,15 @@ pub fn read_ends(
 pub fn dispose_ends(e: Ends, handle: u32, disposition: u32, peer_disposition: u32) -> Outcome
     ensures { λ r. ⌜ r ≡ userDisposeEnds e handle disposition «peer_disposition» ⌝ }
 {
-    let a = user_answers::dispose_answer(e, handle, disposition, peer_disposition);
-    if !status::is_done(a) {
+    let a = user_answers::lookup::dispose_answer(e, handle, disposition, peer_disposition);
+    if !endpoint::answer::is_done(a) {
         return unchanged(e, a);
     }
-    control_disposition::dispose_ends(
+    control::disposition::dispose_ends(
         e,
         handle,
-        user_answers::disposition_of(disposition),
-        user_answers::disposition_of(peer_disposition),
+        user_answers::lookup::disposition_of(disposition),
+        user_answers::lookup::disposition_of(peer_disposition),
     )
 }
 
@@ -170,11 +170,11 @@ pub fn dispose_ends(e: Ends, handle: u32, disposition: u32, peer_disposition: u3
 pub fn shutdown_ends(e: Ends, handle: u32, options: u32) -> Outcome
     ensures { λ r. ⌜ r ≡ userShutEnds e handle options ⌝ }
 {
-    let a = user_answers::shutdown_answer(e, handle);
-    if !status::is_done(a) {
+    let a = user_answers::lookup::shutdown_answer(e, handle);
+    if !endpoint::answer::is_done(a) {
         return unchanged(e, a);
     }
-    let read = endpoint::has_bit(options, SHUTDOWN_READ);
-    let write = endpoint::has_bit(options, SHUTDOWN_WRITE);
-    control::shutdown_ends(e, handle, read, write)
+    let read = endpoint::end::has_bit(options, SHUTDOWN_READ);
+    let write = endpoint::end::has_bit(options, SHUTDOWN_WRITE);
+    control::ends::shutdown_ends(e, handle, read, write)
 }

@@ -1,14 +1,14 @@
 // Calls over user memory: one slice that the caller lends, at a 64-bit base. After zircon-syscall's socket.rs.
-use socket::Pair;
-use socket::Step;
+use definition::Pair;
+use definition::Step;
 use socket::ends_of;
 use socket::settle;
-ghost use Rattle.socket.specs.Pair.{isOne};
-ghost use Rattle.socket.specs.Tests.{Steps};
-ghost use Rattle.socket.specs.Disposition.{disposed, shut};
-ghost use Rattle.syscall.specs.Write.{UserWrote};
-ghost use Rattle.syscall.specs.Read.{BytesRead, UserRead};
-ghost use Rattle.syscall.specs.Control.{dispositionOf, userDisposeAnswer, userShutdownAnswer, shutsRead, shutsWrite};
+ghost use Rattle.definition.specs.Pair.{isOne, endsOf};
+ghost use Rattle.definition.specs.Tests.{Steps};
+ghost use Rattle.definition.specs.Disposition.{disposed, dispositionOf, userDisposeAnswer};
+ghost use Rattle.definition.specs.Shutdown.{shut, userShutdownAnswer, shutsRead, shutsWrite};
+ghost use Rattle.definition.specs.Write.{UserWrote};
+ghost use Rattle.definition.specs.Read.{BytesRead, UserRead};
 
 mod deferred;
 
@@ -110,7 +110,7 @@ pub fn read(
 
 // Disables or enables the writing of an end and of its peer, by numbers.
 pub fn set_disposition(p: Pair, handle: u32, disposition: u32, peer_disposition: u32) -> Step
-    ensures { λ r. ⌜ Steps p (userDisposeAnswer p handle disposition «peer_disposition») (disposed (isOne handle) (dispositionOf disposition) (dispositionOf «peer_disposition») p) r ⌝ }
+    ensures { λ r. ⌜ Steps p (userDisposeAnswer (endsOf p) handle disposition «peer_disposition») (disposed (isOne handle) (dispositionOf disposition) (dispositionOf «peer_disposition») p) r ⌝ }
 {
     let r = dispose_ends(ends_of(p), handle, disposition, peer_disposition);
     settle(p, r)
@@ -118,7 +118,7 @@ pub fn set_disposition(p: Pair, handle: u32, disposition: u32, peer_disposition:
 
 // Prevents reading or writing by the end of a handle, by bits; an open peer gets the negated flags.
 pub fn shutdown(p: Pair, handle: u32, options: u32) -> Step
-    ensures { λ r. ⌜ Steps p (userShutdownAnswer p handle) (shut (isOne handle) (shutsRead options) (shutsWrite options) p) r ⌝ }
+    ensures { λ r. ⌜ Steps p (userShutdownAnswer (endsOf p) handle) (shut (isOne handle) (shutsRead options) (shutsWrite options) p) r ⌝ }
 {
     let r = shutdown_ends(ends_of(p), handle, options);
     settle(p, r)

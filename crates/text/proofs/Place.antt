@@ -1,4 +1,4 @@
--- Laws of text put into a list at a place, and of writers called one after the other. Assumes nothing.
+-- Laws of text put into a list at a writtenAt, and of writers called one after the other. Assumes nothing.
 use Prim.Native.Nat.{ℕ, suc, _+_, _-_, _≤_, _<_}
 use native.Mathlib.Omega.{arith}
 use mathlib.Core.Path.{_≡_, refl, sym, ap, _∙_, subst}
@@ -8,22 +8,23 @@ use lib.ListN.{length, take, drop, getD, set, length-append, length-take, length
 use lib.Seq.{take-suc, take-at, drop-at, drop-append-add, drop-drop, set-at, length-take-le}
 use lib.Dec.{leb}
 use borrow.Author.Tests.{leb-true, leb-false}
-use Rattle.text.specs.Put.{place, Put, Fit, Written, Room}
+use Rattle.definition_script.specs.Call.{writtenAt}
+use Rattle.text.specs.Put.{Put, Fit, Written, Room}
 
-pub place-none : (at : ℕ) (l : List ℕ) → place at [] l ≡ l
-unfolding place
+pub place-none : (at : ℕ) (l : List ℕ) → writtenAt at [] l ≡ l
+unfolding writtenAt
 place-none at l = ap (λ (k : ℕ). take at l ++ drop k l) (let e : at + 0 ≡ at = omega arith in e) ∙ take-append-drop at l
 
 head : (at : ℕ) (xs l : List ℕ) → at ≤ length l → length (take at l ++ xs) ≡ at + length xs
 head at xs l h = length-append (take at l) xs ∙ ap (λ (k : ℕ). k + length xs) (length-take-le at l h)
 
-pub place-length : (at : ℕ) (xs l : List ℕ) → at + length xs ≤ length l → length (place at xs l) ≡ length l
-unfolding place
+pub place-length : (at : ℕ) (xs l : List ℕ) → at + length xs ≤ length l → length (writtenAt at xs l) ≡ length l
+unfolding writtenAt
 place-length at xs l h = simp (length-append, length-take, length-drop) (omega arith)
 
 -- two texts, the second behind the first, are one
-pub place-place : (at : ℕ) (xs ys l : List ℕ) → at + length xs ≤ length l → place (at + length xs) ys (place at xs l) ≡ place at (xs ++ ys) l
-unfolding place
+pub place-place : (at : ℕ) (xs ys l : List ℕ) → at + length xs ≤ length l → writtenAt (at + length xs) ys (writtenAt at xs l) ≡ writtenAt at (xs ++ ys) l
+unfolding writtenAt
 place-place at xs ys l h =
     let p : List ℕ = take at l ++ xs in
     let n : ℕ = at + length xs in
@@ -43,8 +44,8 @@ place-place at xs ys l h =
     ∙ ap (λ (z : List ℕ). take at l ++ z) (sym (append-assoc xs ys (drop (at + length (xs ++ ys)) l)))
 
 -- one byte stored before a text
-pub place-cons : (at v : ℕ) (ys l : List ℕ) → at + suc (length ys) ≤ length l → set (place (suc at) ys l) at v ≡ place at (v ∷ ys) l
-unfolding place
+pub place-cons : (at v : ℕ) (ys l : List ℕ) → at + suc (length ys) ≤ length l → set (writtenAt (suc at) ys l) at v ≡ writtenAt at (v ∷ ys) l
+unfolding writtenAt
 place-cons at v ys l h =
     let r : List ℕ = ys ++ drop (suc at + length ys) l in
     ap (λ (z : List ℕ). set (z ++ r) at v) (take-suc l at 0 (omega arith))
@@ -52,13 +53,13 @@ place-cons at v ys l h =
     ∙ set-at (take at l) (getD l at 0) r v at (length-take-le at l (omega arith))
     ∙ ap (λ (k : ℕ). take at l ++ (v ∷ (ys ++ drop k l))) (let e : suc at + length ys ≡ at + suc (length ys) = omega arith in e)
 
-pub place-one : (at v : ℕ) (l : List ℕ) → at < length l → set l at v ≡ place at (v ∷ []) l
+pub place-one : (at v : ℕ) (l : List ℕ) → at < length l → set l at v ≡ writtenAt at (v ∷ []) l
 place-one at v l h = ap (λ (z : List ℕ). set z at v) (sym (place-none (suc at) l)) ∙ place-cons at v [] l (omega arith)
 
 -- one byte stored behind a text
-pub place-snoc : (at v : ℕ) (xs l : List ℕ) → at + length xs < length l → set (place at xs l) (at + length xs) v ≡ place at (xs ++ (v ∷ [])) l
+pub place-snoc : (at v : ℕ) (xs l : List ℕ) → at + length xs < length l → set (writtenAt at xs l) (at + length xs) v ≡ writtenAt at (xs ++ (v ∷ [])) l
 place-snoc at v xs l h =
-    place-one (at + length xs) v (place at xs l) (rw (place-length at xs l (omega arith)) h) ∙ place-place at xs (v ∷ []) l (omega arith)
+    place-one (at + length xs) v (writtenAt at xs l) (rw (place-length at xs l (omega arith)) h) ∙ place-place at xs (v ∷ []) l (omega arith)
 
 -- ---- writers
 
@@ -70,7 +71,7 @@ join j k at r r′ xs ys l l′ l″ p q =
       next = simp length-append (omega (arith, p .next, q .next));
       most = omega (arith, p .most, q .most);
       fits = omega (arith, q .fits, s);
-      out = q .out ∙ ap (λ (z : List ℕ). place r ys z) (p .out) ∙ ap (λ (n : ℕ). place n ys (place at xs l)) (p .next) ∙ place-place at xs ys l h;
+      out = q .out ∙ ap (λ (z : List ℕ). writtenAt r ys z) (p .out) ∙ ap (λ (n : ℕ). writtenAt n ys (writtenAt at xs l)) (p .next) ∙ place-place at xs ys l h;
     }
 
 room : (j k at r : ℕ) (xs l l′ : List ℕ) → Put j at xs r l l′ → at + (j + k) ≤ length l → r + k ≤ length l′
@@ -78,7 +79,7 @@ room j k at r xs l l′ p h =
     let s : length l′ ≡ length l = ap length (p .out) ∙ place-length at xs l (omega (arith, p .next, p .fits)) in
     omega (arith, p .most, s)
 
--- one writer, then another at the place that the first gave
+-- one writer, then another at the writtenAt that the first gave
 pub seq : {j k at r r′ : ℕ} {xs ys l l′ l″ : List ℕ} → Fit j at xs r l l′ → Fit k r ys r′ l′ l″ → Fit (j + k) at (xs ++ ys) r′ l l″
 seq {j} {k} {at} {r} {r′} {xs} {ys} {l} {l′} {l″} p q =
     record {
@@ -120,16 +121,16 @@ room-short len at k h = record { yes = λ e. absurd (never e); no = λ e. omega 
 pub room-test : (len at k : ℕ) → k ≤ len → Room len at k (leb at (len - k))
 room-test len at k h = record { yes = λ e. omega (arith, leb-true at (len - k) e); no = λ e. omega (arith, leb-false at (len - k) e) }
 
--- the text stands in the list up to the place behind it
-pub place-front : (at : ℕ) (xs l : List ℕ) → at ≤ length l → take (at + length xs) (place at xs l) ≡ take at l ++ xs
-unfolding place
+-- the text stands in the list up to the writtenAt behind it
+pub place-front : (at : ℕ) (xs l : List ℕ) → at ≤ length l → take (at + length xs) (writtenAt at xs l) ≡ take at l ++ xs
+unfolding writtenAt
 place-front at xs l h =
     ap (λ (z : List ℕ). take (at + length xs) z) (sym (append-assoc (take at l) xs (drop (at + length xs) l)))
     ∙ take-at (take at l ++ xs) (drop (at + length xs) l) (at + length xs) (head at xs l h)
 
 -- what stands behind it is as before
-pub place-behind : (at : ℕ) (xs l : List ℕ) → at ≤ length l → drop (at + length xs) (place at xs l) ≡ drop (at + length xs) l
-unfolding place
+pub place-behind : (at : ℕ) (xs l : List ℕ) → at ≤ length l → drop (at + length xs) (writtenAt at xs l) ≡ drop (at + length xs) l
+unfolding writtenAt
 place-behind at xs l h =
     ap (λ (z : List ℕ). drop (at + length xs) z) (sym (append-assoc (take at l) xs (drop (at + length xs) l)))
     ∙ drop-at (take at l ++ xs) (drop (at + length xs) l) (at + length xs) (head at xs l h)

@@ -9,12 +9,12 @@ use lib.ListN.{length, take, getD, set, length-append}
 use lib.Seq.{take-suc, length-take-le}
 use lib.Dec.{ltb}
 use borrow.Author.Tests.{lt-ltb, le-ltb, ltb-true, ltb-false}
-use Rattle.status.specs.Choice.{pick}
-use Rattle.text.specs.Put.{place}
-use Rattle.text.specs.Digits.{digitOf, digitsOf, widthBy, widthOf, hexBytesOf}
+use Rattle.definition.specs.Status.{pick}
+use Rattle.definition_script.specs.Call.{writtenAt}
+use Rattle.definition_script.specs.Line.{digitOf, digitsOf, widthBy, widthOf, hexBytesOf}
 use Rattle.text.proofs.Place.{place-none, place-cons, place-snoc}
 
--- what the loop still does to a list, with i digits of n left to be put from a place on
+-- what the loop still does to a list, with i digits of n left to be put from a writtenAt on
 pub back : (base at i n : ℕ) → List ℕ → List ℕ
 back base at zero n l = l
 back base at (suc i) n l = back base at i (n / base) (set l (at + i) (digitOf (n % base)))
@@ -29,15 +29,15 @@ back-step base at zero n l h = absurd (let z : ⊥ = omega arith in z)
 back-step base at (suc i) n l h = let e : suc i - 1 ≡ i = omega arith in rw e refl
 
 back-digits : (base at i n : ℕ) (behind l : List ℕ) → at + i + length behind ≤ length l
-    → back base at i n (place (at + i) behind l) ≡ place at (digitsOf base i n behind) l
+    → back base at i n (writtenAt (at + i) behind l) ≡ writtenAt at (digitsOf base i n behind) l
 unfolding digitsOf back
-back-digits base at zero n behind l h = ap (λ (k : ℕ). place k behind l) (let e : at + 0 ≡ at = omega arith in e)
+back-digits base at zero n behind l h = ap (λ (k : ℕ). writtenAt k behind l) (let e : at + 0 ≡ at = omega arith in e)
 back-digits base at (suc i) n behind l h =
-    ap (λ (k : ℕ). back base at i (n / base) (set (place k behind l) (at + i) (digitOf (n % base)))) (let e : at + suc i ≡ suc (at + i) = omega arith in e)
+    ap (λ (k : ℕ). back base at i (n / base) (set (writtenAt k behind l) (at + i) (digitOf (n % base)))) (let e : at + suc i ≡ suc (at + i) = omega arith in e)
     ∙ ap (λ (z : List ℕ). back base at i (n / base) z) (place-cons (at + i) (digitOf (n % base)) behind l (omega arith))
     ∙ back-digits base at i (n / base) (digitOf (n % base) ∷ behind) l (omega arith)
 
-pub back-is : (base at k n : ℕ) (l : List ℕ) → at + k ≤ length l → back base at k n l ≡ place at (digitsOf base k n []) l
+pub back-is : (base at k n : ℕ) (l : List ℕ) → at + k ≤ length l → back base at k n l ≡ writtenAt at (digitsOf base k n []) l
 back-is base at k n l h = ap (λ (z : List ℕ). back base at k n z) (sym (place-none (at + k) l)) ∙ back-digits base at k n [] l (omega arith)
 
 pub digits-length : (base k n : ℕ) (behind : List ℕ) → length (digitsOf base k n behind) ≡ k + length behind
@@ -96,8 +96,8 @@ hex-bytes-append (x ∷ xs) ys = ap (λ (z : List ℕ). digitOf (x / 16) ∷ dig
 
 -- a turn of the loop that puts two digits for a byte
 pub hex-bytes-turn : (at i to : ℕ) (src l : List ℕ) → i < length src → at + 2 * length src ≤ length l → to ≡ at + 2 * i
-    → set (set (place at (hexBytesOf (take i src)) l) to (digitOf (getD src i 0 / 16))) (to + 1) (digitOf (getD src i 0 % 16))
-    ≡ place at (hexBytesOf (take (i + 1) src)) l
+    → set (set (writtenAt at (hexBytesOf (take i src)) l) to (digitOf (getD src i 0 / 16))) (to + 1) (digitOf (getD src i 0 % 16))
+    ≡ writtenAt at (hexBytesOf (take (i + 1) src)) l
 unfolding hexBytesOf
 hex-bytes-turn at i to src l h g e =
     let b : ℕ = getD src i 0 in
@@ -110,18 +110,18 @@ hex-bytes-turn at i to src l h g e =
     let e₁ : to ≡ at + length x = omega arith in
     let e₂ : to + 1 ≡ at + length y = omega arith in
     let t : take (i + 1) src ≡ take i src ++ (b ∷ []) = rw add-one (take-suc src i 0 h) in
-    ap (λ (k : ℕ). set (set (place at x l) k u) (to + 1) v) e₁
+    ap (λ (k : ℕ). set (set (writtenAt at x l) k u) (to + 1) v) e₁
     ∙ ap (λ (z : List ℕ). set z (to + 1) v) (place-snoc at u x l (omega arith))
-    ∙ ap (λ (k : ℕ). set (place at y l) k v) e₂
+    ∙ ap (λ (k : ℕ). set (writtenAt at y l) k v) e₂
     ∙ place-snoc at v y l (omega arith)
-    ∙ ap (λ (z : List ℕ). place at z l) (append-assoc x (u ∷ []) (v ∷ []) ∙ sym (ap hexBytesOf t ∙ hex-bytes-append (take i src) (b ∷ [])))
+    ∙ ap (λ (z : List ℕ). writtenAt at z l) (append-assoc x (u ∷ []) (v ∷ []) ∙ sym (ap hexBytesOf t ∙ hex-bytes-append (take i src) (b ∷ [])))
 
 -- a turn of the loop that copies
 pub copy-turn : (at i : ℕ) (src l : List ℕ) → i < length src → at + length src ≤ length l
-    → set (place at (take i src) l) (at + i) (getD src i 0) ≡ place at (take (i + 1) src) l
+    → set (writtenAt at (take i src) l) (at + i) (getD src i 0) ≡ writtenAt at (take (i + 1) src) l
 copy-turn at i src l h g =
     let x : List ℕ = take i src in
     let lx : length x ≡ i = length-take-le i src (omega arith) in
-    ap (λ (k : ℕ). set (place at x l) (at + k) (getD src i 0)) (sym lx)
+    ap (λ (k : ℕ). set (writtenAt at x l) (at + k) (getD src i 0)) (sym lx)
     ∙ place-snoc at (getD src i 0) x l (omega arith)
-    ∙ ap (λ (z : List ℕ). place at z l) (sym (rw add-one (take-suc src i 0 h)))
+    ∙ ap (λ (z : List ℕ). writtenAt at z l) (sym (rw add-one (take-suc src i 0 h)))

@@ -1,13 +1,12 @@
 -- The text of an answer's word. Assumes nothing.
 use mathlib.Core.Path.{_≡_, refl}
 use mathlib.Core.List.{_∷_}
-use Rattle.status.specs.declared.Status.{Status}
-use Rattle.status.specs.declared.Status.the-variants.{Internal, NoResources, InvalidArgs, BadHandle, OutOfRange, BadState, ShouldWait, PeerClosed, AccessDenied}
-use Rattle.status.specs.declared.Record.{Record}
-use Rattle.status.specs.declared.Answer.the-variants.{Done, Refused}
-use Rattle.status.specs.Answer.{statusNumber, answerWord, countOf}
-use Rattle.text.specs.Digits.{decimalOf}
-use Rattle.text.specs.Answer.{signedOf, wordOf}
+use Rattle.definition.specs.declared.Status.{Status}
+use Rattle.definition.specs.declared.Status.the-variants.{Internal, NoResources, InvalidArgs, BadHandle, OutOfRange, BadState, ShouldWait, PeerClosed, AccessDenied}
+use Rattle.definition.specs.declared.Record.{Record}
+use Rattle.definition.specs.declared.Answer.the-variants.{Done, Refused}
+use Rattle.definition.specs.Status.{statusNumber, answerWord, countOf}
+use Rattle.definition_script.specs.Line.{decimalOf, signedOf, wordOf}
 
 pub done-word : (d : Record) → decimalOf (countOf (Done d)) ≡ wordOf (Done d)
 unfolding wordOf signedOf answerWord countOf

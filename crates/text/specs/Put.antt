@@ -1,20 +1,17 @@
 -- Text put into a list at a place, and what a writer of text says. It stands for no paragraph of 01: every text of a listing is put so.
 use Prim.Native.Nat.{ℕ, _+_, _≤_, _<_}
 use mathlib.Core.Path.{_≡_}
+use mathlib.Core.List.{List}
 use mathlib.Core.Bool.{Bool, true, false}
-use mathlib.Core.List.{List, _++_}
-use lib.ListN.{length, take, drop}
+use lib.ListN.{length}
+use Rattle.definition_script.specs.Call.{writtenAt}
 
--- the list with xs in place of what stood at the place
-unfoldable pub place : (at : ℕ) → (xs l : List ℕ) → List ℕ
-place at xs l = take at l ++ (xs ++ drop (at + length xs) l)
-
--- xs, at most k bytes, was put into l at a place: r is the place behind it, and l′ the list after
+-- xs, at most k bytes, was put into l at a place: r is the writtenAt behind it, and l′ the list after
 pub record Put (k at : ℕ) (xs : List ℕ) (r : ℕ) (l l′ : List ℕ) : Type 0 where
   pub next : r ≡ at + length xs
   pub most : r ≤ at + k
   pub fits : r ≤ length l
-  pub out : l′ ≡ place at xs l
+  pub out : l′ ≡ writtenAt at xs l
 
 -- where k bytes have room, xs was put: what a function says that calls writers one after the other
 pub record Fit (k at : ℕ) (xs : List ℕ) (r : ℕ) (l l′ : List ℕ) : Type 0 where

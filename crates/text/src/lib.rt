@@ -1,15 +1,15 @@
 // Numbers and bytes as text, put into a lent slice at a place. Each public writer gives the place behind its text; where the slice has no room
 // for the most that the writer could put, it puts nothing and gives its place back.
-use status::Answer;
-use status::Status;
+use definition::Answer;
+use definition::Status;
 ghost use Prim.Native.Nat.{_+_, _*_, _≤_, _<_};
 ghost use mathlib.Core.Path.{_≡_};
 ghost use mathlib.Core.List.{[], _∷_};
 ghost use lib.ListN.{length};
-ghost use Rattle.status.specs.Answer.{statusNumber};
-ghost use Rattle.text.specs.Put.{place, Put, Fit, Written, Room};
-ghost use Rattle.text.specs.Digits.{digitOf, digitsOf, widthOf, decimalOf, hexOf, hexBytesOf};
-ghost use Rattle.text.specs.Answer.{wordOf, stopOf};
+ghost use Rattle.definition.specs.Status.{statusNumber};
+ghost use Rattle.definition_script.specs.Call.{writtenAt};
+ghost use Rattle.text.specs.Put.{Put, Fit, Written, Room};
+ghost use Rattle.definition_script.specs.Line.{digitOf, digitsOf, widthOf, decimalOf, hexOf, hexBytesOf, wordOf, stopOf};
 
 // Whether k bytes have room at a place of a slice that is so long.
 pub fn has_room(len: usize, at: usize, k: usize) -> bool
@@ -33,7 +33,7 @@ pub fn byte(out: &mut [u8], at: usize, b: u8) -> usize
 
 fn copy_in(out: &mut [u8], at: usize, src: &[u8])
     requires { ⌜ at + length (now src) ≤ length (now out) ⌝ }
-    ensures { λ _. ⌜ now (out .exit) ≡ place at (now (src .entry)) (now (out .entry)) ⌝ }
+    ensures { λ _. ⌜ now (out .exit) ≡ writtenAt at (now (src .entry)) (now (out .entry)) ⌝ }
 {
     let n = src.len();
     let mut i = 0;
@@ -76,7 +76,7 @@ fn width(n: u64) -> usize
 
 fn put_decimal(out: &mut [u8], at: usize, k: usize, n: u64)
     requires { ⌜ at + k ≤ length (now out) ⌝ }
-    ensures { λ _. ⌜ now (out .exit) ≡ place at (digitsOf 10 k n []) (now (out .entry)) ⌝ }
+    ensures { λ _. ⌜ now (out .exit) ≡ writtenAt at (digitsOf 10 k n []) (now (out .entry)) ⌝ }
 {
     let mut i = k;
     let mut rest = n;
@@ -89,7 +89,7 @@ fn put_decimal(out: &mut [u8], at: usize, k: usize, n: u64)
 
 fn put_hex(out: &mut [u8], at: usize, k: usize, n: u64)
     requires { ⌜ at + k ≤ length (now out) ⌝ }
-    ensures { λ _. ⌜ now (out .exit) ≡ place at (digitsOf 16 k n []) (now (out .entry)) ⌝ }
+    ensures { λ _. ⌜ now (out .exit) ≡ writtenAt at (digitsOf 16 k n []) (now (out .entry)) ⌝ }
 {
     let mut i = k;
     let mut rest = n;
@@ -182,7 +182,7 @@ pub fn word(out: &mut [u8], at: usize, a: Answer) -> usize
 {
     if has_room(out.len(), at, 21) {
         match a {
-            Answer::Done(_) => decimal(out, at, status::count_of(a) as u64),
+            Answer::Done(_) => decimal(out, at, endpoint::answer::count_of(a) as u64),
             Answer::Refused(s) => negative(out, at, status_number(s)),
         }
     } else {

@@ -1,2 +1,3 @@
--- 01 "Delivered bytes": of what a write and a read change, the case that nothing changes. What else they do is in the crates transfer_write and transfer_read.
-pub mod Transfer
+pub mod change
+pub mod read
+pub mod write

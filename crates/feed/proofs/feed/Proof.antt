@@ -2,7 +2,7 @@ use borrow.Author.Needs.{needs}
 use denote.Ref.{now}
 use mathlib.Core.Path.{sym, _∙_}
 use Rattle.feed.proofs.Feeding.{unready}
-use Rattle.plain_call.specs.Rings.{rings}
+use Rattle.definition_script.specs.Call.{rings}
 use Rattle.feed.proofs.feed.Statement.{statement}
 use Rattle.feed.proofs.feed.Tie as tie
 

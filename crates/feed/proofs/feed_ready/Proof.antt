@@ -6,9 +6,9 @@ use mathlib.Core.Bool.{Bool}
 use mathlib.Core.Path.{_≡_, refl, sym, _∙_, subst}
 use native.Mathlib.Omega.{arith}
 use Rattle.feed.proofs.Feeding.{Ready, ready, SoFar, begins, next, changed-table, changed-ends, left, falls, done-full, done-stay}
-use Rattle.plain_call.specs.Rings.{rings}
-use Rattle.line.specs.Line.{LINE}
-use Rattle.feed.specs.Machine.{machine}
+use Rattle.definition_script.specs.Call.{rings}
+use Rattle.line.specs.line.LineDone.{LINE}
+use Rattle.definition_script.specs.Listing.{machine}
 use Rattle.feed.proofs.feed_ready.Statement.{statement}
 use Rattle.feed.proofs.feed_ready.Tie as tie
 

@@ -1,6 +1,6 @@
 use borrow.Author.Tests.{le-leb, lt-leb}
 use Rattle.feed.specs.Feed.{isReady}
-use Rattle.status.specs.Choice.{_and_}
+use Rattle.definition.specs.Status.{_and_}
 use Rattle.feed.proofs.is_ready.Statement.{statement}
 use Rattle.feed.proofs.is_ready.Tie as tie
 

@@ -35,36 +35,36 @@ use denote.Triple.Entry.{onEntry}
 use denote.Triple.Spec.{Meets, tripleOf}
 use denote.Triple.Table.{entered, cited}
 use denote.Triple.Walked.{says, Stays, stay-dropped, gave-ref, walkOf, AllGo, goes-dropped, goes-gave-ref, Walks, ends-at, walked, walk-meets}
-use Rattle.socket.specs.declared.Pair.{Pair}
-use Rattle.socket.specs.declared.Step.{Step}
-use Rattle.socket.proofs.Pair as T
-use Rattle.socket.proofs.Pair.Laws as T′
-use Rattle.ends.proofs.Outcome as K
-use Rattle.ends.proofs.Outcome.Laws as K′
-use Rattle.ends.proofs.Ends as E
-use Rattle.ends.proofs.Ends.Laws as E′
-use Rattle.kept_pair.proofs.Callees.{pair-one, pair-lawful, outcome-lawful}
-use Rattle.reference_steps.proofs.Steps.{asks, hands, opened, put-back, fills, frees-cell}
+use Rattle.definition.specs.declared.Pair.{Pair}
+use Rattle.definition.specs.declared.Step.{Step}
+use Rattle.definition.proofs.Pair as T
+use Rattle.definition.proofs.Pair.Laws as T′
+use Rattle.endpoint.proofs.ends.Outcome as K
+use Rattle.endpoint.proofs.ends.Outcome.Laws as K′
+use Rattle.definition.proofs.Ends as E
+use Rattle.definition.proofs.Ends.Laws as E′
+use Rattle.kept.proofs.pair.Callees.{pair-one, pair-lawful, outcome-lawful}
+use Rattle.kept.proofs.steps.Steps.{asks, hands, opened, put-back, fills, frees-cell}
 use Rattle.host.proofs.Callees.{ends-lawful, ends-contract, ask-ends, close-ends-contract, ask-close-ends, close-contract, hand-close}
-use Rattle.socket.specs.Pair.{isOne, own}
-use Rattle.host.specs.Host.{Answered}
-use Rattle.socket.specs.Tests.{Steps}
+use Rattle.definition.specs.Pair.{isOne, own}
+use Rattle.definition_runs.specs.Exported.{Answered}
+use Rattle.definition.specs.Tests.{Steps}
 use Rattle.socket.proofs.Visiting.{places-128}
-use Rattle.kept_pair.proofs.Stored.{closed-as}
-use Rattle.socket.specs.Wait.{closeAnswer, closed}
+use Rattle.kept.proofs.pair.Stored.{closed-as}
+use Rattle.definition.specs.Close.{closeAnswer, closed}
 use Rattle.socket.proofs.Closed.{close-whole}
 use Rattle.socket.proofs.ends_of as ends
 use Rattle.socket.proofs.ends_of.Symbol as ends-def
 use Rattle.socket.proofs.ends_of.Symbol.{name as #ends}
 use Rattle.socket.proofs.ends_of.Met as ends-thm
-use Rattle.control.proofs.close_ends as close-ends
-use Rattle.control.proofs.close_ends.Symbol as close-ends-def
-use Rattle.control.proofs.close_ends.Symbol.{name as #close-ends}
-use Rattle.control.proofs.close_ends.Met as close-ends-thm
-use Rattle.kept_pair.proofs.close as close
-use Rattle.kept_pair.proofs.close.Symbol as close-def
-use Rattle.kept_pair.proofs.close.Symbol.{name as #close}
-use Rattle.kept_pair.proofs.close.Met as close-thm
+use Rattle.control.proofs.ends.close_ends as close-ends
+use Rattle.control.proofs.ends.close_ends.Symbol as close-ends-def
+use Rattle.control.proofs.ends.close_ends.Symbol.{name as #close-ends}
+use Rattle.control.proofs.ends.close_ends.Met as close-ends-thm
+use Rattle.kept.proofs.pair.close as close
+use Rattle.kept.proofs.pair.close.Symbol as close-def
+use Rattle.kept.proofs.pair.close.Symbol.{name as #close}
+use Rattle.kept.proofs.pair.close.Met as close-thm
 use Rattle.host.proofs.murgwethan_close.Key.{name as #own}
 use Rattle.host.proofs.murgwethan_close as f
 use Rattle.host.proofs.murgwethan_close.Statement as stated
@@ -132,5 +132,5 @@ murgwethan-close-spec 𝓤 H 𝓜 𝓖 𝓡 =
     (tables 𝓤 H 𝓜 𝓡 code.env .C) (tables 𝓤 H 𝓜 𝓡 code.env .Λ) #own code.function (code.unfolded 𝓤 H 𝓜 𝓡)
     (meets 𝓤 H (𝓖 .A) (givenOf 𝓤 H 𝓜 𝓖) (𝓜 .mem) (𝓡 .run) (tablesOf 𝓤 H 𝓜 (tables 𝓤 H 𝓜 𝓡 code.env))
     (cited 𝓤 H (ends-contract 𝓤 H (𝓖 .A) (𝓜 .mem) (𝓡 .run)) 𝓜 𝓡 code.env #ends ends-def.routine code.calls-socket·ends-of (ends-thm.met 𝓤 H 𝓜 𝓖 𝓡))
-    (cited 𝓤 H (close-ends-contract 𝓤 H (𝓖 .A) (𝓜 .mem) (𝓡 .run)) 𝓜 𝓡 code.env #close-ends close-ends-def.routine code.calls-control·close-ends (close-ends-thm.met 𝓤 H 𝓜 𝓖 𝓡))
-    (cited 𝓤 H (close-contract 𝓤 H (𝓖 .A) (𝓜 .mem) (𝓡 .run)) 𝓜 𝓡 code.env #close close-def.routine code.calls-kept-pair·close (close-thm.met 𝓤 H 𝓜 𝓖 𝓡)))
+    (cited 𝓤 H (close-ends-contract 𝓤 H (𝓖 .A) (𝓜 .mem) (𝓡 .run)) 𝓜 𝓡 code.env #close-ends close-ends-def.routine code.calls-control·ends·close-ends (close-ends-thm.met 𝓤 H 𝓜 𝓖 𝓡))
+    (cited 𝓤 H (close-contract 𝓤 H (𝓖 .A) (𝓜 .mem) (𝓡 .run)) 𝓜 𝓡 code.env #close close-def.routine code.calls-kept·pair·close (close-thm.met 𝓤 H 𝓜 𝓖 𝓡)))

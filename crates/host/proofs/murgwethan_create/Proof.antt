@@ -41,28 +41,27 @@ use denote.Triple.Spec.{Meets, tripleOf}
 use denote.Triple.Table.{entered, cited}
 use denote.Triple.Walked.{says, Stays, stay-dropped, gave-ref, walkOf, AllGo, goes-dropped, goes-gave-ref, Walks, ends-at, walked, walk-meets}
 use denote.Triple.Clauses.{ensured, lasts}
-use Rattle.status.specs.declared.Answer.{Answer}
-use Rattle.status.specs.Choice.{pick as choose}
-use Rattle.status.specs.Answer.{answerWord, isDone}
-use Rattle.socket.specs.declared.Pair.{Pair}
-use Rattle.socket.proofs.Pair as T
-use Rattle.status.proofs.Answer as N
-use Rattle.status.proofs.Answer.Laws as N′
+use Rattle.definition.specs.declared.Answer.{Answer}
+use Rattle.definition.specs.Status.{pick as choose, answerWord, isDone}
+use Rattle.definition.specs.declared.Pair.{Pair}
+use Rattle.definition.proofs.Pair as T
+use Rattle.definition.proofs.Answer as N
+use Rattle.definition.proofs.Answer.Laws as N′
 use Rattle.host.proofs.Callees.{create-contract, to-create, goes-create}
-use Rattle.create_answer.specs.Create.{createAnswer}
-use Rattle.create_answer.specs.Held.{heldRights}
-use Rattle.socket.specs.Pair.{own, newPair}
-use Rattle.host.specs.Host.{Answered}
-use Rattle.socket.specs.Tests.{Steps}
-use Rattle.kept_places.proofs.Stored.{created-steps}
-use Rattle.host_values.proofs.create_answer as step
-use Rattle.host_values.proofs.create_answer.Symbol as step-def
-use Rattle.host_values.proofs.create_answer.Symbol.{name as #step}
-use Rattle.host_values.proofs.create_answer.Met as step-thm
-use Rattle.kept_places.proofs.create as create
-use Rattle.kept_places.proofs.create.Symbol as create-def
-use Rattle.kept_places.proofs.create.Symbol.{name as #create}
-use Rattle.kept_places.proofs.create.Met as create-thm
+use Rattle.definition.specs.Create.{createAnswer, newPair}
+use Rattle.answers.specs.create.Held.{heldRights}
+use Rattle.definition.specs.Pair.{own}
+use Rattle.definition_runs.specs.Exported.{Answered}
+use Rattle.definition.specs.Tests.{Steps}
+use Rattle.kept.proofs.places.Stored.{created-steps}
+use Rattle.host.proofs.values.create_answer as step
+use Rattle.host.proofs.values.create_answer.Symbol as step-def
+use Rattle.host.proofs.values.create_answer.Symbol.{name as #step}
+use Rattle.host.proofs.values.create_answer.Met as step-thm
+use Rattle.kept.proofs.places.create as create
+use Rattle.kept.proofs.places.create.Symbol as create-def
+use Rattle.kept.proofs.places.create.Symbol.{name as #create}
+use Rattle.kept.proofs.places.create.Met as create-thm
 use Rattle.host.proofs.murgwethan_create.Key.{name as #own}
 use Rattle.host.proofs.murgwethan_create as f
 use Rattle.host.proofs.murgwethan_create.Statement as stated
@@ -164,5 +163,5 @@ murgwethan-create-spec 𝓤 H 𝓜 𝓖 𝓡 =
     entered 𝓤 H (tripleOf 𝓤 H (𝓖 .A) f.signature (f.spec 𝓤 H (𝓖 .A) (𝓜 .mem) (𝓡 .run)))
     (tables 𝓤 H 𝓜 𝓡 code.env .C) (tables 𝓤 H 𝓜 𝓡 code.env .Λ) #own code.function (code.unfolded 𝓤 H 𝓜 𝓡)
     (meets 𝓤 H (𝓖 .A) (givenOf 𝓤 H 𝓜 𝓖) (𝓜 .mem) (𝓡 .run) (tablesOf 𝓤 H 𝓜 (tables 𝓤 H 𝓜 𝓡 code.env))
-    (cited 𝓤 H (Called 𝓤 H (𝓖 .A) (𝓜 .mem) (𝓡 .run)) 𝓜 𝓡 code.env #step step-def.routine code.calls-host-values·create-answer (step-thm.met 𝓤 H 𝓜 𝓖 𝓡))
-    (cited 𝓤 H (create-contract 𝓤 H (𝓖 .A) (𝓜 .mem) (𝓡 .run)) 𝓜 𝓡 code.env #create create-def.routine code.calls-kept-places·create (create-thm.met 𝓤 H 𝓜 𝓖 𝓡)))
+    (cited 𝓤 H (Called 𝓤 H (𝓖 .A) (𝓜 .mem) (𝓡 .run)) 𝓜 𝓡 code.env #step step-def.routine code.calls-host·values·create-answer (step-thm.met 𝓤 H 𝓜 𝓖 𝓡))
+    (cited 𝓤 H (create-contract 𝓤 H (𝓖 .A) (𝓜 .mem) (𝓡 .run)) 𝓜 𝓡 code.env #create create-def.routine code.calls-kept·places·create (create-thm.met 𝓤 H 𝓜 𝓖 𝓡)))

@@ -45,16 +45,16 @@ use denote.Triple.Spec.{Meets, tripleOf}
 use denote.Triple.Table.{entered, cited}
 use denote.Triple.Walked.{says, Stays, stay-ref, stay-dropped, gave-ref, gave-slice, walkOf, AllGo, goes-ref, goes-dropped, goes-gave-ref, goes-gave-slice, Walks, ends-at, walked, walk-meets}
 use denote.Triple.Clauses.{ensured, lasts}
-use Rattle.status.specs.declared.Answer.{Answer}
-use Rattle.status.specs.Answer.{answerWord}
-use Rattle.socket.specs.declared.Pair.{Pair}
-use Rattle.host_values.specs.Signal.{signalNumber}
-use Rattle.socket.proofs.Pair as T
-use Rattle.socket.proofs.Pair.Laws as T′
-use Rattle.host_values.proofs.signal as step
-use Rattle.host_values.proofs.signal.Symbol as step-def
-use Rattle.host_values.proofs.signal.Symbol.{name as #step}
-use Rattle.host_values.proofs.signal.Met as step-thm
+use Rattle.definition.specs.declared.Answer.{Answer}
+use Rattle.definition.specs.Status.{answerWord}
+use Rattle.definition.specs.declared.Pair.{Pair}
+use Rattle.definition_runs.specs.Exported.{signalNumber}
+use Rattle.definition.proofs.Pair as T
+use Rattle.definition.proofs.Pair.Laws as T′
+use Rattle.host.proofs.values.signal as step
+use Rattle.host.proofs.values.signal.Symbol as step-def
+use Rattle.host.proofs.values.signal.Symbol.{name as #step}
+use Rattle.host.proofs.values.signal.Met as step-thm
 use Rattle.host.proofs.murgwethan_signal.Key.{name as #own}
 use Rattle.host.proofs.murgwethan_signal as f
 use Rattle.host.proofs.murgwethan_signal.Statement as stated
@@ -145,4 +145,4 @@ murgwethan-signal-spec 𝓤 H 𝓜 𝓖 𝓡 =
     entered 𝓤 H (tripleOf 𝓤 H (𝓖 .A) f.signature (f.spec 𝓤 H (𝓖 .A) (𝓜 .mem) (𝓡 .run)))
     (tables 𝓤 H 𝓜 𝓡 code.env .C) (tables 𝓤 H 𝓜 𝓡 code.env .Λ) #own code.function (code.unfolded 𝓤 H 𝓜 𝓡)
     (meets 𝓤 H (𝓖 .A) (givenOf 𝓤 H 𝓜 𝓖) (𝓜 .mem) (𝓡 .run) (tablesOf 𝓤 H 𝓜 (tables 𝓤 H 𝓜 𝓡 code.env))
-    (cited 𝓤 H (Called 𝓤 H (𝓖 .A) (𝓜 .mem) (𝓡 .run)) 𝓜 𝓡 code.env #step step-def.routine code.calls-host-values·signal (step-thm.met 𝓤 H 𝓜 𝓖 𝓡)))
+    (cited 𝓤 H (Called 𝓤 H (𝓖 .A) (𝓜 .mem) (𝓡 .run)) 𝓜 𝓡 code.env #step step-def.routine code.calls-host·values·signal (step-thm.met 𝓤 H 𝓜 𝓖 𝓡)))

@@ -39,36 +39,35 @@ use denote.Triple.Spec.{Meets, tripleOf}
 use denote.Triple.Table.{entered, cited}
 use denote.Triple.Walked.{says, Stays, stay-dropped, gave-ref, walkOf, AllGo, goes-dropped, goes-gave-ref, Walks, ends-at, walked, walk-meets}
 use denote.Triple.Clauses.{ensured}
-use Rattle.status.specs.declared.Answer.{Answer}
-use Rattle.ends.specs.declared.Ends.{Ends}
-use Rattle.socket.specs.declared.Pair.{Pair}
-use Rattle.socket.proofs.Pair as T
-use Rattle.socket.proofs.Pair.Laws as T′
-use Rattle.ends.proofs.Ends as E
-use Rattle.ends.proofs.Ends.Laws as E′
-use Rattle.status.proofs.Answer as N
-use Rattle.status.proofs.Answer.Laws as N′
-use Rattle.kept_pair.proofs.Callees.{pair-one, pair-lawful}
-use Rattle.reference_steps.proofs.Steps.{asks, hands, opened, put-back, fills, frees-cell}
+use Rattle.definition.specs.declared.Answer.{Answer}
+use Rattle.definition.specs.declared.Ends.{Ends}
+use Rattle.definition.specs.declared.Pair.{Pair}
+use Rattle.definition.proofs.Pair as T
+use Rattle.definition.proofs.Pair.Laws as T′
+use Rattle.definition.proofs.Ends as E
+use Rattle.definition.proofs.Ends.Laws as E′
+use Rattle.definition.proofs.Answer as N
+use Rattle.definition.proofs.Answer.Laws as N′
+use Rattle.kept.proofs.pair.Callees.{pair-one, pair-lawful}
+use Rattle.kept.proofs.steps.Steps.{asks, hands, opened, put-back, fills, frees-cell}
 use Rattle.host.proofs.Callees.{ends-lawful, ends-contract, ask-ends, wait-answer-contract, to-wait-answer, goes-wait-answer, wait-answer-told, wait-contract, hand-wait}
-use Rattle.answers.specs.Wait.{waitAnswer as waitAnswerOf}
-use Rattle.socket.specs.Pair.{isOne, own}
-use Rattle.host.specs.Host.{Answered}
-use Rattle.socket.specs.Tests.{Steps}
-use Rattle.socket.specs.Wait.{waitAnswer, waited}
+use Rattle.definition.specs.Wait.{waitAnswer as waitAnswerOf, waitAnswer, waited}
+use Rattle.definition.specs.Pair.{isOne, own, endsOf}
+use Rattle.definition_runs.specs.Exported.{Answered}
+use Rattle.definition.specs.Tests.{Steps}
 use Rattle.socket.proofs.Waits.{wait-steps}
 use Rattle.socket.proofs.ends_of as ends
 use Rattle.socket.proofs.ends_of.Symbol as ends-def
 use Rattle.socket.proofs.ends_of.Symbol.{name as #ends}
 use Rattle.socket.proofs.ends_of.Met as ends-thm
-use Rattle.answers.proofs.wait_answer as wait-answer
-use Rattle.answers.proofs.wait_answer.Symbol as wait-answer-def
-use Rattle.answers.proofs.wait_answer.Symbol.{name as #wait-answer}
-use Rattle.answers.proofs.wait_answer.Met as wait-answer-thm
-use Rattle.kept_places.proofs.wait as wait
-use Rattle.kept_places.proofs.wait.Symbol as wait-def
-use Rattle.kept_places.proofs.wait.Symbol.{name as #wait}
-use Rattle.kept_places.proofs.wait.Met as wait-thm
+use Rattle.answers.proofs.control.wait_answer as wait-answer
+use Rattle.answers.proofs.control.wait_answer.Symbol as wait-answer-def
+use Rattle.answers.proofs.control.wait_answer.Symbol.{name as #wait-answer}
+use Rattle.answers.proofs.control.wait_answer.Met as wait-answer-thm
+use Rattle.kept.proofs.places.wait as wait
+use Rattle.kept.proofs.places.wait.Symbol as wait-def
+use Rattle.kept.proofs.places.wait.Symbol.{name as #wait}
+use Rattle.kept.proofs.places.wait.Met as wait-thm
 use Rattle.host.proofs.murgwethan_wait.Key.{name as #own}
 use Rattle.host.proofs.murgwethan_wait as f
 use Rattle.host.proofs.murgwethan_wait.Statement as stated
@@ -90,7 +89,7 @@ module _ {M : Type 1} (𝓤 : URA M) (H : Heap 𝓤) (A : Atoms 𝓤) (W : Given
   abbrev Post : Val → SProp 𝓤
   Post = walkOf 𝓤 H A f.ended stayed (f.clauses 𝓤 H A at-mem run) .post ((bound, (q, tt), tt, x, at), tt)
 
-  exits : (p′ : Pair) (z : ℤ) (v : Val) → Answered (Steps h (waitAnswer h x₁ x₄) (waited (isOne x₁) x₂ x₃ x₄ h)) p′ z
+  exits : (p′ : Pair) (z : ℤ) (v : Val) → Answered (Steps h (waitAnswer (endsOf h) x₁ x₄) (waited (isOne x₁) x₂ x₃ x₄ h)) p′ z
       → ent 𝓤 (⋆ 𝓤 H A (‵ (fres γ (T.the-row .coded .code p′)) ∷ (‵ (flft κ q) ⊛ ‵ ftrue) ∷ ‵ ftrue ∷ ‵ (i64 .own z (v ∷ [])) ∷ [])) (Post v)
   exits p′ z v ens =
       qed W (‵ (fres γ (T.the-row .coded .code p′)) ∷ (‵ (flft κ q) ⊛ ‵ ftrue) ∷ ‵ ftrue ∷ ‵ (i64 .own z (v ∷ [])) ∷ []) ∵
@@ -138,5 +137,5 @@ murgwethan-wait-spec 𝓤 H 𝓜 𝓖 𝓡 =
     (tables 𝓤 H 𝓜 𝓡 code.env .C) (tables 𝓤 H 𝓜 𝓡 code.env .Λ) #own code.function (code.unfolded 𝓤 H 𝓜 𝓡)
     (meets 𝓤 H (𝓖 .A) (givenOf 𝓤 H 𝓜 𝓖) (𝓜 .mem) (𝓡 .run) (tablesOf 𝓤 H 𝓜 (tables 𝓤 H 𝓜 𝓡 code.env))
     (cited 𝓤 H (ends-contract 𝓤 H (𝓖 .A) (𝓜 .mem) (𝓡 .run)) 𝓜 𝓡 code.env #ends ends-def.routine code.calls-socket·ends-of (ends-thm.met 𝓤 H 𝓜 𝓖 𝓡))
-    (cited 𝓤 H (wait-answer-contract 𝓤 H (𝓖 .A) (𝓜 .mem) (𝓡 .run)) 𝓜 𝓡 code.env #wait-answer wait-answer-def.routine code.calls-answers·wait-answer (wait-answer-thm.met 𝓤 H 𝓜 𝓖 𝓡))
-    (cited 𝓤 H (wait-contract 𝓤 H (𝓖 .A) (𝓜 .mem) (𝓡 .run)) 𝓜 𝓡 code.env #wait wait-def.routine code.calls-kept-places·wait (wait-thm.met 𝓤 H 𝓜 𝓖 𝓡)))
+    (cited 𝓤 H (wait-answer-contract 𝓤 H (𝓖 .A) (𝓜 .mem) (𝓡 .run)) 𝓜 𝓡 code.env #wait-answer wait-answer-def.routine code.calls-answers·control·wait-answer (wait-answer-thm.met 𝓤 H 𝓜 𝓖 𝓡))
+    (cited 𝓤 H (wait-contract 𝓤 H (𝓖 .A) (𝓜 .mem) (𝓡 .run)) 𝓜 𝓡 code.env #wait wait-def.routine code.calls-kept·places·wait (wait-thm.met 𝓤 H 𝓜 𝓖 𝓡)))

@@ -40,41 +40,41 @@ use denote.Triple.Spec.{Meets, tripleOf}
 use denote.Triple.Table.{entered, cited}
 use denote.Triple.Walked.{says, Stays, stay-dropped, gave-ref, gave-slice, walkOf, AllGo, goes-dropped, goes-gave-ref, goes-gave-slice, Walks, ends-at, walked, walk-meets}
 use denote.Triple.Clauses.{ensured, lasts}
-use Rattle.status.specs.Answer.{answerWord}
-use Rattle.ends.specs.declared.Ends.{Ends}
-use Rattle.transfer.specs.declared.Transfer.{Transfer}
-use Rattle.transfer_write.specs.Transfer.{wroteBy, TransferWrote}
-use Rattle.socket.specs.declared.Pair.{Pair}
-use Rattle.socket.specs.declared.Step.{Step}
-use Rattle.socket.proofs.Pair as T
-use Rattle.socket.proofs.Pair.Laws as T′
-use Rattle.transfer.proofs.Transfer as K
-use Rattle.transfer.proofs.Transfer.Laws as K′
-use Rattle.ends.proofs.Ends as E
-use Rattle.ends.proofs.Ends.Laws as E′
-use Rattle.kept_transfer.proofs.Callees.{transfer-lawful}
-use Rattle.kept_pair.proofs.Callees.{pair-one, pair-lawful}
-use Rattle.reference_steps.proofs.Steps.{asks, hands, opened, fills, frees-cell}
+use Rattle.definition.specs.Status.{answerWord}
+use Rattle.definition.specs.declared.Ends.{Ends}
+use Rattle.transfer.specs.declared.change.Transfer.{Transfer}
+use Rattle.transfer.specs.write.WriteChange.{wroteBy, TransferWrote}
+use Rattle.definition.specs.declared.Pair.{Pair}
+use Rattle.definition.specs.declared.Step.{Step}
+use Rattle.definition.proofs.Pair as T
+use Rattle.definition.proofs.Pair.Laws as T′
+use Rattle.transfer.proofs.change.Transfer as K
+use Rattle.transfer.proofs.change.Transfer.Laws as K′
+use Rattle.definition.proofs.Ends as E
+use Rattle.definition.proofs.Ends.Laws as E′
+use Rattle.kept.proofs.transfers.Callees.{transfer-lawful}
+use Rattle.kept.proofs.pair.Callees.{pair-one, pair-lawful}
+use Rattle.kept.proofs.steps.Steps.{asks, hands, opened, fills, frees-cell}
 use Rattle.host.proofs.Callees.{ends-lawful, ends-contract, ask-ends, wrote-contract, hand-wrote}
-use Rattle.socket.specs.Pair.{own, endsOf}
-use Rattle.host.specs.Host.{Answered}
+use Rattle.definition.specs.Pair.{own, endsOf}
+use Rattle.definition_runs.specs.Exported.{Answered}
 use Rattle.socket.proofs.Visiting.{places-128}
-use Rattle.kept_pair.proofs.Stored.{settled-as}
-use Rattle.kept_transfer.proofs.Stored.{passed-on, wrote-answer}
-use Rattle.socket.specs.Write.{Wrote}
+use Rattle.kept.proofs.pair.Stored.{settled-as}
+use Rattle.kept.proofs.transfers.Stored.{passed-on, wrote-answer}
+use Rattle.definition.specs.Write.{Wrote}
 use Rattle.socket.proofs.Settled.{wrote-whole}
-use Rattle.transfer_write.proofs.write_transfer as step
-use Rattle.transfer_write.proofs.write_transfer.Symbol as step-def
-use Rattle.transfer_write.proofs.write_transfer.Symbol.{name as #step}
-use Rattle.transfer_write.proofs.write_transfer.Met as step-thm
+use Rattle.transfer.proofs.write.write_transfer as step
+use Rattle.transfer.proofs.write.write_transfer.Symbol as step-def
+use Rattle.transfer.proofs.write.write_transfer.Symbol.{name as #step}
+use Rattle.transfer.proofs.write.write_transfer.Met as step-thm
 use Rattle.socket.proofs.ends_of as ends
 use Rattle.socket.proofs.ends_of.Symbol as ends-def
 use Rattle.socket.proofs.ends_of.Symbol.{name as #ends}
 use Rattle.socket.proofs.ends_of.Met as ends-thm
-use Rattle.kept_transfer.proofs.wrote as wrote
-use Rattle.kept_transfer.proofs.wrote.Symbol as wrote-def
-use Rattle.kept_transfer.proofs.wrote.Symbol.{name as #wrote}
-use Rattle.kept_transfer.proofs.wrote.Met as wrote-thm
+use Rattle.kept.proofs.transfers.wrote as wrote
+use Rattle.kept.proofs.transfers.wrote.Symbol as wrote-def
+use Rattle.kept.proofs.transfers.wrote.Symbol.{name as #wrote}
+use Rattle.kept.proofs.transfers.wrote.Met as wrote-thm
 use Rattle.host.proofs.murgwethan_write.Key.{name as #own}
 use Rattle.host.proofs.murgwethan_write as f
 use Rattle.host.proofs.murgwethan_write.Statement as stated
@@ -181,6 +181,6 @@ murgwethan-write-spec 𝓤 H 𝓜 𝓖 𝓡 =
     entered 𝓤 H (tripleOf 𝓤 H (𝓖 .A) f.signature (f.spec 𝓤 H (𝓖 .A) (𝓜 .mem) (𝓡 .run)))
     (tables 𝓤 H 𝓜 𝓡 code.env .C) (tables 𝓤 H 𝓜 𝓡 code.env .Λ) #own code.function (code.unfolded 𝓤 H 𝓜 𝓡)
     (meets 𝓤 H (𝓖 .A) (givenOf 𝓤 H 𝓜 𝓖) (𝓜 .mem) (𝓡 .run) (tablesOf 𝓤 H 𝓜 (tables 𝓤 H 𝓜 𝓡 code.env))
-    (cited 𝓤 H (Called 𝓤 H (𝓖 .A) (𝓜 .mem) (𝓡 .run)) 𝓜 𝓡 code.env #step step-def.routine code.calls-transfer-write·write-transfer (step-thm.met 𝓤 H 𝓜 𝓖 𝓡))
+    (cited 𝓤 H (Called 𝓤 H (𝓖 .A) (𝓜 .mem) (𝓡 .run)) 𝓜 𝓡 code.env #step step-def.routine code.calls-transfer·write·write-transfer (step-thm.met 𝓤 H 𝓜 𝓖 𝓡))
     (cited 𝓤 H (ends-contract 𝓤 H (𝓖 .A) (𝓜 .mem) (𝓡 .run)) 𝓜 𝓡 code.env #ends ends-def.routine code.calls-socket·ends-of (ends-thm.met 𝓤 H 𝓜 𝓖 𝓡))
-    (cited 𝓤 H (wrote-contract 𝓤 H (𝓖 .A) (𝓜 .mem) (𝓡 .run)) 𝓜 𝓡 code.env #wrote wrote-def.routine code.calls-kept-transfer·wrote (wrote-thm.met 𝓤 H 𝓜 𝓖 𝓡)))
+    (cited 𝓤 H (wrote-contract 𝓤 H (𝓖 .A) (𝓜 .mem) (𝓡 .run)) 𝓜 𝓡 code.env #wrote wrote-def.routine code.calls-kept·transfers·wrote (wrote-thm.met 𝓤 H 𝓜 𝓖 𝓡)))

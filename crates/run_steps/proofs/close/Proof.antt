@@ -1,5 +1,5 @@
 use borrow.Author.Needs.{needs}
-use Rattle.runs.specs.Run.{did-close}
+use Rattle.definition_runs.specs.Run.{did-close}
 use Rattle.run_steps.proofs.close.Statement.{statement}
 use Rattle.run_steps.proofs.close.Tie as tie
 

@@ -1,5 +1,5 @@
 use borrow.Author.Needs.{needs}
-use Rattle.runs.specs.Run.{run}
+use Rattle.definition_runs.specs.Run.{run}
 use Rattle.run_steps.proofs.create.Statement.{statement}
 use Rattle.run_steps.proofs.create.Tie as tie
 

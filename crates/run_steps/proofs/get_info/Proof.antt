@@ -1,5 +1,5 @@
 use borrow.Author.Needs.{needs}
-use Rattle.runs.specs.Run.{did-info}
+use Rattle.definition_runs.specs.Run.{did-info}
 use Rattle.run_steps.proofs.Lent.{tables}
 use Rattle.run_steps.proofs.get_info.Statement.{statement}
 use Rattle.run_steps.proofs.get_info.Tie as tie

@@ -1,5 +1,5 @@
 use borrow.Author.Needs.{needs}
-use Rattle.runs.specs.Run.{did-thresholds}
+use Rattle.definition_runs.specs.Run.{did-thresholds}
 use Rattle.run_steps.proofs.get_rx_tx_threshold.Statement.{statement}
 use Rattle.run_steps.proofs.get_rx_tx_threshold.Tie as tie
 

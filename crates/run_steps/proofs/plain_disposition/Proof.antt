@@ -1,5 +1,5 @@
 use borrow.Author.Needs.{needs}
-use Rattle.runs.specs.Run.{did-plain-dispose}
+use Rattle.definition_runs.specs.Run.{did-plain-dispose}
 use Rattle.run_steps.proofs.Numbered.{steps-numbered}
 use Rattle.run_steps.proofs.plain_disposition.Statement.{statement}
 use Rattle.run_steps.proofs.plain_disposition.Tie as tie

@@ -1,5 +1,5 @@
 use borrow.Author.Needs.{needs}
-use Rattle.runs.specs.Run.{did-plain-read}
+use Rattle.definition_runs.specs.Run.{did-plain-read}
 use Rattle.run_steps.proofs.Lent.{rings, tables}
 use Rattle.run_steps.proofs.plain_read.Statement.{statement}
 use Rattle.run_steps.proofs.plain_read.Tie as tie

@@ -1,5 +1,5 @@
 use borrow.Author.Needs.{needs}
-use Rattle.runs.specs.Run.{did-plain-shutdown}
+use Rattle.definition_runs.specs.Run.{did-plain-shutdown}
 use Rattle.run_steps.proofs.plain_shutdown.Statement.{statement}
 use Rattle.run_steps.proofs.plain_shutdown.Tie as tie
 

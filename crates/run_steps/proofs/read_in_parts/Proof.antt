@@ -1,5 +1,5 @@
 use mathlib.Core.Path.{refl}
-use Rattle.status.proofs.Rules.{pick-on, pick-off, via}
+use Rattle.endpoint.proofs.answer.Rules.{pick-on, pick-off, via}
 use Rattle.syscall.proofs.Calls.{count-after}
 use borrow.Author.Needs.{needs}
 use Rattle.run_steps.proofs.Lent.{in-parts}

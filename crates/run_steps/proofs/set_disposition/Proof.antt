@@ -1,5 +1,5 @@
 use borrow.Author.Needs.{needs}
-use Rattle.runs.specs.Run.{did-dispose}
+use Rattle.definition_runs.specs.Run.{did-dispose}
 use Rattle.run_steps.proofs.set_disposition.Statement.{statement}
 use Rattle.run_steps.proofs.set_disposition.Tie as tie
 

@@ -1,5 +1,5 @@
 use borrow.Author.Needs.{needs}
-use Rattle.runs.specs.Run.{did-read-threshold}
+use Rattle.definition_runs.specs.Run.{did-read-threshold}
 use Rattle.run_steps.proofs.set_read_threshold.Statement.{statement}
 use Rattle.run_steps.proofs.set_read_threshold.Tie as tie
 

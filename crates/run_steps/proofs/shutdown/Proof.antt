@@ -1,5 +1,5 @@
 use borrow.Author.Needs.{needs}
-use Rattle.runs.specs.Run.{did-shutdown}
+use Rattle.definition_runs.specs.Run.{did-shutdown}
 use Rattle.run_steps.proofs.shutdown.Statement.{statement}
 use Rattle.run_steps.proofs.shutdown.Tie as tie
 

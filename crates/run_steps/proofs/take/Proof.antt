@@ -1,5 +1,5 @@
 use borrow.Author.Needs.{needs}
-use Rattle.runs.specs.Run.{did-take}
+use Rattle.definition_runs.specs.Run.{did-take}
 use Rattle.run_steps.proofs.take.Statement.{statement}
 use Rattle.run_steps.proofs.take.Tie as tie
 

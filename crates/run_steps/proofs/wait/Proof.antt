@@ -1,5 +1,5 @@
 use borrow.Author.Needs.{needs}
-use Rattle.runs.specs.Run.{did-wait}
+use Rattle.definition_runs.specs.Run.{did-wait}
 use Rattle.run_steps.proofs.wait.Statement.{statement}
 use Rattle.run_steps.proofs.wait.Tie as tie
 

@@ -1,5 +1,5 @@
 use borrow.Author.Needs.{needs}
-use Rattle.runs.specs.Run.{did-write}
+use Rattle.definition_runs.specs.Run.{did-write}
 use Rattle.run_steps.proofs.Lent.{rings, tables}
 use Rattle.run_steps.proofs.write.Statement.{statement}
 use Rattle.run_steps.proofs.write.Tie as tie

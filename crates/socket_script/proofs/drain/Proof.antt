@@ -3,10 +3,10 @@ use denote.Ref.{now}
 use lib.ListN.{length, take}
 use mathlib.Core.Path.{_≡_, refl, _∙_}
 use native.Mathlib.Omega.{arith}
-use Rattle.plain_call.specs.Rings.{rings}
-use Rattle.feed.specs.Machine.{machine}
-use Rattle.blocks.specs.Drain.{DrainMay, held, Advances, none, more}
-use Rattle.blocks.proofs.Drains.{Stands, stands, onwards, ends, drained}
+use Rattle.definition_script.specs.Call.{rings}
+use Rattle.definition_script.specs.Listing.{machine}
+use Rattle.buffer.specs.blocks.Drain.{DrainMay, held, Advances, none, more}
+use Rattle.buffer.proofs.blocks.Drains.{Stands, stands, onwards, ends, drained}
 use Rattle.socket_script.proofs.drain.Statement.{statement}
 use Rattle.socket_script.proofs.drain.Tie as tie
 

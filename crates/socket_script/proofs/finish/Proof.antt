@@ -5,8 +5,8 @@ use lib.ListN.{take}
 use mathlib.Core.Path.{_≡_, subst}
 use native.Mathlib.Nat.{sub-zero}
 use native.Mathlib.Omega.{arith}
-use Rattle.text.specs.Put.{place}
-use Rattle.script.specs.Listing.{closing}
+use Rattle.definition_script.specs.Call.{writtenAt}
+use Rattle.definition_script.specs.Listing.{closing}
 use Rattle.socket_script.proofs.finish.Statement.{statement}
 use Rattle.socket_script.proofs.finish.Tie as tie
 
@@ -32,7 +32,7 @@ returns : tie.Need-returns
 returns c =
     let a = c .before .before .before .before .before .before .before .before .before .before .args in
     let put = c .before .before .before .before .finish .ensures .fit .put (c .before .before .before .before .before .before .before .before .before .before .pre .1) in
-    subst (λ (n : ℕ). c .before .before .before .before .finish .last .1 .1 .1 .0 ≡ place 0 (closing (a .p .offset) (a .p .state .ended) (take n (now (a .buffer)))) (now (a .out))) (sub-zero (a .p .used)) (put .out)
+    subst (λ (n : ℕ). c .before .before .before .before .finish .last .1 .1 .1 .0 ≡ writtenAt 0 (closing (a .p .offset) (a .p .state .ended) (take n (now (a .buffer)))) (now (a .out))) (sub-zero (a .p .used)) (put .out)
 
 pub finish-spec : {M : Type 1} → statement M
 finish-spec =

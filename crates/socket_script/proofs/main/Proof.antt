@@ -1,7 +1,7 @@
 use borrow.Author.Needs.{needs}
 use mathlib.Core.Path.{refl}
 use native.Mathlib.Omega.{arith}
-use Rattle.feed.specs.Machine.{start}
+use Rattle.definition_script.specs.Listing.{start}
 use Rattle.socket_script.proofs.main.Statement.{statement}
 use Rattle.socket_script.proofs.main.Tie as tie
 

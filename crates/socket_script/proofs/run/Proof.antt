@@ -7,16 +7,16 @@ use mathlib.Core.List.{List}
 use mathlib.Core.Logic.{⊎-elim}
 use mathlib.Core.Path.{_≡_, refl, sym, ap, _∙_}
 use native.Mathlib.Omega.{arith}
-use Rattle.status.proofs.Rules.{via-not, via-not-not}
-use Rattle.script_state.specs.Start.{startState}
+use Rattle.endpoint.proofs.answer.Rules.{via-not, via-not-not}
+use Rattle.definition_script.specs.Listing.{startState}
 use Rattle.feed.specs.Turn.{LIMIT}
-use Rattle.buffer.specs.declared.Progress.{Progress}
-use Rattle.plain_call.specs.Rings.{rings}
-use Rattle.blocks.specs.Drain.{readsOn, ReadIn, held, Drained}
-use Rattle.blocks.specs.Run.{RunMay, Blocks, none, more, readMore}
-use Rattle.blocks.proofs.Drains.{reads-below}
-use Rattle.blocks.proofs.Blocks.{first-memory, begun, reads-first, stops-reading, stops-ended}
-use Rattle.blocks.proofs.Listed.{listed}
+use Rattle.buffer.specs.declared.buffer.Progress.{Progress}
+use Rattle.definition_script.specs.Call.{rings}
+use Rattle.buffer.specs.blocks.Drain.{readsOn, ReadIn, held, Drained}
+use Rattle.buffer.specs.blocks.BlocksRun.{RunMay, Blocks, none, more, readMore}
+use Rattle.buffer.proofs.blocks.Drains.{reads-below}
+use Rattle.buffer.proofs.blocks.Blocks.{first-memory, begun, reads-first, stops-reading, stops-ended}
+use Rattle.buffer.proofs.blocks.Listed.{listed}
 use Rattle.socket_script.proofs.run.Statement.{statement}
 use Rattle.socket_script.proofs.run.Tie as tie
 

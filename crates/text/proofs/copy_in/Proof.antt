@@ -8,12 +8,12 @@ use mathlib.Core.Path.{_≡_, sym, ap, _∙_}
 use native.Mathlib.Omega.{arith}
 use Rattle.text.proofs.Place.{place-none}
 use Rattle.text.proofs.Spelling.{copy-turn}
-use Rattle.text.specs.Put.{place}
+use Rattle.definition_script.specs.Call.{writtenAt}
 use Rattle.text.proofs.copy_in.Statement.{statement}
 use Rattle.text.proofs.copy_in.Tie as tie
 
 abbrev Inv-loop : tie.InvT-loop
-Inv-loop out₀ at src n i₀ out i = (i ≤ length src) × (n ≡ length src) × (length out ≡ length out₀) × (at + length src ≤ length out₀) × (out ≡ place at (take i src) out₀)
+Inv-loop out₀ at src n i₀ out i = (i ≤ length src) × (n ≡ length src) × (length out ≡ length out₀) × (at + length src ≤ length out₀) × (out ≡ writtenAt at (take i src) out₀)
 
 abbrev μ-loop : tie.MeasureT-loop
 μ-loop out₀ at src n i₀ out i = length src - i
@@ -56,8 +56,8 @@ returns c =
     let l = c .before .loop in
     let a = c .before .before .args in
     let e : l .i ≡ length (now (a .src)) = omega arith in
-    l .inv .4 ∙ ap (λ (k : ℕ). place (a .at) (take k (now (a .src))) (now (a .out))) e
-    ∙ ap (λ (z : List ℕ). place (a .at) z (now (a .out))) (take-length (now (a .src)))
+    l .inv .4 ∙ ap (λ (k : ℕ). writtenAt (a .at) (take k (now (a .src))) (now (a .out))) e
+    ∙ ap (λ (z : List ℕ). writtenAt (a .at) z (now (a .out))) (take-length (now (a .src)))
 
 pub copy-in-spec : {M : Type 1} → statement M
 copy-in-spec =

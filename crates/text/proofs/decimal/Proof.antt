@@ -6,8 +6,8 @@ use mathlib.Core.Path.{_≡_, ap, _∙_}
 use native.Mathlib.Omega.{arith}
 use Rattle.text.proofs.Place.{no-room, had-room}
 use Rattle.text.proofs.Spelling.{digits-length, width-most}
-use Rattle.text.specs.Digits.{digitsOf, widthOf, decimalOf}
-use Rattle.text.specs.Put.{place}
+use Rattle.definition_script.specs.Line.{digitsOf, widthOf, decimalOf}
+use Rattle.definition_script.specs.Call.{writtenAt}
 use Rattle.text.proofs.decimal.Statement.{statement}
 use Rattle.text.proofs.decimal.Tie as tie
 
@@ -39,7 +39,7 @@ returns c =
             next = omega (arith, digits-length 10 (widthOf (a .n)) (a .n) []);
             most = omega arith;
             fits = omega arith;
-            out = c .before .before .put-decimal .ensures ∙ ap (λ (i : ℕ). place (a .at) (digitsOf 10 i (a .n) []) (now (a .out))) e;
+            out = c .before .before .put-decimal .ensures ∙ ap (λ (i : ℕ). writtenAt (a .at) (digitsOf 10 i (a .n) []) (now (a .out))) e;
           };
     })
 

@@ -1,7 +1,7 @@
 use borrow.Author.Needs.{needs}
 use borrow.Author.Tests.{lt-ltb, le-ltb}
-use Rattle.status.specs.Choice.{pick}
-use Rattle.text.specs.Digits.{digitOf}
+use Rattle.definition.specs.Status.{pick}
+use Rattle.definition_script.specs.Line.{digitOf}
 use Rattle.text.proofs.digit.Statement.{statement}
 use Rattle.text.proofs.digit.Tie as tie
 

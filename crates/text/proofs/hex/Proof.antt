@@ -3,7 +3,7 @@ use mathlib.Core.List.{[]}
 use native.Mathlib.Omega.{arith}
 use Rattle.text.proofs.Place.{no-room, had-room}
 use Rattle.text.proofs.Spelling.{digits-length}
-use Rattle.text.specs.Digits.{hexOf}
+use Rattle.definition_script.specs.Line.{hexOf}
 use Rattle.text.proofs.hex.Statement.{statement}
 use Rattle.text.proofs.hex.Tie as tie
 

@@ -8,13 +8,13 @@ use mathlib.Core.Path.{_≡_, sym, ap, _∙_}
 use native.Mathlib.Omega.{arith}
 use Rattle.text.proofs.Place.{place-none}
 use Rattle.text.proofs.Spelling.{hex-bytes-length, hex-bytes-turn}
-use Rattle.text.specs.Digits.{digitOf, hexBytesOf}
-use Rattle.text.specs.Put.{place}
+use Rattle.definition_script.specs.Line.{digitOf, hexBytesOf}
+use Rattle.definition_script.specs.Call.{writtenAt}
 use Rattle.text.proofs.put_hex_bytes.Statement.{statement}
 use Rattle.text.proofs.put_hex_bytes.Tie as tie
 
 abbrev Inv-loop : tie.InvT-loop
-Inv-loop out₀ at src i₀ to₀ out i to = (i ≤ length src) × (length out ≡ length out₀) × (at + 2 * length src ≤ length out₀) × (to ≡ at + 2 * i) × (out ≡ place at (hexBytesOf (take i src)) out₀)
+Inv-loop out₀ at src i₀ to₀ out i to = (i ≤ length src) × (length out ≡ length out₀) × (at + 2 * length src ≤ length out₀) × (to ≡ at + 2 * i) × (out ≡ writtenAt at (hexBytesOf (take i src)) out₀)
 
 abbrev μ-loop : tie.MeasureT-loop
 μ-loop out₀ at src i₀ to₀ out i to = length src - i
@@ -64,8 +64,8 @@ loop-again c = (
       let s = now (a .src) in
       let o = now (a .out) in
       ap (λ (z : List ℕ). set (set z (l .to) (c .before .digit .result)) (l .to + 1) (c .digit2 .result)) (l .inv .4)
-      ∙ ap (λ (v : ℕ). set (set (place (a .at) (hexBytesOf (take (l .i) s)) o) (l .to) v) (l .to + 1) (c .digit2 .result)) (c .before .digit .ensures)
-      ∙ ap (λ (v : ℕ). set (set (place (a .at) (hexBytesOf (take (l .i) s)) o) (l .to) (digitOf (getD s (l .i) 0 / 16))) (l .to + 1) v) (c .digit2 .ensures)
+      ∙ ap (λ (v : ℕ). set (set (writtenAt (a .at) (hexBytesOf (take (l .i) s)) o) (l .to) v) (l .to + 1) (c .digit2 .result)) (c .before .digit .ensures)
+      ∙ ap (λ (v : ℕ). set (set (writtenAt (a .at) (hexBytesOf (take (l .i) s)) o) (l .to) (digitOf (getD s (l .i) 0 / 16))) (l .to + 1) v) (c .digit2 .ensures)
       ∙ hex-bytes-turn (a .at) (l .i) (l .to) s o (omega arith) (l .inv .2) (l .inv .3),
 )
 
@@ -82,7 +82,7 @@ returns c =
       next = omega (arith, hex-bytes-length (now (a .src)));
       most = omega arith;
       fits = omega arith;
-      out = l .inv .4 ∙ ap (λ (z : List ℕ). place (a .at) (hexBytesOf z) (now (a .out))) t;
+      out = l .inv .4 ∙ ap (λ (z : List ℕ). writtenAt (a .at) (hexBytesOf z) (now (a .out))) t;
     }
 
 pub put-hex-bytes-spec : {M : Type 1} → statement M

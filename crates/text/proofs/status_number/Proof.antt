@@ -1,5 +1,5 @@
 use borrow.Author.Needs.{needs}
-use Rattle.status.specs.Answer.{statusNumber}
+use Rattle.definition.specs.Status.{statusNumber}
 use Rattle.text.proofs.status_number.Statement.{statement}
 use Rattle.text.proofs.status_number.Tie as tie
 

@@ -1,6 +1,6 @@
 use borrow.Author.Needs.{needs}
 use Rattle.text.proofs.Place.{seq, no-room, had-room}
-use Rattle.text.specs.Answer.{stopOf}
+use Rattle.definition_script.specs.Line.{stopOf}
 use Rattle.text.proofs.stop.Statement.{statement}
 use Rattle.text.proofs.stop.Tie as tie
 

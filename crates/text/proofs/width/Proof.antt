@@ -4,7 +4,7 @@ use borrow.Author.Tests.{leb-true, leb-false}
 use mathlib.Core.Path.{_≡_}
 use native.Mathlib.Omega.{arith}
 use Rattle.text.proofs.Spelling.{width-more, width-one}
-use Rattle.text.specs.Digits.{widthBy, widthOf}
+use Rattle.definition_script.specs.Line.{widthBy, widthOf}
 use Rattle.text.proofs.width.Statement.{statement}
 use Rattle.text.proofs.width.Tie as tie
 

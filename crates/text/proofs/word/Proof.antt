@@ -5,7 +5,7 @@ use mathlib.Core.Path.{ap, _∙_}
 use native.Mathlib.Omega.{arith}
 use Rattle.text.proofs.Place.{upTo, same, no-room, had-room}
 use Rattle.text.proofs.Words.{done-word, refused-word}
-use Rattle.text.specs.Digits.{decimalOf}
+use Rattle.definition_script.specs.Line.{decimalOf}
 use Rattle.text.proofs.word.Statement.{statement}
 use Rattle.text.proofs.word.Tie as tie
 

@@ -1,7 +1,7 @@
 use borrow.Author.Needs.{needs}
 use denote.Ref.{now}
 use mathlib.Core.Path.{sym, _∙_}
-use Rattle.record.specs.declared.Decoded.the-variants.{Whole, Bad, Cut}
+use Rattle.definition_script.specs.declared.Decoded.the-variants.{Whole, Bad, Cut}
 use Rattle.feed.proofs.Turns.{next-ended, next-from, next-misplaced, next-placed}
 use Rattle.feed.specs.Turn.{placed}
 use Rattle.feed.proofs.turn.next.Statement.{statement}

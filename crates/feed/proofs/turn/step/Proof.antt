@@ -3,7 +3,7 @@ use denote.Ref.{now}
 use mathlib.Core.Path.{_∙_}
 use native.Mathlib.Omega.{arith}
 use Rattle.feed.proofs.Turns.{step-done}
-use Rattle.plain_call.specs.Rings.{rings}
+use Rattle.definition_script.specs.Call.{rings}
 use Rattle.feed.proofs.turn.step.Statement.{statement}
 use Rattle.feed.proofs.turn.step.Tie as tie
 

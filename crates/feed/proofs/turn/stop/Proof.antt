@@ -1,4 +1,4 @@
-use Rattle.feed.specs.Machine.{stoppedState}
+use Rattle.definition_script.specs.Listing.{stoppedState}
 use mathlib.Core.Path.{refl}
 use borrow.Author.Needs.{needs}
 use Rattle.feed.proofs.turn.stop.Statement.{statement}

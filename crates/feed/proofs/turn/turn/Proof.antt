@@ -2,9 +2,9 @@ use borrow.Author.Needs.{needs}
 use denote.Ref.{now}
 use lib.ListN.{take, drop}
 use native.Mathlib.Omega.{arith}
-use Rattle.plain_call.specs.Rings.{rings}
+use Rattle.definition_script.specs.Call.{rings}
 use Rattle.feed.proofs.Turns.{body-at, record-within, record-body, next-cut, next-bad, next-whole, turn-stay, turn-stop, turn-step}
-use Rattle.feed.specs.Machine.{machine, moveOf}
+use Rattle.definition_script.specs.Listing.{machine, moveOf}
 use Rattle.feed.proofs.turn.turn.Statement.{statement}
 use Rattle.feed.proofs.turn.turn.Tie as tie
 

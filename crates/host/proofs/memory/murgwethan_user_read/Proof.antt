@@ -40,25 +40,25 @@ use denote.Triple.Spec.{Meets, tripleOf}
 use denote.Triple.Table.{entered, cited}
 use denote.Triple.Walked.{says, Stays, stay-dropped, gave-ref, gave-slice, walkOf, AllGo, goes-dropped, goes-gave-ref, goes-gave-slice, Walks, ends-at, walked, walk-meets}
 use denote.Triple.Clauses.{ensured, lasts}
-use Rattle.ends.specs.declared.Ends.{Ends}
-use Rattle.ends.specs.declared.Outcome.{Outcome}
-use Rattle.socket.specs.declared.Pair.{Pair}
-use Rattle.socket.specs.declared.Step.{Step}
-use Rattle.socket.proofs.Pair as T
-use Rattle.socket.proofs.Pair.Laws as T′
-use Rattle.ends.proofs.Outcome as K
-use Rattle.ends.proofs.Outcome.Laws as K′
-use Rattle.ends.proofs.Ends as E
-use Rattle.ends.proofs.Ends.Laws as E′
-use Rattle.kept_pair.proofs.Callees.{pair-one, pair-lawful, outcome-lawful}
-use Rattle.reference_steps.proofs.Steps.{asks, hands, opened, fills, frees-cell}
+use Rattle.definition.specs.declared.Ends.{Ends}
+use Rattle.endpoint.specs.declared.ends.Outcome.{Outcome}
+use Rattle.definition.specs.declared.Pair.{Pair}
+use Rattle.definition.specs.declared.Step.{Step}
+use Rattle.definition.proofs.Pair as T
+use Rattle.definition.proofs.Pair.Laws as T′
+use Rattle.endpoint.proofs.ends.Outcome as K
+use Rattle.endpoint.proofs.ends.Outcome.Laws as K′
+use Rattle.definition.proofs.Ends as E
+use Rattle.definition.proofs.Ends.Laws as E′
+use Rattle.kept.proofs.pair.Callees.{pair-one, pair-lawful, outcome-lawful}
+use Rattle.kept.proofs.steps.Steps.{asks, hands, opened, fills, frees-cell}
 use Rattle.host.proofs.Callees.{ends-lawful, ends-contract, ask-ends}
-use Rattle.kept_transfer.proofs.Callees.{outcome-contract, hand-outcome}
-use Rattle.socket.specs.Pair.{own}
-use Rattle.host.specs.Host.{Answered}
+use Rattle.kept.proofs.transfers.Callees.{outcome-contract, hand-outcome}
+use Rattle.definition.specs.Pair.{own}
+use Rattle.definition_runs.specs.Exported.{Answered}
 use Rattle.socket.proofs.Visiting.{places-128}
-use Rattle.kept_pair.proofs.Stored.{settled-as}
-use Rattle.syscall.specs.Read.{UserRead}
+use Rattle.kept.proofs.pair.Stored.{settled-as}
+use Rattle.definition.specs.Read.{UserRead}
 use Rattle.syscall.specs.Ends.{EndsUserRead}
 use Rattle.syscall.proofs.Settled.{read-whole}
 use Rattle.syscall.proofs.read_ends as step
@@ -69,10 +69,10 @@ use Rattle.socket.proofs.ends_of as ends
 use Rattle.socket.proofs.ends_of.Symbol as ends-def
 use Rattle.socket.proofs.ends_of.Symbol.{name as #ends}
 use Rattle.socket.proofs.ends_of.Met as ends-thm
-use Rattle.kept_pair.proofs.outcome as outcome
-use Rattle.kept_pair.proofs.outcome.Symbol as outcome-def
-use Rattle.kept_pair.proofs.outcome.Symbol.{name as #outcome}
-use Rattle.kept_pair.proofs.outcome.Met as outcome-thm
+use Rattle.kept.proofs.pair.outcome as outcome
+use Rattle.kept.proofs.pair.outcome.Symbol as outcome-def
+use Rattle.kept.proofs.pair.outcome.Symbol.{name as #outcome}
+use Rattle.kept.proofs.pair.outcome.Met as outcome-thm
 use Rattle.host.proofs.memory.murgwethan_user_read.Key.{name as #own}
 use Rattle.host.proofs.memory.murgwethan_user_read as f
 use Rattle.host.proofs.memory.murgwethan_user_read.Statement as stated
@@ -177,4 +177,4 @@ murgwethan-user-read-spec 𝓤 H 𝓜 𝓖 𝓡 =
     (meets 𝓤 H (𝓖 .A) (givenOf 𝓤 H 𝓜 𝓖) (𝓜 .mem) (𝓡 .run) (tablesOf 𝓤 H 𝓜 (tables 𝓤 H 𝓜 𝓡 code.env))
     (cited 𝓤 H (Called 𝓤 H (𝓖 .A) (𝓜 .mem) (𝓡 .run)) 𝓜 𝓡 code.env #step step-def.routine code.calls-syscall·read-ends (step-thm.met 𝓤 H 𝓜 𝓖 𝓡))
     (cited 𝓤 H (ends-contract 𝓤 H (𝓖 .A) (𝓜 .mem) (𝓡 .run)) 𝓜 𝓡 code.env #ends ends-def.routine code.calls-socket·ends-of (ends-thm.met 𝓤 H 𝓜 𝓖 𝓡))
-    (cited 𝓤 H (outcome-contract 𝓤 H (𝓖 .A) (𝓜 .mem) (𝓡 .run)) 𝓜 𝓡 code.env #outcome outcome-def.routine code.calls-kept-pair·outcome (outcome-thm.met 𝓤 H 𝓜 𝓖 𝓡)))
+    (cited 𝓤 H (outcome-contract 𝓤 H (𝓖 .A) (𝓜 .mem) (𝓡 .run)) 𝓜 𝓡 code.env #outcome outcome-def.routine code.calls-kept·pair·outcome (outcome-thm.met 𝓤 H 𝓜 𝓖 𝓡)))

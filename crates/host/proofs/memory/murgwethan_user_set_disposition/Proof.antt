@@ -35,25 +35,24 @@ use denote.Triple.Entry.{onEntry}
 use denote.Triple.Spec.{Meets, tripleOf}
 use denote.Triple.Table.{entered, cited}
 use denote.Triple.Walked.{says, Stays, stay-dropped, gave-ref, walkOf, AllGo, goes-dropped, goes-gave-ref, Walks, ends-at, walked, walk-meets}
-use Rattle.socket.specs.declared.Pair.{Pair}
-use Rattle.socket.specs.declared.Step.{Step}
-use Rattle.socket.proofs.Pair as T
-use Rattle.socket.proofs.Pair.Laws as T′
-use Rattle.ends.proofs.Outcome as K
-use Rattle.ends.proofs.Outcome.Laws as K′
-use Rattle.ends.proofs.Ends as E
-use Rattle.ends.proofs.Ends.Laws as E′
-use Rattle.kept_pair.proofs.Callees.{pair-one, pair-lawful, outcome-lawful}
-use Rattle.reference_steps.proofs.Steps.{asks, hands, opened, put-back, fills, frees-cell}
+use Rattle.definition.specs.declared.Pair.{Pair}
+use Rattle.definition.specs.declared.Step.{Step}
+use Rattle.definition.proofs.Pair as T
+use Rattle.definition.proofs.Pair.Laws as T′
+use Rattle.endpoint.proofs.ends.Outcome as K
+use Rattle.endpoint.proofs.ends.Outcome.Laws as K′
+use Rattle.definition.proofs.Ends as E
+use Rattle.definition.proofs.Ends.Laws as E′
+use Rattle.kept.proofs.pair.Callees.{pair-one, pair-lawful, outcome-lawful}
+use Rattle.kept.proofs.steps.Steps.{asks, hands, opened, put-back, fills, frees-cell}
 use Rattle.host.proofs.Callees.{ends-lawful, ends-contract, ask-ends, user-dispose-ends-contract, ask-user-dispose-ends}
-use Rattle.kept_transfer.proofs.Callees.{outcome-contract, hand-outcome}
-use Rattle.socket.specs.Pair.{isOne, own}
-use Rattle.syscall.specs.Control.{dispositionOf, userDisposeAnswer}
-use Rattle.host.specs.Host.{Answered}
-use Rattle.socket.specs.Tests.{Steps}
+use Rattle.kept.proofs.transfers.Callees.{outcome-contract, hand-outcome}
+use Rattle.definition.specs.Pair.{isOne, own, endsOf}
+use Rattle.definition.specs.Disposition.{dispositionOf, userDisposeAnswer, disposed}
+use Rattle.definition_runs.specs.Exported.{Answered}
+use Rattle.definition.specs.Tests.{Steps}
 use Rattle.socket.proofs.Visiting.{places-128}
-use Rattle.kept_pair.proofs.Stored.{settled-as}
-use Rattle.socket.specs.Disposition.{disposed}
+use Rattle.kept.proofs.pair.Stored.{settled-as}
 use Rattle.syscall.proofs.Controlled.{dispose-whole}
 use Rattle.socket.proofs.ends_of as ends
 use Rattle.socket.proofs.ends_of.Symbol as ends-def
@@ -63,10 +62,10 @@ use Rattle.syscall.proofs.dispose_ends as user-dispose-ends
 use Rattle.syscall.proofs.dispose_ends.Symbol as user-dispose-ends-def
 use Rattle.syscall.proofs.dispose_ends.Symbol.{name as #user-dispose-ends}
 use Rattle.syscall.proofs.dispose_ends.Met as user-dispose-ends-thm
-use Rattle.kept_pair.proofs.outcome as outcome
-use Rattle.kept_pair.proofs.outcome.Symbol as outcome-def
-use Rattle.kept_pair.proofs.outcome.Symbol.{name as #outcome}
-use Rattle.kept_pair.proofs.outcome.Met as outcome-thm
+use Rattle.kept.proofs.pair.outcome as outcome
+use Rattle.kept.proofs.pair.outcome.Symbol as outcome-def
+use Rattle.kept.proofs.pair.outcome.Symbol.{name as #outcome}
+use Rattle.kept.proofs.pair.outcome.Met as outcome-thm
 use Rattle.host.proofs.memory.murgwethan_user_set_disposition.Key.{name as #own}
 use Rattle.host.proofs.memory.murgwethan_user_set_disposition as f
 use Rattle.host.proofs.memory.murgwethan_user_set_disposition.Statement as stated
@@ -88,7 +87,7 @@ module _ {M : Type 1} (𝓤 : URA M) (H : Heap 𝓤) (A : Atoms 𝓤) (W : Given
   abbrev Post : Val → SProp 𝓤
   Post = walkOf 𝓤 H A f.ended stayed (f.clauses 𝓤 H A at-mem run) .post ((bound, (q, tt), tt, x, at), tt)
 
-  exits : (p′ : Pair) (z : ℤ) (v : Val) → Answered (Steps h (userDisposeAnswer h x₁ x₂ x₃) (disposed (isOne x₁) (dispositionOf x₂) (dispositionOf x₃) h)) p′ z
+  exits : (p′ : Pair) (z : ℤ) (v : Val) → Answered (Steps h (userDisposeAnswer (endsOf h) x₁ x₂ x₃) (disposed (isOne x₁) (dispositionOf x₂) (dispositionOf x₃) h)) p′ z
       → ent 𝓤 (⋆ 𝓤 H A (‵ (fres γ (T.the-row .coded .code p′)) ∷ (‵ (flft κ q) ⊛ ‵ ftrue) ∷ ‵ ftrue ∷ ‵ (i64 .own z (v ∷ [])) ∷ [])) (Post v)
   exits p′ z v ens =
       qed W (‵ (fres γ (T.the-row .coded .code p′)) ∷ (‵ (flft κ q) ⊛ ‵ ftrue) ∷ ‵ ftrue ∷ ‵ (i64 .own z (v ∷ [])) ∷ []) ∵
@@ -112,7 +111,7 @@ module _ {M : Type 1} (𝓤 : URA M) (H : Heap 𝓤) (A : Atoms 𝓤) (W : Given
         land ! (from ! (stop !)) (init ! 20 refl (sint-lawful 𝓤 H A W w64 .typed z₀ _ i₀ .0)) $
         returns ! (look ! 20 refl) $
         move ! (20 ∷ 21 ∷ []) $ frees-cell ! $ move ! (18 ∷ 19 ∷ []) $ frees-cell ! $ move ! (16 ∷ 17 ∷ []) $ frees-cell ! $ move ! (14 ∷ 15 ∷ []) $ frees-cell ! $ move ! (12 ∷ 13 ∷ []) $ frees-cell ! $ move ! (10 ∷ 11 ∷ []) $ frees-cell ! $ move ! (8 ∷ 9 ∷ []) $ frees-cell ! $ move ! (6 ∷ 7 ∷ []) $ frees-cell ! $ move ! (4 ∷ 5 ∷ []) $ frees-cell ! $ free0 ! $
-        keep ! (2 ∷ 1 ∷ 8 ∷ 0 ∷ []) $ by ! (exits (ws .0) z₀ v₀ (record { answer = y₅ .answer; word = e₀ .0; kept = subst (λ (k : Step). Steps h (userDisposeAnswer h x₁ x₂ x₃) (disposed (isOne x₁) (dispositionOf x₂) (dispositionOf x₃) h) k) (settled-as y₅ h (ws .0) (e₀ .1)) (dispose-whole h x₁ x₂ x₃ y₆ y₅ (places-128 h _ was) e₆ e₅) }))))))))))))))))))
+        keep ! (2 ∷ 1 ∷ 8 ∷ 0 ∷ []) $ by ! (exits (ws .0) z₀ v₀ (record { answer = y₅ .answer; word = e₀ .0; kept = subst (λ (k : Step). Steps h (userDisposeAnswer (endsOf h) x₁ x₂ x₃) (disposed (isOne x₁) (dispositionOf x₂) (dispositionOf x₃) h) k) (settled-as y₅ h (ws .0) (e₀ .1)) (dispose-whole h x₁ x₂ x₃ y₆ y₅ (places-128 h _ was) e₆ e₅) }))))))))))))))))))
 
 module _ {M : Type 1} (𝓤 : URA M) (H : Heap 𝓤) (A : Atoms 𝓤) (W : Given 𝓤 H A) (at-mem : Memory → SProp 𝓤) (run : Routine → Fun 𝓤) where
   walks : (C : Calls 𝓤 H) (Λ : Loops 𝓤 H) → FmC 𝓤 H (W .laws) C → Triple 𝓤 (C #ends) (ends-contract 𝓤 H A at-mem run) → Triple 𝓤 (C #user-dispose-ends) (user-dispose-ends-contract 𝓤 H A at-mem run) → Triple 𝓤 (C #outcome) (outcome-contract 𝓤 H A at-mem run) → Walks 𝓤 H A f.ended stayed (WpFn 𝓤 H C Λ code.function) (f.clauses 𝓤 H A at-mem run)
@@ -135,4 +134,4 @@ murgwethan-user-set-disposition-spec 𝓤 H 𝓜 𝓖 𝓡 =
     (meets 𝓤 H (𝓖 .A) (givenOf 𝓤 H 𝓜 𝓖) (𝓜 .mem) (𝓡 .run) (tablesOf 𝓤 H 𝓜 (tables 𝓤 H 𝓜 𝓡 code.env))
     (cited 𝓤 H (ends-contract 𝓤 H (𝓖 .A) (𝓜 .mem) (𝓡 .run)) 𝓜 𝓡 code.env #ends ends-def.routine code.calls-socket·ends-of (ends-thm.met 𝓤 H 𝓜 𝓖 𝓡))
     (cited 𝓤 H (user-dispose-ends-contract 𝓤 H (𝓖 .A) (𝓜 .mem) (𝓡 .run)) 𝓜 𝓡 code.env #user-dispose-ends user-dispose-ends-def.routine code.calls-syscall·dispose-ends (user-dispose-ends-thm.met 𝓤 H 𝓜 𝓖 𝓡))
-    (cited 𝓤 H (outcome-contract 𝓤 H (𝓖 .A) (𝓜 .mem) (𝓡 .run)) 𝓜 𝓡 code.env #outcome outcome-def.routine code.calls-kept-pair·outcome (outcome-thm.met 𝓤 H 𝓜 𝓖 𝓡)))
+    (cited 𝓤 H (outcome-contract 𝓤 H (𝓖 .A) (𝓜 .mem) (𝓡 .run)) 𝓜 𝓡 code.env #outcome outcome-def.routine code.calls-kept·pair·outcome (outcome-thm.met 𝓤 H 𝓜 𝓖 𝓡)))

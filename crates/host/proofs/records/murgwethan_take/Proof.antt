@@ -37,28 +37,27 @@ use denote.Triple.Spec.{Meets, tripleOf}
 use denote.Triple.Table.{entered, cited}
 use denote.Triple.Walked.{says, Stays, gave-ref, walkOf, AllGo, goes-gave-ref, Walks, ends-at, walked, walk-meets}
 use denote.Triple.Clauses.{ensured, lasts}
-use Rattle.status.specs.declared.Answer.{Answer}
-use Rattle.socket.specs.declared.Pair.{Pair}
-use Rattle.socket.proofs.Pair as T
-use Rattle.socket.proofs.Pair.Laws as T′
-use Rattle.status.proofs.Answer as N
-use Rattle.status.proofs.Answer.Laws as N′
-use Rattle.kept_pair.proofs.Callees.{pair-one, pair-lawful}
-use Rattle.reference_steps.proofs.Steps.{hands, opened, fills, frees-cell}
+use Rattle.definition.specs.declared.Answer.{Answer}
+use Rattle.definition.specs.declared.Pair.{Pair}
+use Rattle.definition.proofs.Pair as T
+use Rattle.definition.proofs.Pair.Laws as T′
+use Rattle.definition.proofs.Answer as N
+use Rattle.definition.proofs.Answer.Laws as N′
+use Rattle.kept.proofs.pair.Callees.{pair-one, pair-lawful}
+use Rattle.kept.proofs.steps.Steps.{hands, opened, fills, frees-cell}
 use Rattle.host.proofs.Callees.{take-contract, hand-take}
-use Rattle.socket.specs.Pair.{own}
-use Rattle.host.specs.Host.{Answered}
-use Rattle.socket.specs.Wait.{takeAnswer, took}
+use Rattle.definition.specs.Pair.{own}
+use Rattle.definition_runs.specs.Exported.{Answered, arrayOf, packetNumbers, Recorded}
+use Rattle.definition.specs.Wait.{takeAnswer, took}
 use Rattle.socket.proofs.Waits.{take-steps}
-use Rattle.host_values.specs.Records.{arrayOf, packetNumbers, Recorded}
-use Rattle.host_values.proofs.take_answer as step
-use Rattle.host_values.proofs.take_answer.Symbol as step-def
-use Rattle.host_values.proofs.take_answer.Symbol.{name as #step}
-use Rattle.host_values.proofs.take_answer.Met as step-thm
-use Rattle.kept_places.proofs.take as take
-use Rattle.kept_places.proofs.take.Symbol as take-def
-use Rattle.kept_places.proofs.take.Symbol.{name as #take}
-use Rattle.kept_places.proofs.take.Met as take-thm
+use Rattle.host.proofs.values.take_answer as step
+use Rattle.host.proofs.values.take_answer.Symbol as step-def
+use Rattle.host.proofs.values.take_answer.Symbol.{name as #step}
+use Rattle.host.proofs.values.take_answer.Met as step-thm
+use Rattle.kept.proofs.places.take as take
+use Rattle.kept.proofs.places.take.Symbol as take-def
+use Rattle.kept.proofs.places.take.Symbol.{name as #take}
+use Rattle.kept.proofs.places.take.Met as take-thm
 use Rattle.host.proofs.records.murgwethan_take.Key.{name as #own}
 use Rattle.host.proofs.records.murgwethan_take as f
 use Rattle.host.proofs.records.murgwethan_take.Statement as stated
@@ -143,5 +142,5 @@ murgwethan-take-spec 𝓤 H 𝓜 𝓖 𝓡 =
     entered 𝓤 H (tripleOf 𝓤 H (𝓖 .A) f.signature (f.spec 𝓤 H (𝓖 .A) (𝓜 .mem) (𝓡 .run)))
     (tables 𝓤 H 𝓜 𝓡 code.env .C) (tables 𝓤 H 𝓜 𝓡 code.env .Λ) #own code.function (code.unfolded 𝓤 H 𝓜 𝓡)
     (meets 𝓤 H (𝓖 .A) (givenOf 𝓤 H 𝓜 𝓖) (𝓜 .mem) (𝓡 .run) (tablesOf 𝓤 H 𝓜 (tables 𝓤 H 𝓜 𝓡 code.env))
-    (cited 𝓤 H (Called 𝓤 H (𝓖 .A) (𝓜 .mem) (𝓡 .run)) 𝓜 𝓡 code.env #step step-def.routine code.calls-host-values·take-answer (step-thm.met 𝓤 H 𝓜 𝓖 𝓡))
-    (cited 𝓤 H (take-contract 𝓤 H (𝓖 .A) (𝓜 .mem) (𝓡 .run)) 𝓜 𝓡 code.env #take take-def.routine code.calls-kept-places·take (take-thm.met 𝓤 H 𝓜 𝓖 𝓡)))
+    (cited 𝓤 H (Called 𝓤 H (𝓖 .A) (𝓜 .mem) (𝓡 .run)) 𝓜 𝓡 code.env #step step-def.routine code.calls-host·values·take-answer (step-thm.met 𝓤 H 𝓜 𝓖 𝓡))
+    (cited 𝓤 H (take-contract 𝓤 H (𝓖 .A) (𝓜 .mem) (𝓡 .run)) 𝓜 𝓡 code.env #take take-def.routine code.calls-kept·places·take (take-thm.met 𝓤 H 𝓜 𝓖 𝓡)))

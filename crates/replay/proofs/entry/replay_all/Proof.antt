@@ -6,9 +6,9 @@ use mathlib.Core.Path.{_≡_, refl, ap, _∙_}
 use native.Mathlib.Omega.{arith}
 use borrow.Author.Needs.{needs}
 use lib.ListN.{length}
-use Rattle.tally.specs.declared.Comparison.the-variants.{Agrees}
-use Rattle.tally.specs.declared.Tally.{Tally}
-use Rattle.tally.proofs.Counts.{counted-small}
+use Rattle.report.specs.declared.tally.Comparison.the-variants.{Agrees}
+use Rattle.report.specs.declared.tally.Tally.{Tally}
+use Rattle.report.proofs.tally.Counts.{counted-small}
 use Rattle.replay.specs.Replay.{AllAgree, none, more, FirstMissed, noTally, Tallied, begun, next}
 use Rattle.replay.proofs.Entries.{counted-total, counted-most, counted-all, none-missed, first-counted}
 use Rattle.replay.proofs.entry.replay_all.Statement.{statement}

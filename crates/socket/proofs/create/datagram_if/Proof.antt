@@ -1,5 +1,5 @@
 use mathlib.Core.Path.{refl}
-use Rattle.status.proofs.Rules.{pick-on, pick-off}
+use Rattle.endpoint.proofs.answer.Rules.{pick-on, pick-off}
 use Rattle.socket.proofs.create.datagram_if.Statement.{statement}
 use Rattle.socket.proofs.create.datagram_if.Tie as tie
 

@@ -1,11 +1,10 @@
 use Prim.Native.Nat.{ℕ}
 use mathlib.Core.Path.{_≡_, refl, sym}
 use mathlib.Core.Bool.{Bool, true, false}
-use Rattle.status.specs.Choice.{pick}
-use Rattle.places.specs.Table.{newPlaces}
-use Rattle.endpoint.specs.Endpoint.{newEnd, noEnd}
-use Rattle.bits.specs.Bits.{bitIf}
-use Rattle.socket.specs.Pair.{newPair, noPair}
+use Rattle.definition.specs.Status.{pick}
+use Rattle.definition.specs.Port.{newPlaces}
+use Rattle.definition.specs.Create.{newEnd, noEnd, newPair, noPair}
+use Rattle.definition.specs.Signal.{bitIf}
 use Rattle.socket.proofs.create.pair_if.Statement.{statement}
 use Rattle.socket.proofs.create.pair_if.Tie as tie
 
@@ -29,11 +28,11 @@ datagram-if-requires c κs = tt
 bit-if-requires : tie.Need-bit-if-requires
 bit-if-requires c κs = tt
 
-new-requires : tie.Need-new-requires
+new-requires : tie.Need-new-places-requires
 new-requires c κs = tt
 
 returns : tie.Need-returns
-returns c = rw (c .before .before .before .before .end-if .ensures, c .before .before .before .end-if2 .ensures, c .before .before .datagram-if .ensures, c .before .bit-if .ensures, c .new .ensures) (whole _ _ _ _ _)
+returns c = rw (c .before .before .before .before .end-if .ensures, c .before .before .before .end-if2 .ensures, c .before .before .datagram-if .ensures, c .before .bit-if .ensures, c .new-places .ensures) (whole _ _ _ _ _)
 
 pub pair-if-spec : {M : Type 1} → statement M
 pair-if-spec =

@@ -1,4 +1,4 @@
-use Rattle.places.specs.Table.{onlyWait}
+use Rattle.port.specs.places.Table.{onlyWait}
 use borrow.Author.Needs.{needs}
 use Rattle.socket.proofs.deferred.has_only_wait.Statement.{statement}
 use Rattle.socket.proofs.deferred.has_only_wait.Tie as tie

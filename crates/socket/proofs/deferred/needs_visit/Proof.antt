@@ -1,7 +1,7 @@
 use mathlib.Core.Bool.{true, false}
 use mathlib.Core.Path.{_≡_, refl, sym, ap, _∙_}
-use Rattle.status.proofs.Rules.{via, via-not, via-not-not, and-on, or-off}
-use Rattle.status.specs.Choice.{_and_, _or_}
+use Rattle.endpoint.proofs.answer.Rules.{via, via-not, via-not-not, and-on, or-off}
+use Rattle.definition.specs.Status.{_and_, _or_}
 use Rattle.socket.specs.Deferred.{needsVisit}
 use borrow.Author.Needs.{needs}
 use Rattle.socket.proofs.deferred.needs_visit.Statement.{statement}

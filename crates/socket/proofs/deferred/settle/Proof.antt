@@ -1,7 +1,7 @@
 use mathlib.Core.Path.{_≡_, refl, sym, ap, _∙_}
-use Rattle.status.specs.Choice.{pick}
-use Rattle.socket.specs.declared.Pair.{Pair}
-use Rattle.socket.specs.Deferred.{needsVisit, visitedAll, settled}
+use Rattle.definition.specs.Status.{pick}
+use Rattle.definition.specs.declared.Pair.{Pair}
+use Rattle.socket.specs.Deferred.{needsVisit, visitedAll, settledStep}
 use Rattle.socket.proofs.Visiting.{places-128}
 use Rattle.socket.proofs.Needed.{settled-need}
 use borrow.Author.Needs.{needs}
@@ -15,7 +15,7 @@ visit-requires : tie.Need-visit-requires
 visit-requires c κs = search needs
 
 returns : tie.Need-returns
-unfolding settled
+unfolding settledStep
 returns c =
     let s = c .before .before in
     ap (λ (k : Pair). record { pair = k; answer = s .args .r .answer })

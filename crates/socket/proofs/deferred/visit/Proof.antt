@@ -1,6 +1,6 @@
 use mathlib.Core.Path.{_≡_, refl, sym, ap, _∙_}
-use Rattle.status.proofs.Rules.{via, via-not, via-not-not}
-use Rattle.status.specs.Choice.{pick}
+use Rattle.endpoint.proofs.answer.Rules.{via, via-not, via-not-not}
+use Rattle.definition.specs.Status.{pick}
 use borrow.Author.Needs.{needs}
 use Rattle.socket.proofs.deferred.visit.Statement.{statement}
 use Rattle.socket.proofs.deferred.visit.Tie as tie

@@ -1,4 +1,4 @@
-use Rattle.socket.specs.Pair.{withPlaces}
+use Rattle.definition.specs.Pair.{withPlaces}
 use Rattle.socket.specs.Deferred.{visitedPair, visitedAll}
 use borrow.Author.Needs.{needs}
 use Rattle.socket.proofs.deferred.visit_each.Statement.{statement}

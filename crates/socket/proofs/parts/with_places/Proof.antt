@@ -1,4 +1,4 @@
-use Rattle.socket.specs.Pair.{withPlaces}
+use Rattle.definition.specs.Pair.{withPlaces}
 use Rattle.socket.proofs.parts.with_places.Statement.{statement}
 use Rattle.socket.proofs.parts.with_places.Tie as tie
 

@@ -1,4 +1,4 @@
-use Rattle.places.specs.Table.{onlyPacket}
+use Rattle.port.specs.places.Table.{onlyPacket}
 use borrow.Author.Needs.{needs}
 use Rattle.socket.proofs.wait.has_only_packet.Statement.{statement}
 use Rattle.socket.proofs.wait.has_only_packet.Tie as tie

@@ -1,4 +1,4 @@
-use Rattle.places.specs.Table.{unused}
+use Rattle.port.specs.places.Table.{unused}
 use borrow.Author.Needs.{needs}
 use Rattle.socket.proofs.wait.is_unused.Statement.{statement}
 use Rattle.socket.proofs.wait.is_unused.Tie as tie

@@ -1,9 +1,9 @@
 use mathlib.Core.Path.{sym, ap, _∙_}
-use Rattle.status.specs.Answer.{isDone}
-use Rattle.status.proofs.Rules.{via-not, via-not-not, then-stop, then-go}
-use Rattle.ends_tests.proofs.Sound.{sound-passed}
-use Rattle.socket.specs.Pair.{endsOf}
-use Rattle.socket.specs.Wait.{takeAnswer}
+use Rattle.definition.specs.Status.{isDone}
+use Rattle.endpoint.proofs.answer.Rules.{via-not, via-not-not, then-stop, then-go}
+use Rattle.answers.proofs.tests.Sound.{sound-passed}
+use Rattle.definition.specs.Pair.{endsOf}
+use Rattle.definition.specs.Wait.{takeAnswer}
 use Rattle.socket.proofs.Waits.{oldest-answer}
 use Rattle.socket.proofs.wait.take_answer.Statement.{statement}
 use Rattle.socket.proofs.wait.take_answer.Tie as tie

@@ -1,6 +1,6 @@
 use mathlib.Core.Path.{ap, sym, _∙_}
-use Rattle.status.specs.Answer.{isDone}
-use Rattle.status.proofs.Rules.{pick-on, pick-off, via-not, via-not-not}
+use Rattle.definition.specs.Status.{isDone}
+use Rattle.endpoint.proofs.answer.Rules.{pick-on, pick-off, via-not, via-not-not}
 use Rattle.syscall.specs.Ends.{userDisposeEnds}
 use Rattle.syscall.proofs.deferred.dispose_ends.Statement.{statement}
 use Rattle.syscall.proofs.deferred.dispose_ends.Tie as tie

@@ -2,7 +2,7 @@ use Prim.Native.Nat.{_+_, _-_}
 use mathlib.Core.Path.{sym, _∙_}
 use denote.Ref.{now}
 use native.Mathlib.Omega.{arith}
-use Rattle.transfer_read.proofs.Outcomes.{unchanged-read}
+use Rattle.transfer.proofs.read.Outcomes.{unchanged-read}
 use Rattle.syscall.specs.Ends.{pairOf}
 use Rattle.syscall.proofs.Calls.{read-room, ends-none, ends-some}
 use borrow.Author.Needs.{needs}

@@ -1,6 +1,6 @@
 use mathlib.Core.Path.{refl}
 use denote.Ref.{now}
-use Rattle.status.proofs.Rules.{pick-on, pick-off, via}
+use Rattle.endpoint.proofs.answer.Rules.{pick-on, pick-off, via}
 use Rattle.syscall.proofs.Calls.{ends-after}
 use borrow.Author.Needs.{needs}
 use Rattle.syscall.proofs.deferred.read_ends.Statement.{statement}

@@ -2,7 +2,7 @@ use Prim.Native.Nat.{_+_, _-_}
 use mathlib.Core.Path.{sym, _∙_}
 use denote.Ref.{now}
 use native.Mathlib.Omega.{arith}
-use Rattle.transfer_write.proofs.Outcomes.{unchanged-wrote}
+use Rattle.transfer.proofs.write.Outcomes.{unchanged-wrote}
 use Rattle.syscall.specs.Ends.{pairOf}
 use Rattle.syscall.proofs.Calls.{taken-none, taken-all}
 use borrow.Author.Needs.{needs}

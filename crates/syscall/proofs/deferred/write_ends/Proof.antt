@@ -1,7 +1,7 @@
 use mathlib.Core.Path.{_∙_}
 use denote.Ref.{now}
-use Rattle.status.proofs.Rules.{via-not, via-not-not}
-use Rattle.transfer_write.proofs.Outcomes.{unchanged-wrote}
+use Rattle.endpoint.proofs.answer.Rules.{via-not, via-not-not}
+use Rattle.transfer.proofs.write.Outcomes.{unchanged-wrote}
 use Rattle.syscall.specs.Ends.{pairOf}
 use Rattle.syscall.proofs.Calls.{none-moved, wrote-none, wrote-some}
 use Rattle.syscall.proofs.Passed.{write-passed}

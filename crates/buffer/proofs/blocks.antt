@@ -1,0 +1,4 @@
+pub mod Drains
+pub mod Short
+pub mod Listed
+pub mod Blocks

@@ -1,2 +1,0 @@
--- Calls: what a call says is what its definition says
-pub mod Calls

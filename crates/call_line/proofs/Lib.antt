@@ -1,2 +1,0 @@
--- Lines: the line of a call
-pub mod Lines

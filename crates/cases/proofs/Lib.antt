@@ -1,3 +1,0 @@
-pub mod Lines
-pub mod Edges
-pub mod Damaged

@@ -1,0 +1,35 @@
+use Rattle.endpoint.proofs.answer.Rules.{pick-on, pick-off, via-not, via-not-not}
+use Rattle.control.specs.disposition.DispositionEnds.{disposeEnds}
+use Rattle.control.proofs.disposition.dispose_ends.Statement.{statement}
+use Rattle.control.proofs.disposition.dispose_ends.Tie as tie
+
+dispose-answer-requires : tie.Need-dispose-answer-requires
+dispose-answer-requires c κs = tt
+
+is-done-requires : tie.Need-is-done-requires
+is-done-requires c κs = tt
+
+unchanged-requires : tie.Need-unchanged-requires
+unchanged-requires c κs = tt
+
+returns : tie.Need-returns
+unfolding disposeEnds
+returns c = rw (← c .before .before .before .dispose-answer .ensures) (pick-off _ _ _ _ _ (via-not (c .before .before .is-done .ensures) (c .before .if1 .taken)) (c .unchanged .ensures))
+
+disposed-ends-requires : tie.Need-disposed-ends-requires
+disposed-ends-requires c κs = tt
+
+returns-2 : tie.Need-returns-2
+unfolding disposeEnds
+returns-2 c = rw (← c .before .before .before .dispose-answer .ensures) (pick-on _ _ _ _ _ (via-not-not (c .before .before .is-done .ensures) (c .before .if1 .left)) (c .disposed-ends .ensures))
+
+pub dispose-ends-spec : {M : Type 1} → statement M
+dispose-ends-spec =
+    tie.close
+    (tie.spec
+    dispose-answer-requires
+    is-done-requires
+    unchanged-requires
+    returns
+    disposed-ends-requires
+    returns-2)

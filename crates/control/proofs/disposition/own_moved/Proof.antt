@@ -1,0 +1,48 @@
+use Rattle.control.specs.disposition.DispositionEnds.{ownMoved}
+use borrow.Author.Needs.{needs}
+use Rattle.control.proofs.disposition.own_moved.Statement.{statement}
+use Rattle.control.proofs.disposition.own_moved.Tie as tie
+
+enum-told : tie.Need-enum-told
+enum-told c = search needs
+
+kept-ends-requires : tie.Need-kept-ends-requires
+kept-ends-requires c κs = tt
+
+enum-told-2 : tie.Need-enum-told-2
+enum-told-2 c = search needs
+
+own-disposed-requires : tie.Need-own-disposed-requires
+own-disposed-requires c κs = tt
+
+enum-told-3 : tie.Need-enum-told-3
+enum-told-3 c = search needs
+
+own-disposed-requires-2 : tie.Need-own-disposed-requires-2
+own-disposed-requires-2 c κs = tt
+
+returns : tie.Need-returns
+unfolding ownMoved
+returns c = rw (c .before .enum-told .given .1) (c .kept-ends .ensures)
+
+returns-2 : tie.Need-returns-2
+unfolding ownMoved
+returns-2 c = rw (c .before .enum-told2 .given .1) (c .own-disposed .ensures)
+
+returns-3 : tie.Need-returns-3
+unfolding ownMoved
+returns-3 c = rw (c .before .enum-told3 .given .1) (c .own-disposed2 .ensures)
+
+pub own-moved-spec : {M : Type 1} → statement M
+own-moved-spec =
+    tie.close
+    (tie.spec
+    enum-told
+    kept-ends-requires
+    enum-told-2
+    own-disposed-requires
+    enum-told-3
+    own-disposed-requires-2
+    returns
+    returns-2
+    returns-3)

@@ -1,0 +1,3 @@
+pub mod CloseEnds
+pub mod ShutdownEnds
+pub mod Changes

@@ -1,0 +1,12 @@
+pub mod Creates
+pub mod Damaged
+pub mod Edges
+pub mod EveryCall
+pub mod FirstLengths
+pub mod Lends
+pub mod LentCalls
+pub mod Lines
+pub mod Orders
+pub mod Packets
+pub mod Scripts
+pub mod States

@@ -1,0 +1,112 @@
+-- Records that no run leaves: each condition of INTERNAL at its edge and beside it, at either end, open or closed, on stream and datagram pairs, by
+-- every call. C = 8 where C is not the condition.
+-- 01 "Status and answer word".
+use Prim.Native.Nat.{ℕ}
+use mathlib.Core.Bool.{Bool, false, true}
+use mathlib.Core.List.{List, [], _∷_, _++_, map}
+use mathlib.Core.Path.{_≡_}
+use lib.ListN.{length, replicate}
+use Rattle.definition.specs.declared.Queue.{Queue}
+use Rattle.definition.specs.declared.Endpoint.{Endpoint}
+use Rattle.definition.specs.Calls.{State, state, plainDisposition, control}
+use Rattle.definition.specs.cases.States.{datagram, empty, opened, pair, long, queued, eight, closed, stream, queue, end, slices, Row, is, no, rowWord}
+use Rattle.definition.specs.cases.EveryCall.{everyCall, internal}
+
+-- ---- the edges
+
+-- a record on which no call is INTERNAL, and beside it one on which every call is
+pub record Edge : Type 0 where
+  pub fine : State
+  pub damaged : State
+
+abbrev pub edge : (fine damaged : State) → Edge
+edge s s′ = record { fine = s; damaged = s′ }
+
+-- a pair with this C; with so many packets and waits
+abbrev pub capacity : (datagram : Bool) → ℕ → State
+capacity dg C = state (pair dg C 0 0 (opened empty) (opened empty)) long long
+
+abbrev pub places : (datagram : Bool) → (packets waits : ℕ) → State
+places dg packets waits = state (pair dg 8 packets waits (opened (queued dg)) (opened (queued dg))) long long
+
+-- a queue at end 1, and at end 2, which is open or closed
+abbrev pub atOne : (Queue → Endpoint) → (datagram : Bool) → Queue → State
+atOne made dg q = state (eight dg (made q) (opened (queued dg))) long long
+
+abbrev pub atTwo : (Queue → Endpoint) → (datagram : Bool) → Queue → State
+atTwo made dg q = state (eight dg (opened (queued dg)) (made q)) long long
+
+-- at either end, open and closed; on either kind of pair
+abbrev pub either : (datagram : Bool) → (fine damaged : Queue) → List Edge
+either dg q q′ =
+    edge (atOne opened dg q) (atOne opened dg q′)
+    ∷ edge (atTwo opened dg q) (atTwo opened dg q′)
+    ∷ edge (atOne closed dg q) (atOne closed dg q′)
+    ∷ edge (atTwo closed dg q) (atTwo closed dg q′)
+    ∷ []
+
+abbrev pub both : (fine damaged : Queue) → List Edge
+both q q′ = either stream q q′ ++ either datagram q q′
+
+unfoldable pub edges : List Edge
+edges =
+    -- C
+    edge (capacity stream 1) (capacity stream 0)
+    ∷ edge (capacity datagram 1) (capacity datagram 0)
+    ∷ edge (capacity stream 262144) (capacity stream 262145)
+    ∷ edge (capacity datagram 262144) (capacity datagram 262145)
+    -- places: packets, waits, both
+    ∷ edge (places stream 128 0) (places stream 129 0)
+    ∷ edge (places datagram 128 0) (places datagram 129 0)
+    ∷ edge (places stream 0 128) (places stream 0 129)
+    ∷ edge (places datagram 0 128) (places datagram 0 129)
+    ∷ edge (places stream 60 68) (places stream 60 69)
+    ∷ edge (places datagram 60 68) (places datagram 60 69)
+    -- the ring's start, the table's start, on stream pairs too
+    ∷ both (queue 7 3 7 1) (queue 8 3 7 1)
+    ++ both (queue 7 3 7 1) (queue 7 3 8 1)
+    -- queued bytes
+    ++ both (queue 7 8 7 1) (queue 7 9 7 1)
+    -- lengths, on datagram pairs: more than the bytes, none with bytes, some without bytes
+    ++ either datagram (queue 7 3 7 3) (queue 7 3 7 4)
+    ++ either datagram (queue 7 3 7 1) (queue 7 3 7 0)
+    ++ either datagram (queue 7 0 7 0) (queue 7 0 7 1)
+
+-- an end whose rights and thresholds no run leaves
+abbrev odd : Queue → Endpoint
+odd q = record { closed = false; «read_disabled» = false; rights = 8; signals = 2; thresholds = record { read = 9; write = 9 }; queue = q }
+
+-- damage that 01 does not list, on which no call is INTERNAL
+unfoldable pub unlisted : List State
+unlisted =
+    -- stream pairs have no lengths
+    atOne opened stream (queue 7 3 0 4)
+    ∷ atTwo opened stream (queue 7 3 0 4)
+    ∷ atOne opened stream (queue 7 3 0 0)
+    ∷ atTwo opened stream (queue 7 3 0 0)
+    ∷ atOne opened stream (queue 7 0 0 1)
+    ∷ atTwo opened stream (queue 7 0 0 1)
+    -- rights above 7 and thresholds above C
+    ∷ atOne odd stream (queued stream)
+    ∷ atTwo odd datagram (queued datagram)
+    ∷ []
+
+-- ---- own enable
+
+-- End 2, open or closed, has a byte to read and PEER_WRITE_DISABLED, as no closed end has in a run: own enable looks at an open peer only.
+abbrev backlog : (closed : Bool) → State
+backlog closed = state (eight stream (opened empty) (end closed 16 (queue 0 1 0 0))) (slices 8 []) (slices 8 [])
+
+unfoldable pub backlogRows : List Row
+backlogRows =
+    no (backlog false) (control (plainDisposition 1 2 0)) 20
+    ∷ is (backlog true) (control (plainDisposition 1 2 0)) 0
+    ∷ []
+
+-- ---- the claim
+
+pub record DamagedRecords : Type 0 where
+  pub fine : map (λ (e : Edge). internal (e .fine)) edges ≡ map (λ (e : Edge). replicate (length everyCall) false) edges
+  pub damaged : map (λ (e : Edge). internal (e .damaged)) edges ≡ map (λ (e : Edge). replicate (length everyCall) true) edges
+  pub others : map internal unlisted ≡ map (λ (s : State). replicate (length everyCall) false) unlisted
+  pub backlogs : map rowWord backlogRows ≡ map (λ (r : Row). r .word) backlogRows

@@ -1,0 +1,102 @@
+-- Scripts of calls on a new pair with C = 8, each with what the lines of the listing show: how their calls and lines are written.
+-- 01 "At the edges", "Script program".
+use Prim.Native.Nat.{ℕ}
+use mathlib.Core.List.{List, [], _∷_, map}
+use mathlib.Core.Bool.{false}
+use mathlib.Core.Option.{Option, none, some}
+use mathlib.Core.Path.{_≡_}
+use lib.ListN.{replicate}
+use lib.IntN.{ℤ, pos, negℤ}
+use Rattle.definition.specs.declared.Record.{Record}
+use Rattle.definition.specs.declared.SignalWord.{SignalWord}
+use Rattle.definition.specs.declared.SignalWord.the-variants.{Word, Closed}
+use Rattle.definition.specs.declared.Record.the-variants.{Packet}
+use Rattle.definition.specs.Calls.{Call, Input, input, Control, control, write, read, plainWrite, plainRead, Create, Slices}
+use Rattle.definition.specs.cases.Lines.{Line, linesOf}
+
+-- ---- calls
+
+abbrev pub stream : ℕ
+stream = 0
+
+abbrev pub datagram : ℕ
+datagram = 1
+
+-- memory is 16 bytes at 4096, the letters a to p
+abbrev pub letters : List ℕ
+letters = 97 ∷ 98 ∷ 99 ∷ 100 ∷ 101 ∷ 102 ∷ 103 ∷ 104 ∷ 105 ∷ 106 ∷ 107 ∷ 108 ∷ 109 ∷ 110 ∷ 111 ∷ 112 ∷ []
+
+abbrev pub on : Call → Input
+on c = input c 4096 letters
+
+abbrev pub c : Control → Input
+c x = on (control x)
+
+-- n bytes written from an address, or read to 4096, without a count; the same plain
+abbrev pub w : (handle address n : ℕ) → Input
+w h address n = on (write h 0 address n 0)
+
+abbrev pub r : (handle n : ℕ) → Input
+r h n = on (read h 0 4096 n 0)
+
+abbrev pub wp : (handle : ℕ) → (bytes : List ℕ) → Input
+wp h bytes = input (plainWrite h) 0 bytes
+
+abbrev pub rp : (handle n : ℕ) → Input
+rp h n = input (plainRead h false) 0 (replicate n 0)
+
+-- ---- expected lines: the word, then the signal words of ends 1 and 2
+
+abbrev pub line : ℤ → SignalWord → SignalWord → List ℕ → Option Record → Line
+line n u v bytes d = record { word = n; end1 = u; end2 = v; bytes = bytes; holds = d }
+
+-- done with n
+abbrev pub ok : (n u v : ℕ) → Line
+ok n u v = line (pos n) (Word u) (Word v) [] none
+
+-- refused with −n
+abbrev pub no : (n u v : ℕ) → Line
+no n u v = line (negℤ (pos n)) (Word u) (Word v) [] none
+
+-- a read that delivers these bytes
+abbrev pub got : (n u v : ℕ) → List ℕ → Line
+got n u v bytes = line (pos n) (Word u) (Word v) bytes none
+
+-- a packet of this key, trigger and observed word
+abbrev pub took : (key trigger observed u v : ℕ) → Line
+took key trigger observed u v =
+    line (pos 0) (Word u) (Word v) [] (some (Packet (record { key = key; trigger = trigger; observed = observed; count = 1; timestamp = 0 })))
+
+-- the same with end 2 closed
+abbrev pub ok1 : (n u : ℕ) → Line
+ok1 n u = line (pos n) (Word u) Closed [] none
+
+abbrev pub no1 : (n u : ℕ) → Line
+no1 n u = line (negℤ (pos n)) (Word u) Closed [] none
+
+-- ---- scripts
+
+-- a create with C = 8 and one rights word for both ends, the calls, and the lines that they show
+pub record Script : Type 0 where
+  pub kind : ℕ
+  pub rights : ℕ
+  pub calls : List Input
+  pub lines : List Line
+
+abbrev pub script : (kind rights : ℕ) → List Input → List Line → Script
+script kind rights is ls = record { kind = kind; rights = rights; calls = is; lines = ls }
+
+abbrev pub create : (kind rights : ℕ) → Create
+create kind rights = record { kind = kind; capacity = 8; rights1 = rights; rights2 = rights }
+
+-- each end's ring and table
+abbrev pub slices : Slices
+slices = record { ring = replicate 8 0; table = replicate 8 0 }
+
+unfoldable pub scriptLines : Script → List Line
+unfolding linesOf
+scriptLines s = linesOf (create (s .kind) (s .rights)) slices slices (s .calls)
+
+-- create is done and both words are WRITABLE, then the calls show the script's lines
+abbrev pub Show : List Script → Type 0
+Show ss = map scriptLines ss ≡ map (λ (s : Script). ok 0 0x2 0x2 ∷ s .lines) ss

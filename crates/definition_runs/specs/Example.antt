@@ -1,0 +1,166 @@
+-- One run with two memories, computed through the claim on two runs: other bytes are delivered, from the same sources, and all else is the same.
+-- 01 "Two runs".
+use Prim.Native.Nat.{ℕ}
+use mathlib.Core.Bool.{false, true}
+use mathlib.Core.List.{List, [], _∷_, map}
+use mathlib.Core.Path.{_≡_}
+use lib.ListN.{replicate}
+use lib.Dec.{eqb}
+use Rattle.definition.specs.Calls.{write, read, plainWrite, plainRead, close, Input, input, Slices, Outcome, outcomes, start, State, afterAll, Seen, seenOf, createdBy, pairCreated}
+use Rattle.definition.specs.cases.Lines.{linesOf}
+use Rattle.definition.specs.cases.Scripts.{create, datagram, stream}
+use Rattle.definition_runs.specs.Origins.{Origin, origins, flat, added, shrunk, removed, linesAfter, sourceOf, sourcesFrom, sources}
+use Rattle.definition_runs.specs.TwoRuns.{answers, calls, delivered, Alike}
+use Rattle.definition_runs.specs.Run.{Run}
+
+-- A row of 3 bytes and one of 2 are written. The first is peeked at, and read into 2 bytes, so that its tail is dropped. The second is read
+-- with its count put over it. Then a plain row goes the other way, and an end closes with a row queued.
+abbrev pub script : (memory row : List ℕ) → List Input
+script memory row =
+    input (write 1 0 4096 3 0) 4096 memory
+    ∷ input (write 1 0 4099 2 4104) 4096 memory
+    ∷ input (read 2 8 4096 4 0) 4096 memory
+    ∷ input (read 2 0 4100 2 0) 4096 memory
+    ∷ input (read 2 0 4096 8 4096) 4096 memory
+    ∷ input (plainWrite 2) 0 row
+    ∷ input (plainRead 1 false) 0 row
+    ∷ input (plainWrite 1) 0 row
+    ∷ input (close 2) 0 []
+    ∷ []
+
+-- On a stream 6 bytes are written and 4 of them read. The write of 8 then takes 6, which run past the ring's end of 8 and continue at its start.
+-- A peek and a plain read into 5 and 3 bytes go over both writes; a read of 0 consumes nothing. The rest is read, over the ring's end, with the
+-- count put over it. Then a plain row goes the other way and is peeked at, its writer closes, and it is read.
+abbrev pub streamScript : (memory row : List ℕ) → List Input
+streamScript memory row =
+    input (write 1 0 4096 6 0) 4096 memory
+    ∷ input (read 2 0 4104 4 0) 4096 memory
+    ∷ input (write 1 0 4100 8 4104) 4096 memory
+    ∷ input (read 2 8 4100 5 0) 4096 memory
+    ∷ input (plainRead 2 false) 0 (0 ∷ row)
+    ∷ input (read 2 0 4096 0 4096) 4096 memory
+    ∷ input (read 2 0 4096 8 4098) 4096 memory
+    ∷ input (plainWrite 2) 0 row
+    ∷ input (plainRead 1 true) 0 row
+    ∷ input (close 2) 0 []
+    ∷ input (plainRead 1 false) 0 row
+    ∷ []
+
+-- a salary and a filler
+abbrev pub salary : List Input
+salary = script (49 ∷ 50 ∷ 51 ∷ 52 ∷ 53 ∷ replicate 11 0) (55 ∷ 56 ∷ [])
+
+abbrev pub filler : List Input
+filler = script (replicate 16 42) (42 ∷ 42 ∷ [])
+
+abbrev pub streamSalary : List Input
+streamSalary = streamScript (49 ∷ 50 ∷ 51 ∷ 52 ∷ 53 ∷ 54 ∷ 55 ∷ 56 ∷ 57 ∷ 58 ∷ replicate 6 0) (65 ∷ 66 ∷ [])
+
+abbrev pub streamFiller : List Input
+streamFiller = streamScript (replicate 16 42) (42 ∷ 42 ∷ [])
+
+-- rings and tables that hold other things before create
+abbrev pub empty : Slices
+empty = record { ring = replicate 8 0; table = replicate 8 0 }
+
+abbrev pub used : Slices
+used = record { ring = replicate 8 7; table = replicate 8 9 }
+
+unfoldable pub outcomesOf : (kind : ℕ) → Slices → List Input → List Outcome
+unfolding linesOf
+outcomesOf kind l is = outcomes (start (create kind 7) l l) is
+
+unfoldable pub lastOf : (kind : ℕ) → Slices → List Input → State
+unfolding linesOf
+lastOf kind l is = afterAll (start (create kind 7) l l) is
+
+unfoldable pub createOf : (kind : ℕ) → Slices → Seen
+unfolding linesOf
+createOf kind l = seenOf (createdBy (create kind 7) l l) (pairCreated (create kind 7) (createdBy (create kind 7) l l))
+
+unfoldable pub sourcesOf : (kind : ℕ) → List Input → List Outcome → List (List Origin)
+unfolding linesOf origins flat added shrunk removed linesAfter sourceOf sourcesFrom sources
+sourcesOf kind is os = sources (eqb kind 1) (calls is) (answers os)
+
+-- the ring of end 2 after each call
+abbrev pub ringsOf : List Outcome → List (List ℕ)
+ringsOf os = map (λ (o : Outcome). o .two .ring) os
+
+abbrev pub from : (call offset : ℕ) → Origin
+from call offset = record { call = call; offset = offset }
+
+-- The runs of is and js: both are runs of the code, and alike. The first delivers ds, the second ds′, both from the sources os.
+pub record Differ (kind : ℕ) (is js : List Input) (ds ds′ : List (List ℕ)) (os : List (List Origin)) : Type 0 where
+  pub run1 : Run (create kind 7) empty empty is (createOf kind empty) (outcomesOf kind empty is) (lastOf kind empty is)
+  pub run2 : Run (create kind 7) used used js (createOf kind used) (outcomesOf kind used js) (lastOf kind used js)
+  pub alike : Alike (eqb kind 1) is js (createOf kind empty) (createOf kind used) (outcomesOf kind empty is) (outcomesOf kind used js)
+  pub first : delivered (outcomesOf kind empty is) ≡ ds
+  pub second : delivered (outcomesOf kind used js) ≡ ds′
+  pub sources : sourcesOf kind is (outcomesOf kind empty is) ≡ os
+
+abbrev pub OnDatagrams : Type 0
+OnDatagrams =
+    Differ datagram salary filler
+    ([] ∷ [] ∷ (49 ∷ 50 ∷ 51 ∷ []) ∷ (49 ∷ 50 ∷ []) ∷ (52 ∷ 53 ∷ []) ∷ [] ∷ (55 ∷ 56 ∷ []) ∷ [] ∷ [] ∷ [])
+    ([] ∷ [] ∷ (42 ∷ 42 ∷ 42 ∷ []) ∷ (42 ∷ 42 ∷ []) ∷ (42 ∷ 42 ∷ []) ∷ [] ∷ (42 ∷ 42 ∷ []) ∷ [] ∷ [] ∷ [])
+    ([]
+    ∷ []
+    ∷ (from 0 0 ∷ from 0 1 ∷ from 0 2 ∷ [])
+    ∷ (from 0 0 ∷ from 0 1 ∷ [])
+    ∷ (from 1 0 ∷ from 1 1 ∷ [])
+    ∷ []
+    ∷ (from 5 0 ∷ from 5 1 ∷ [])
+    ∷ []
+    ∷ []
+    ∷ [])
+
+abbrev pub OnStreams : Type 0
+OnStreams =
+    Differ stream streamSalary streamFiller
+    ([]
+    ∷ (49 ∷ 50 ∷ 51 ∷ 52 ∷ [])
+    ∷ []
+    ∷ (53 ∷ 54 ∷ 53 ∷ 54 ∷ 55 ∷ [])
+    ∷ (53 ∷ 54 ∷ 53 ∷ [])
+    ∷ []
+    ∷ (54 ∷ 55 ∷ 56 ∷ 57 ∷ 58 ∷ [])
+    ∷ []
+    ∷ (65 ∷ 66 ∷ [])
+    ∷ []
+    ∷ (65 ∷ 66 ∷ [])
+    ∷ [])
+    ([]
+    ∷ replicate 4 42
+    ∷ []
+    ∷ replicate 5 42
+    ∷ replicate 3 42
+    ∷ []
+    ∷ replicate 5 42
+    ∷ []
+    ∷ replicate 2 42
+    ∷ []
+    ∷ replicate 2 42
+    ∷ [])
+    ([]
+    ∷ (from 0 0 ∷ from 0 1 ∷ from 0 2 ∷ from 0 3 ∷ [])
+    ∷ []
+    ∷ (from 0 4 ∷ from 0 5 ∷ from 2 0 ∷ from 2 1 ∷ from 2 2 ∷ [])
+    ∷ (from 0 4 ∷ from 0 5 ∷ from 2 0 ∷ [])
+    ∷ []
+    ∷ (from 2 1 ∷ from 2 2 ∷ from 2 3 ∷ from 2 4 ∷ from 2 5 ∷ [])
+    ∷ []
+    ∷ (from 7 0 ∷ from 7 1 ∷ [])
+    ∷ []
+    ∷ (from 7 0 ∷ from 7 1 ∷ [])
+    ∷ [])
+
+-- the ring of the stream's end 2: from the third call on it holds 6 bytes of the second write, from place 6 on and then from its start
+abbrev pub wrapped : List ℕ
+wrapped = 55 ∷ 56 ∷ 57 ∷ 58 ∷ 53 ∷ 54 ∷ 53 ∷ 54 ∷ []
+
+pub record Examples : Type 0 where
+  pub datagrams : OnDatagrams
+  pub streams : OnStreams
+  pub rings :
+      ringsOf (outcomesOf stream empty streamSalary)
+      ≡ (49 ∷ 50 ∷ 51 ∷ 52 ∷ 53 ∷ 54 ∷ 0 ∷ 0 ∷ []) ∷ (49 ∷ 50 ∷ 51 ∷ 52 ∷ 53 ∷ 54 ∷ 0 ∷ 0 ∷ []) ∷ replicate 9 wrapped

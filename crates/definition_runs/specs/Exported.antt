@@ -1,0 +1,315 @@
+-- The exported calls: what each ensures, runs of them, and two runs. 01 "Status and answer word", "Two runs".
+use Prim.Native.Nat.{ℕ, _-_}
+use mathlib.Core.Path.{_≡_}
+use mathlib.Core.List.{List, [], _∷_, map}
+use mathlib.Core.Bool.{Bool, true, false}
+use lib.IntN.{ℤ, pos, negsuc}
+use lib.Dec.{eqb}
+use lib.ListN.{take, drop}
+use Rattle.definition.specs.declared.Answer.{Answer}
+use Rattle.definition.specs.declared.Pair.{Pair}
+use Rattle.definition.specs.declared.Step.{Step}
+use Rattle.definition.specs.declared.Record.{Record}
+use Rattle.definition.specs.declared.Record.the-variants.{Empty, Count, Info, Limits, Packet}
+use Rattle.definition.specs.declared.Answer.the-variants.{Done, Refused}
+use Rattle.definition.specs.Status.{answerWord, pick, isDone}
+use Rattle.definition.specs.Tests.{Steps, openingTest, lentOf}
+use Rattle.definition.specs.Pair.{isOne, own, endsOf}
+use Rattle.definition.specs.Create.{newPair}
+use Rattle.definition.specs.Calls.{Create, Slices, createdBy, Input, input, Call, Control, setDisposition, shutdown, plainDisposition, plainShutdown, setReadThreshold, setWriteThreshold, getThresholds, getInfo, wait, takePacket, write, read, plainWrite, plainRead, close, control, State, ownSlices, peerSlices, withPair, withPeer, state, Outcome, seenOf}
+use Rattle.definition.specs.Write.{Wrote, UserWrote}
+use Rattle.definition.specs.Read.{Read, UserRead, bytesLanded}
+use Rattle.definition.specs.Disposition.{disposed, dispositionOf, plainDisposeAnswer, userDisposeAnswer}
+use Rattle.definition.specs.Shutdown.{shutdownAnswer, shut, shutsRead, shutsWrite, userShutdownAnswer}
+use Rattle.definition.specs.Threshold.{readThresholdAnswer, readThresholdSet, writeThresholdAnswer, writeThresholdSet, thresholdsAnswer}
+use Rattle.definition.specs.Wait.{waitAnswer, waited, takeAnswer, took}
+use Rattle.definition.specs.Close.{closeAnswer, closed}
+use Rattle.definition.specs.Info.{infoAnswer}
+use Rattle.definition_runs.specs.Run.{Chain, Run}
+use Rattle.definition_runs.specs.TwoRuns.{answers, delivered, calls}
+
+-- ---- a call on a pair that the host keeps behind a reference
+
+-- The call leaves the pair p′ and returns the word w: w is the word of an answer, and this answer and p′ are what the by-value call
+-- promises. Each promise fixes its answer, so that nothing is left to choose.
+pub record Answered (promise : Step → Type 0) (p′ : Pair) (w : ℤ) : Type 0 where
+  pub answer : Answer
+  pub word : w ≡ answerWord answer
+  pub kept : promise (record { pair = p′; answer = answer })
+
+-- ---- the records that a call leaves in a lent array
+
+-- 01 "Info record": options, C, queued, available, peer C, peer queued
+unfoldable pub infoNumbers : Record → List ℕ → List ℕ
+infoNumbers (Info i) out =
+    i .options ∷ i .«rx_buf_max» ∷ i .«rx_buf_size» ∷ i .«rx_buf_available» ∷ i .«tx_buf_max» ∷ i .«tx_buf_size» ∷ []
+infoNumbers Empty out = out
+infoNumbers (Count n) out = out
+infoNumbers (Limits t) out = out
+infoNumbers (Packet k) out = out
+
+-- 01 "Delivered bytes", thresholds: the read threshold, then the write threshold
+unfoldable pub thresholdNumbers : Record → List ℕ → List ℕ
+thresholdNumbers (Limits t) out = t .read ∷ t .write ∷ []
+thresholdNumbers Empty out = out
+thresholdNumbers (Count n) out = out
+thresholdNumbers (Info i) out = out
+thresholdNumbers (Packet k) out = out
+
+-- 01 "Signal word and packets": key, trigger, observed, count, timestamp
+unfoldable pub packetNumbers : Record → List ℕ → List ℕ
+packetNumbers (Packet k) out = k .key ∷ k .trigger ∷ k .observed ∷ k .count ∷ k .timestamp ∷ []
+packetNumbers Empty out = out
+packetNumbers (Count n) out = out
+packetNumbers (Info i) out = out
+packetNumbers (Limits t) out = out
+
+-- the array after a call: the numbers of its record, of the kind that the array is for; after a refusal as it was
+unfoldable pub arrayOf : (Record → List ℕ → List ℕ) → Answer → List ℕ → List ℕ
+arrayOf numbers (Done d) out = numbers d out
+arrayOf numbers (Refused s) out = out
+
+-- A call whose record goes to a lent array: its promise, and the array.
+pub record Recorded (numbers : Record → List ℕ → List ℕ) (p : Pair) (a : Answer) (q : Pair) (out out′ : List ℕ) (r : Step) : Type 0 where
+  pub step : Steps p a q r
+  pub array : out′ ≡ arrayOf numbers (r .answer) out
+
+-- the record and the handle are tested as by every call (−1, then −11 for a handle that is none or closed); then the word of the handle's end
+unfoldable pub signalNumber : Pair → (h : ℕ) → ℤ
+signalNumber p h = pick (isDone (openingTest (endsOf p) h)) (pos (own (isOne h) (endsOf p) .signals)) (answerWord (openingTest (endsOf p) h))
+
+-- ---- what each call ensures
+
+-- create: its arguments and the slices of both ends. Where it is refused, the record stays as it was.
+abbrev pub Creates : Pair → Create → (one two : Slices) → Pair → ℤ → Type 0
+Creates p c one two p′ w =
+    Answered (Steps p (createdBy c one two) (newPair (eqb (c .kind) 1) (c .capacity) (c .rights1) (c .rights2))) p′ w
+
+-- write, lent the peer's ring and table
+abbrev pub Writes : Pair → (h : ℕ) → (ring ring′ table table′ bytes : List ℕ) → Pair → ℤ → Type 0
+Writes p h ring ring′ table table′ bytes p′ w = Answered (Wrote p h bytes ring ring′ table table′) p′ w
+
+-- read and peek, lent the reader's ring and table
+abbrev pub Reads : Pair → (h : ℕ) → (peek : Bool) → (ring table buffer buffer′ : List ℕ) → Pair → ℤ → Type 0
+Reads p h peek ring table buffer buffer′ p′ w = Answered (Read p h peek ring table buffer buffer′) p′ w
+
+-- the plain disposition by its numbers, without a right
+abbrev pub Disposes : Pair → (h a b : ℕ) → Pair → ℤ → Type 0
+Disposes p h a b p′ w =
+    Answered (Steps p (plainDisposeAnswer (endsOf p) h a b) (disposed (isOne h) (dispositionOf a) (dispositionOf b) p)) p′ w
+
+-- shutdown by its two flags
+abbrev pub Shuts : Pair → (h : ℕ) → (reading writing : Bool) → Pair → ℤ → Type 0
+Shuts p h reading writing p′ w = Answered (Steps p (shutdownAnswer p h) (shut (isOne h) reading writing p)) p′ w
+
+-- both thresholds
+abbrev pub SetsReadThreshold : Pair → (h n : ℕ) → Pair → ℤ → Type 0
+SetsReadThreshold p h n p′ w = Answered (Steps p (readThresholdAnswer (endsOf p) h n) (readThresholdSet (isOne h) n p)) p′ w
+
+abbrev pub SetsWriteThreshold : Pair → (h n : ℕ) → Pair → ℤ → Type 0
+SetsWriteThreshold p h n p′ w = Answered (Steps p (writeThresholdAnswer (endsOf p) h n) (writeThresholdSet (isOne h) n p)) p′ w
+
+-- wait
+abbrev pub Waits : Pair → (h key mask edge : ℕ) → Pair → ℤ → Type 0
+Waits p h key mask edge p′ w = Answered (Steps p (waitAnswer (endsOf p) h edge) (waited (isOne h) key mask edge p)) p′ w
+
+-- close
+abbrev pub Closes : Pair → (h : ℕ) → Pair → ℤ → Type 0
+Closes p h p′ w = Answered (Steps p (closeAnswer p h) (closed (isOne h) p)) p′ w
+
+-- the signal word of an end. It is no call of a run: the pair stays as it is.
+abbrev pub Signals : Pair → (h : ℕ) → Pair → ℤ → Type 0
+Signals p h p′ w = (w ≡ signalNumber p h) × (p′ ≡ p)
+
+-- asking both thresholds of an end
+abbrev pub AsksThresholds : Pair → (h : ℕ) → (out out′ : List ℕ) → Pair → ℤ → Type 0
+AsksThresholds p h out out′ p′ w = Answered (Recorded thresholdNumbers p (thresholdsAnswer (endsOf p) h) p out out′) p′ w
+
+-- info, lent the end's own table
+abbrev pub AsksInfo : Pair → (h : ℕ) → (table out out′ : List ℕ) → Pair → ℤ → Type 0
+AsksInfo p h table out out′ p′ w =
+    Answered (Recorded infoNumbers p (infoAnswer (endsOf p) (lentOf (p .datagram) (own (isOne h) (endsOf p) .queue) [] table) h) p out out′) p′ w
+
+-- take
+abbrev pub Takes : Pair → (out out′ : List ℕ) → Pair → ℤ → Type 0
+Takes p out out′ p′ w = Answered (Recorded packetNumbers p (takeAnswer p) (took p) out out′) p′ w
+
+-- write
+abbrev pub UserWrites : Pair → (h o base : ℕ) → (memory memory′ : List ℕ) → (a n at : ℕ) → (ring ring′ table table′ : List ℕ) → Pair → ℤ → Type 0
+UserWrites p h o base memory memory′ a n at ring ring′ table table′ p′ w =
+    Answered (UserWrote p h base o a n at memory memory′ ring ring′ table table′) p′ w
+
+-- read and peek
+abbrev pub UserReads : Pair → (h o base : ℕ) → (memory memory′ : List ℕ) → (a n at : ℕ) → (ring table : List ℕ) → Pair → ℤ → Type 0
+UserReads p h o base memory memory′ a n at ring table p′ w = Answered (UserRead p h base o a n at ring table memory memory′) p′ w
+
+-- disposition
+abbrev pub UserDisposes : Pair → (h a b : ℕ) → Pair → ℤ → Type 0
+UserDisposes p h a b p′ w =
+    Answered (Steps p (userDisposeAnswer (endsOf p) h a b) (disposed (isOne h) (dispositionOf a) (dispositionOf b) p)) p′ w
+
+-- shutdown
+abbrev pub UserShuts : Pair → (h o : ℕ) → Pair → ℤ → Type 0
+UserShuts p h o p′ w = Answered (Steps p (userShutdownAnswer (endsOf p) h) (shut (isOne h) (shutsRead o) (shutsWrite o) p)) p′ w
+
+-- ---- what a call is passed and what it leaves
+
+-- The call with its arguments, base and memory: user memory, or the slice of a plain write or read, at base 0. A call that is lent no bytes has
+-- base 0 and no memory. The array is that of thresholds, info or take; another call has none.
+pub record Passed : Type 0 where
+  pub input : Input
+  pub array : List ℕ
+
+abbrev pub passed : Call → (base : ℕ) → (memory array : List ℕ) → Passed
+passed c base memory array = record { input = input c base memory; array = array }
+
+-- the word returned; the pair, the memory and the array at exit; and the bytes delivered
+pub record Returned : Type 0 where
+  pub word : ℤ
+  pub pair : Pair
+  pub delivered : List ℕ
+  pub memory : List ℕ
+  pub array : List ℕ
+
+abbrev pub returned : ℤ → Pair → (delivered memory array : List ℕ) → Returned
+returned w p delivered memory array = record { word = w; pair = p; delivered = delivered; memory = memory; array = array }
+
+-- 01 "Status and answer word": a word of zero or more is that of a done call, and its count
+unfoldable pub isCount : ℤ → Bool
+isCount (pos n) = true
+isCount (negsuc n) = false
+
+unfoldable pub countIn : ℤ → ℕ
+countIn (pos n) = n
+countIn (negsuc n) = 0
+
+-- the array after a call: the numbers of the answer's record; after a refusal as it was
+unfoldable pub recordIn : Control → Answer → List ℕ → List ℕ
+recordIn (setDisposition h a b) r out = out
+recordIn (shutdown h o) r out = out
+recordIn (plainDisposition h a b) r out = out
+recordIn (plainShutdown h reading writing) r out = out
+recordIn (setReadThreshold h n) r out = out
+recordIn (setWriteThreshold h n) r out = out
+recordIn (getThresholds h) r out = arrayOf thresholdNumbers r out
+recordIn (getInfo h) r out = arrayOf infoNumbers r out
+recordIn (wait h key mask edge) r out = out
+recordIn takePacket r out = arrayOf packetNumbers r out
+
+unfoldable pub arrayAfter : Call → Answer → List ℕ → List ℕ
+arrayAfter (write h o a n at) r out = out
+arrayAfter (read h o a n at) r out = out
+arrayAfter (plainWrite h) r out = out
+arrayAfter (plainRead h peek) r out = out
+arrayAfter (close h) r out = out
+arrayAfter (control c) r out = recordIn c r out
+
+-- ---- one call as a step from state to state
+
+abbrev pub slicesOf : (ring table : List ℕ) → Slices
+slicesOf ring table = record { ring = ring; table = table }
+
+-- Each case has what one exported call ensures. A write is lent the peer's slices, a read its own, an info its own table. The bytes that a plain
+-- read delivers stand in its buffer. Those of a read over user memory are read at its address, in memory as it is once the bytes have landed
+-- and before the count does; by `UserReads` a done read leaves memory as this, with the count landed over it.
+pub data Exported (s : State) : Passed → State → Returned → Type 0 where
+  murgwethan-write : {h : ℕ} {bytes ring′ table′ : List ℕ} {p : Pair} {w : ℤ}
+      → Writes (s .pair) h (peerSlices (isOne h) s .ring) ring′ (peerSlices (isOne h) s .table) table′ bytes p w
+      → Exported s (passed (plainWrite h) 0 bytes []) (withPeer (isOne h) p (slicesOf ring′ table′) s) (returned w p [] bytes [])
+  murgwethan-read : {h : ℕ} {peek : Bool} {buffer buffer′ : List ℕ} {p : Pair} {w : ℤ}
+      → Reads (s .pair) h peek (ownSlices (isOne h) s .ring) (ownSlices (isOne h) s .table) buffer buffer′ p w
+      → Exported s (passed (plainRead h peek) 0 buffer []) (withPair p s) (returned w p (take (countIn w) buffer′) buffer′ [])
+  murgwethan-set-disposition : {h a b : ℕ} {p : Pair} {w : ℤ}
+      → Disposes (s .pair) h a b p w
+      → Exported s (passed (control (plainDisposition h a b)) 0 [] []) (withPair p s) (returned w p [] [] [])
+  murgwethan-shutdown : {h : ℕ} {reading writing : Bool} {p : Pair} {w : ℤ}
+      → Shuts (s .pair) h reading writing p w
+      → Exported s (passed (control (plainShutdown h reading writing)) 0 [] []) (withPair p s) (returned w p [] [] [])
+  murgwethan-set-read-threshold : {h n : ℕ} {p : Pair} {w : ℤ}
+      → SetsReadThreshold (s .pair) h n p w
+      → Exported s (passed (control (setReadThreshold h n)) 0 [] []) (withPair p s) (returned w p [] [] [])
+  murgwethan-set-write-threshold : {h n : ℕ} {p : Pair} {w : ℤ}
+      → SetsWriteThreshold (s .pair) h n p w
+      → Exported s (passed (control (setWriteThreshold h n)) 0 [] []) (withPair p s) (returned w p [] [] [])
+  murgwethan-thresholds : {h : ℕ} {out out′ : List ℕ} {p : Pair} {w : ℤ}
+      → AsksThresholds (s .pair) h out out′ p w
+      → Exported s (passed (control (getThresholds h)) 0 [] out) (withPair p s) (returned w p [] [] out′)
+  murgwethan-info : {h : ℕ} {out out′ : List ℕ} {p : Pair} {w : ℤ}
+      → AsksInfo (s .pair) h (ownSlices (isOne h) s .table) out out′ p w
+      → Exported s (passed (control (getInfo h)) 0 [] out) (withPair p s) (returned w p [] [] out′)
+  murgwethan-wait : {h key mask edge : ℕ} {p : Pair} {w : ℤ}
+      → Waits (s .pair) h key mask edge p w
+      → Exported s (passed (control (wait h key mask edge)) 0 [] []) (withPair p s) (returned w p [] [] [])
+  murgwethan-take : {out out′ : List ℕ} {p : Pair} {w : ℤ}
+      → Takes (s .pair) out out′ p w
+      → Exported s (passed (control takePacket) 0 [] out) (withPair p s) (returned w p [] [] out′)
+  murgwethan-close : {h : ℕ} {p : Pair} {w : ℤ}
+      → Closes (s .pair) h p w
+      → Exported s (passed (close h) 0 [] []) (withPair p s) (returned w p [] [] [])
+  murgwethan-user-write : {h o base a n at : ℕ} {memory memory′ ring′ table′ : List ℕ} {p : Pair} {w : ℤ}
+      → UserWrites (s .pair) h o base memory memory′ a n at (peerSlices (isOne h) s .ring) ring′ (peerSlices (isOne h) s .table) table′ p w
+      → Exported s (passed (write h o a n at) base memory []) (withPeer (isOne h) p (slicesOf ring′ table′) s) (returned w p [] memory′ [])
+  murgwethan-user-read : {h o base a n at : ℕ} {memory memory′ : List ℕ} {p : Pair} {w : ℤ}
+      → UserReads (s .pair) h o base memory memory′ a n at (ownSlices (isOne h) s .ring) (ownSlices (isOne h) s .table) p w
+      → Exported s (passed (read h o a n at) base memory []) (withPair p s)
+      (returned w p (take (countIn w) (drop (a - base) (bytesLanded (s .pair) h base a (countIn w) (ownSlices (isOne h) s .ring) memory))) memory′ [])
+  murgwethan-user-set-disposition : {h a b : ℕ} {p : Pair} {w : ℤ}
+      → UserDisposes (s .pair) h a b p w
+      → Exported s (passed (control (setDisposition h a b)) 0 [] []) (withPair p s) (returned w p [] [] [])
+  murgwethan-user-shutdown : {h o : ℕ} {p : Pair} {w : ℤ}
+      → UserShuts (s .pair) h o p w
+      → Exported s (passed (control (shutdown h o)) 0 [] []) (withPair p s) (returned w p [] [] [])
+
+-- ---- a run of exported calls
+
+-- a run: a done create on any record, then a chain of exported calls. p is the pair that create leaves, s the last state. 01 "Two runs".
+pub data ExportedRun (c : Create) (one two : Slices) (xs : List Passed) : Pair → List Returned → State → Type 0 where
+  run : {before p : Pair} {w : ℤ} {ys : List Returned} {s : State}
+      → Creates before c one two p w → isCount w ≡ true → Chain Exported (state p one two) xs ys s → ExportedRun c one two xs p ys s
+
+abbrev pub inputs : List Passed → List Input
+inputs xs = map (λ (x : Passed). x .input) xs
+
+abbrev pub arraysIn : List Passed → List (List ℕ)
+arraysIn xs = map (λ (x : Passed). x .array) xs
+
+abbrev pub wordsOf : List Returned → List ℤ
+wordsOf ys = map (λ (y : Returned). y .word) ys
+
+abbrev pub pairsOf : List Returned → List Pair
+pairsOf ys = map (λ (y : Returned). y .pair) ys
+
+abbrev pub deliveriesOf : List Returned → List (List ℕ)
+deliveriesOf ys = map (λ (y : Returned). y .delivered) ys
+
+abbrev pub memoriesOf : List Returned → List (List ℕ)
+memoriesOf ys = map (λ (y : Returned). y .memory) ys
+
+abbrev pub arraysOf : List Returned → List (List ℕ)
+arraysOf ys = map (λ (y : Returned). y .array) ys
+
+-- the arrays after each call of a list, from the calls, their answers and what the arrays held
+unfoldable pub arraysAfter : List Call → List Answer → List (List ℕ) → List (List ℕ)
+arraysAfter [] rs outs = []
+arraysAfter (c ∷ cs) [] outs = []
+arraysAfter (c ∷ cs) (r ∷ rs) [] = []
+arraysAfter (c ∷ cs) (r ∷ rs) (out ∷ outs) = arrayAfter c r out ∷ arraysAfter cs rs outs
+
+-- what the calls give, from the outcomes of a run of the crate runs
+pub record Gives (xs : List Passed) (ys : List Returned) (os : List Outcome) : Type 0 where
+  pub words : wordsOf ys ≡ map answerWord (answers os)
+  pub pairs : pairsOf ys ≡ map (λ (o : Outcome). o .seen .pair) os
+  pub bytes : deliveriesOf ys ≡ delivered os
+  pub memories : memoriesOf ys ≡ map (λ (o : Outcome). o .memory) os
+  pub arrays : arraysOf ys ≡ arraysAfter (calls (inputs xs)) (answers os) (arraysIn xs)
+
+-- a run of the crate runs with the same last state; its outcomes have each end's slices after each call
+pub record RunOf (c : Create) (one two : Slices) (xs : List Passed) (p : Pair) (ys : List Returned) (s : State) : Type 0 where
+  pub outcomes : List Outcome
+  pub run : Run c one two (inputs xs) (seenOf (createdBy c one two) p) outcomes s
+  pub gives : Gives xs ys outcomes
+
+abbrev pub RunsAreRuns : Type 0
+RunsAreRuns =
+    (c : Create) (one two : Slices) (xs : List Passed) (p : Pair) (ys : List Returned) (s : State)
+    → ExportedRun c one two xs p ys s → RunOf c one two xs p ys s

@@ -1,0 +1,128 @@
+-- A run of the code: each call takes the pair and the slices as create or the last call left them, and gives what its function ensures.
+-- 01 "Two runs".
+use Prim.Native.Nat.{ℕ, _-_}
+use mathlib.Core.List.{List, [], _∷_}
+use mathlib.Core.Bool.{Bool}
+use mathlib.Core.Path.{_≡_}
+use lib.ListN.{take, drop}
+use lib.Dec.{eqb}
+use Rattle.definition.specs.declared.Step.{Step}
+use Rattle.definition.specs.Status.{countOf}
+use Rattle.definition.specs.Pair.{isOne, own, endsOf}
+use Rattle.definition.specs.Tests.{lentOf, Steps}
+use Rattle.definition.specs.Write.{Wrote, UserWrote}
+use Rattle.definition.specs.Read.{Read, BytesRead, UserRead}
+use Rattle.definition.specs.Threshold.{readThresholdAnswer, readThresholdSet, writeThresholdAnswer, writeThresholdSet, thresholdsAnswer}
+use Rattle.definition.specs.Disposition.{disposed, dispositionOf, plainDisposeAnswer, userDisposeAnswer}
+use Rattle.definition.specs.Shutdown.{shutdownAnswer, shut, shutsRead, shutsWrite, userShutdownAnswer}
+use Rattle.definition.specs.Info.{infoAnswer}
+use Rattle.definition.specs.Wait.{waitAnswer, waited, takeAnswer, took}
+use Rattle.definition.specs.Close.{closeAnswer, closed}
+use Rattle.definition.specs.Calls.{setDisposition, shutdown, plainDisposition, plainShutdown, setReadThreshold, setWriteThreshold, getThresholds, getInfo, wait, takePacket, write, read, plainWrite, plainRead, close, control, Input, input, State, ownSlices, peerSlices, withPair, withPeer, Outcome, gives, Create, Slices, state, Seen, seenOf, createdBy, leftBy, after, outcome, outcomes, afterAll, pairCreated, start}
+use Rattle.definition.specs.Create.{newPair, noPair}
+use Rattle.definition.specs.cases.Lines.{shownLines, linesOf}
+
+-- Each call takes the state that the last one left. A chain has its first state, what each call was passed, what each gave, and the last state. What
+-- one call does is a parameter: calls of the code, exported calls, and calls on more than one pair make chains alike. 01 "Two runs".
+pub data Chain {S I O : Type 0} (Does : S → I → S → O → Type 0) : S → List I → List O → S → Type 0 where
+  none : {s : S} → Chain Does s [] [] s
+  next : {s s′ s″ : S} {i : I} {o : O} {is : List I} {os : List O}
+      → Does s i s′ o → Chain Does s′ is os s″ → Chain Does s (i ∷ is) (o ∷ os) s″
+
+-- One call on a state gives a state and an outcome. Each case has what one function ensures; a read over user memory has two,
+-- `read_bytes` for its bytes and `read` for the whole. A write is lent the peer's slices, a read its
+-- own. A read over user memory lands its bytes and then its count: `landed` is its memory between the two, and the bytes that it delivers are
+-- read there, from its address on; those of a plain read in its buffer.
+pub data Does (s : State) : Input → State → Outcome → Type 0 where
+  did-write : {h o a n at base : ℕ} {memory memory′ ring′ table′ : List ℕ} {r : Step}
+      → UserWrote (s .pair) h base o a n at memory memory′ (peerSlices (isOne h) s .ring) ring′ (peerSlices (isOne h) s .table) table′ r
+      → Does s (input (write h o a n at) base memory) (withPeer (isOne h) (r .pair) (record { ring = ring′; table = table′ }) s)
+      (gives r (withPeer (isOne h) (r .pair) (record { ring = ring′; table = table′ }) s) [] memory′)
+  did-read : {h o a n at base : ℕ} {memory landed memory′ : List ℕ} {r : Step}
+      → BytesRead (s .pair) h base o a n at (ownSlices (isOne h) s .ring) (ownSlices (isOne h) s .table) memory landed r
+      → UserRead (s .pair) h base o a n at (ownSlices (isOne h) s .ring) (ownSlices (isOne h) s .table) memory memory′ r
+      → Does s (input (read h o a n at) base memory) (withPair (r .pair) s) (gives r s (take (countOf (r .answer)) (drop (a - base) landed)) memory′)
+  did-dispose : {h a b base : ℕ} {memory : List ℕ} {r : Step}
+      → Steps (s .pair) (userDisposeAnswer (endsOf (s .pair)) h a b) (disposed (isOne h) (dispositionOf a) (dispositionOf b) (s .pair)) r
+      → Does s (input (control (setDisposition h a b)) base memory) (withPair (r .pair) s) (gives r s [] memory)
+  did-shutdown : {h o base : ℕ} {memory : List ℕ} {r : Step}
+      → Steps (s .pair) (userShutdownAnswer (endsOf (s .pair)) h) (shut (isOne h) (shutsRead o) (shutsWrite o) (s .pair)) r
+      → Does s (input (control (shutdown h o)) base memory) (withPair (r .pair) s) (gives r s [] memory)
+  did-plain-write : {h base : ℕ} {src ring′ table′ : List ℕ} {r : Step}
+      → Wrote (s .pair) h src (peerSlices (isOne h) s .ring) ring′ (peerSlices (isOne h) s .table) table′ r
+      → Does s (input (plainWrite h) base src) (withPeer (isOne h) (r .pair) (record { ring = ring′; table = table′ }) s)
+      (gives r (withPeer (isOne h) (r .pair) (record { ring = ring′; table = table′ }) s) [] src)
+  did-plain-read : {h base : ℕ} {peek : Bool} {buffer buffer′ : List ℕ} {r : Step}
+      → Read (s .pair) h peek (ownSlices (isOne h) s .ring) (ownSlices (isOne h) s .table) buffer buffer′ r
+      → Does s (input (plainRead h peek) base buffer) (withPair (r .pair) s) (gives r s (take (countOf (r .answer)) buffer′) buffer′)
+  did-plain-dispose : {h a b base : ℕ} {memory : List ℕ} {r : Step}
+      → Steps (s .pair) (plainDisposeAnswer (endsOf (s .pair)) h a b) (disposed (isOne h) (dispositionOf a) (dispositionOf b) (s .pair)) r
+      → Does s (input (control (plainDisposition h a b)) base memory) (withPair (r .pair) s) (gives r s [] memory)
+  did-plain-shutdown : {h base : ℕ} {reading writing : Bool} {memory : List ℕ} {r : Step}
+      → Steps (s .pair) (shutdownAnswer (s .pair) h) (shut (isOne h) reading writing (s .pair)) r
+      → Does s (input (control (plainShutdown h reading writing)) base memory) (withPair (r .pair) s) (gives r s [] memory)
+  did-read-threshold : {h n base : ℕ} {memory : List ℕ} {r : Step}
+      → Steps (s .pair) (readThresholdAnswer (endsOf (s .pair)) h n) (readThresholdSet (isOne h) n (s .pair)) r
+      → Does s (input (control (setReadThreshold h n)) base memory) (withPair (r .pair) s) (gives r s [] memory)
+  did-write-threshold : {h n base : ℕ} {memory : List ℕ} {r : Step}
+      → Steps (s .pair) (writeThresholdAnswer (endsOf (s .pair)) h n) (writeThresholdSet (isOne h) n (s .pair)) r
+      → Does s (input (control (setWriteThreshold h n)) base memory) (withPair (r .pair) s) (gives r s [] memory)
+  did-thresholds : {h base : ℕ} {memory : List ℕ} {r : Step}
+      → Steps (s .pair) (thresholdsAnswer (endsOf (s .pair)) h) (s .pair) r
+      → Does s (input (control (getThresholds h)) base memory) (withPair (r .pair) s) (gives r s [] memory)
+  did-info : {h base : ℕ} {memory : List ℕ} {r : Step}
+      → Steps (s .pair)
+      (infoAnswer (endsOf (s .pair)) (lentOf (s .pair .datagram) (own (isOne h) (endsOf (s .pair)) .queue) [] (ownSlices (isOne h) s .table)) h) (s .pair) r
+      → Does s (input (control (getInfo h)) base memory) (withPair (r .pair) s) (gives r s [] memory)
+  did-wait : {h key mask edge base : ℕ} {memory : List ℕ} {r : Step}
+      → Steps (s .pair) (waitAnswer (endsOf (s .pair)) h edge) (waited (isOne h) key mask edge (s .pair)) r
+      → Does s (input (control (wait h key mask edge)) base memory) (withPair (r .pair) s) (gives r s [] memory)
+  did-take : {base : ℕ} {memory : List ℕ} {r : Step}
+      → Steps (s .pair) (takeAnswer (s .pair)) (took (s .pair)) r
+      → Does s (input (control takePacket) base memory) (withPair (r .pair) s) (gives r s [] memory)
+  did-close : {h base : ℕ} {memory : List ℕ} {r : Step}
+      → Steps (s .pair) (closeAnswer (s .pair) h) (closed (isOne h) (s .pair)) r
+      → Does s (input (close h) base memory) (withPair (r .pair) s) (gives r s [] memory)
+
+-- A whole run: create, which only reads its slices, then the calls. It has what is seen of create, what each call gave, and the last state.
+pub data Run (c : Create) (one two : Slices) (is : List Input) : Seen → List Outcome → State → Type 0 where
+  run : {r : Step} {os : List Outcome} {s : State}
+      → Steps noPair (createdBy c one two) (newPair (eqb (c .kind) 1) (c .capacity) (c .rights1) (c .rights2)) r
+      → Chain Does (state (r .pair) one two) is os s
+      → Run c one two is (seenOf (r .answer) (r .pair)) os s
+
+-- ---- a run of the code is the computed one
+
+-- each call
+pub record Matches (s : State) (i : Input) (s′ : State) (o : Outcome) : Type 0 where
+  pub state : s′ ≡ after s i
+  pub out : o ≡ outcome s i
+  -- the state is the one that the outcome shows
+  pub left : s′ ≡ leftBy o
+
+abbrev pub CallsMatch : Type 0
+CallsMatch = (s : State) (i : Input) (s′ : State) (o : Outcome) → Does s i s′ o → Matches s i s′ o
+
+-- a whole run
+pub record RunMatches (c : Create) (one two : Slices) (is : List Input) (x : Seen) (os : List Outcome) (s : State) : Type 0 where
+  pub create : x ≡ seenOf (createdBy c one two) (pairCreated c (createdBy c one two))
+  pub calls : os ≡ outcomes (start c one two) is
+  pub last : s ≡ afterAll (start c one two) is
+
+abbrev pub RunsMatch : Type 0
+RunsMatch =
+    (c : Create) (one two : Slices) (is : List Input) (x : Seen) (os : List Outcome) (s : State)
+    → Run c one two is x os s → RunMatches c one two is x os s
+
+-- every list of calls has a run, so that the claims about runs are not empty
+abbrev pub RunsExist : Type 0
+RunsExist =
+    (c : Create) (one two : Slices) (is : List Input)
+    → Run c one two is (seenOf (createdBy c one two) (pairCreated c (createdBy c one two)))
+    (outcomes (start c one two) is) (afterAll (start c one two) is)
+
+-- a run of the code shows the computed lines
+abbrev pub LinesMatch : Type 0
+LinesMatch =
+    (c : Create) (one two : Slices) (is : List Input) (x : Seen) (os : List Outcome) (s : State)
+    → Run c one two is x os s → shownLines x os ≡ linesOf c one two is

@@ -1,0 +1,4 @@
+pub mod Record
+pub mod Call
+pub mod Line
+pub mod Listing

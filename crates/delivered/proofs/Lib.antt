@@ -1,2 +1,0 @@
--- Parts: a part of memory, also where it runs over the end
-pub mod Parts

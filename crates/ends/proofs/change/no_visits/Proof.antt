@@ -1,9 +1,0 @@
-use borrow.Author.Needs.{needs}
-use Rattle.ends.proofs.change.no_visits.Statement.{statement}
-use Rattle.ends.proofs.change.no_visits.Tie as tie
-
-returns : tie.Need-returns
-returns c = search needs
-
-pub no-visits-spec : {M : Type 1} → statement M
-no-visits-spec = tie.close (tie.spec returns)

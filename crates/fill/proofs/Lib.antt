@@ -1,2 +1,0 @@
--- Fills: what a fill says is what its definition says
-pub mod Fills

@@ -1,9 +1,0 @@
-use Rattle.host_runs.proofs.hold.Statement.{statement}
-use Rattle.host_runs.proofs.hold.Tie as tie
-use Rattle.host_runs.proofs.Claims.{claims}
-
-returns : tie.Need-returns
-returns c = claims
-
-pub hold-spec : {M : Type 1} → statement M
-hold-spec = tie.close (tie.spec returns)

@@ -1,0 +1,5 @@
+pub mod pair;
+pub mod places;
+pub mod steps;
+pub mod transferred;
+pub mod transfers;

@@ -1,0 +1,29 @@
+// The line of the call that a record makes.
+use endpoint::ends::Outcome;
+use script_call::record::fields;
+ghost use Rattle.definition.specs.Pair.{shown};
+ghost use Rattle.line.specs.line.LineDone.{LineDone};
+ghost use Rattle.definition_script.specs.Call.{delivered};
+
+// Puts out the line, before the count of a read lands.
+pub fn print(
+    out: &mut [u8],
+    at: usize,
+    number: u64,
+    tag: u8,
+    body: &[u8],
+    r: Outcome,
+    memory: &[u8],
+) -> usize
+    ensures { λ n. ⌜ LineDone number (r .answer) (shown (r .one)) (shown (r .two)) (delivered tag (now (body .entry)) (r .answer) (now (memory .entry))) at n (now (out .entry)) (now (out .exit)) ⌝ }
+{
+    let a = r.answer;
+    let e = r.one;
+    let one = endpoint::end::shown(e);
+    let f = r.two;
+    let two = endpoint::end::shown(f);
+    let from = script_call::delivered::place_of(fields::u64_at(body, 8));
+    let n = script_call::delivered::count(tag, a);
+    let bytes = script_call::delivered::part(memory, from, n);
+    crate::line::line(out, at, number, a, one, two, bytes)
+}

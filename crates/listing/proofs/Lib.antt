@@ -1,2 +1,0 @@
--- Runs: a script run into a buffer
-pub mod Runs

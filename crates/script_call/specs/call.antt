@@ -1,0 +1,2 @@
+pub mod CallMade
+pub mod CallDone

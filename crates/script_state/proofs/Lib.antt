@@ -1,2 +1,0 @@
--- States: the state where no record is run
-pub mod States

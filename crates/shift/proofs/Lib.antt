@@ -1,2 +1,0 @@
--- Shifts: what the loop keeps that moves bytes to the front
-pub mod Shifts

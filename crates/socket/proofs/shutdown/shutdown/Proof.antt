@@ -1,0 +1,22 @@
+use Rattle.socket.proofs.Visiting.{places-128}
+use Rattle.socket.proofs.Settled.{shutdown-whole}
+use Rattle.socket.proofs.shutdown.shutdown.Statement.{statement}
+use Rattle.socket.proofs.shutdown.shutdown.Tie as tie
+
+ends-of-requires : tie.Need-ends-of-requires
+ends-of-requires c κs = tt
+
+shutdown-ends-requires : tie.Need-shutdown-ends-requires
+shutdown-ends-requires c κs = tt
+
+settle-requires : tie.Need-settle-requires
+settle-requires c κs = tt
+
+returns : tie.Need-returns
+returns c =
+    let s = c .before .before .before in
+    rw (c .settle .ensures)
+    (shutdown-whole (s .args .p) (s .args .handle) (s .args .read) (s .args .write) _ _ (places-128 (s .args .p) _ (s .good .0)) (c .before .before .ends-of .ensures) (c .before .shutdown-ends .ensures))
+
+pub shutdown-spec : {M : Type 1} → statement M
+shutdown-spec = tie.close (tie.spec ends-of-requires shutdown-ends-requires settle-requires returns)

@@ -1,2 +1,0 @@
--- Counts: when a tally is full, and what is counted
-pub mod Counts

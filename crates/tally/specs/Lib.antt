@@ -1,2 +1,0 @@
--- Count: how one entry more is counted
-pub mod Count

@@ -1,0 +1,52 @@
+use mathlib.Core.Path.{_≡_, refl, sym, ap, _∙_}
+use Rattle.definition.specs.Status.{pick}
+use mathlib.Core.Bool.{Bool, true, false}
+use Rattle.endpoint.proofs.answer.Rules.{via-not, via-not-not}
+use Rattle.transfer.specs.read.ReadChange.{readBy}
+use Rattle.transfer.proofs.read.Outcomes.{read-put}
+use borrow.Author.Needs.{needs}
+use Rattle.transfer.proofs.read.read_outcome.Statement.{statement}
+use Rattle.transfer.proofs.read.read_outcome.Tie as tie
+
+unchanged-requires : tie.Need-unchanged-requires
+unchanged-requires c κs = search needs
+
+returns : tie.Need-returns
+unfolding readBy pick
+returns c =
+    let off : c .before .before .before .args .t .moves ≡ false = via-not refl (c .before .if1 .taken) in
+    rw off (c .unchanged .ensures)
+
+own-requires : tie.Need-own-requires
+own-requires c κs = search needs
+
+peer-requires : tie.Need-peer-requires
+peer-requires c κs = search needs
+
+drained-moved-requires : tie.Need-drained-moved-requires
+drained-moved-requires c κs = search needs
+
+no-visits-requires : tie.Need-no-visits-requires
+no-visits-requires c κs = search needs
+
+put-back-requires : tie.Need-put-back-requires
+put-back-requires c κs = search needs
+
+returns-2 : tie.Need-returns-2
+returns-2 c =
+    let a = c .before .before .before .before .before .before .before .args in
+    let on : a .t .moves ≡ true = via-not-not refl (c .before .before .before .before .before .if1 .left) in
+    read-put (a .p) (a .handle) (a .t) _ _ _ _ _ on (c .before .before .before .before .own .ensures) (c .before .before .before .peer .ensures) (c .before .before .drained-moved .ensures) (c .before .no-visits .ensures) (c .put-back .ensures)
+
+pub read-outcome-spec : {M : Type 1} → statement M
+read-outcome-spec =
+    tie.close
+    (tie.spec
+    unchanged-requires
+    returns
+    own-requires
+    peer-requires
+    drained-moved-requires
+    no-visits-requires
+    put-back-requires
+    returns-2)

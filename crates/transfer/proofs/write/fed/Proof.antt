@@ -1,0 +1,35 @@
+use mathlib.Core.Path.{_≡_, refl, sym, ap, _∙_}
+use Rattle.transfer.specs.write.WriteChange.{fedTransfer}
+use borrow.Author.Needs.{needs}
+use Rattle.transfer.proofs.write.fed.Statement.{statement}
+use Rattle.transfer.proofs.write.fed.Tie as tie
+
+add-queued : tie.Need-add-queued
+add-queued c = search needs
+
+gained-by-peer-requires : tie.Need-gained-by-peer-requires
+gained-by-peer-requires c κs = search needs
+
+sub-lost-by-writer : tie.Need-sub-lost-by-writer
+sub-lost-by-writer c = search needs
+
+lost-by-writer-requires : tie.Need-lost-by-writer-requires
+lost-by-writer-requires c κs = search needs
+
+fed-queue-requires : tie.Need-fed-queue-requires
+fed-queue-requires c κs = search needs
+
+returns : tie.Need-returns
+unfolding fedTransfer
+returns c = rw (← c .before .before .gained-by-peer .ensures, ← c .before .lost-by-writer .ensures, ← c .fed-queue .ensures) refl
+
+pub fed-spec : {M : Type 1} → statement M
+fed-spec =
+    tie.close
+    (tie.spec
+    add-queued
+    gained-by-peer-requires
+    sub-lost-by-writer
+    lost-by-writer-requires
+    fed-queue-requires
+    returns)

@@ -1,0 +1,39 @@
+use mathlib.Core.Path.{_≡_, refl, sym, ap, _∙_}
+use Rattle.transfer.specs.write.WriteChange.{fedMoved}
+use borrow.Author.Needs.{needs}
+use Rattle.transfer.proofs.write.fed_moved.Statement.{statement}
+use Rattle.transfer.proofs.write.fed_moved.Tie as tie
+
+with-queue-requires : tie.Need-with-queue-requires
+with-queue-requires c κs = search needs
+
+changed-requires : tie.Need-changed-requires
+changed-requires c κs = search needs
+
+with-signals-requires : tie.Need-with-signals-requires
+with-signals-requires c κs = search needs
+
+changed-requires-2 : tie.Need-changed-requires-2
+changed-requires-2 c κs = search needs
+
+with-signals-requires-2 : tie.Need-with-signals-requires-2
+with-signals-requires-2 c κs = search needs
+
+fed-visits-requires : tie.Need-fed-visits-requires
+fed-visits-requires c κs = search needs
+
+returns : tie.Need-returns
+unfolding fedMoved
+returns c = rw (← c .before .before .before .before .before .with-queue .ensures, ← c .before .before .before .before .changed .ensures, ← c .before .before .before .with-signals .ensures, ← c .before .before .changed2 .ensures, ← c .before .with-signals2 .ensures, ← c .fed-visits .ensures) refl
+
+pub fed-moved-spec : {M : Type 1} → statement M
+fed-moved-spec =
+    tie.close
+    (tie.spec
+    with-queue-requires
+    changed-requires
+    with-signals-requires
+    changed-requires-2
+    with-signals-requires-2
+    fed-visits-requires
+    returns)

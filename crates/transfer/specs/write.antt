@@ -1,0 +1,2 @@
+pub mod WriteChange
+pub mod WriteEnds
