@@ -11,11 +11,10 @@ use Rattle.definition.specs.declared.Answer.{Answer}
 use Rattle.definition.specs.declared.Answer.the-variants.{Done, Refused}
 use Rattle.definition.specs.declared.Record.the-variants.{Count}
 use Rattle.definition.specs.Status.{pick, _and_, _or_, recordCount, countOf, isDone, refuseIf, refuseUnless, _then_}
-use Rattle.definition.specs.Port.{used}
+use Rattle.definition.specs.Port.{used, waitAnswer as endsWaitAnswer, waitAnswer, takeAnswer}
 use Rattle.definition.specs.declared.Endpoint.{Endpoint}
 use Rattle.definition.specs.Write.{datagramSize, writeSize, writeAnswer as endsWriteAnswer, writeAnswer, writeRanges, userWriteAnswer as endsUserWriteAnswer, userWriteAnswer}
 use Rattle.definition.specs.Read.{emptyAnswer, availableIn, readSize, readAnswer as endsReadAnswer, readAnswer, userReadAnswer as endsUserReadAnswer, userReadAnswer}
-use Rattle.definition.specs.Wait.{waitAnswer as endsWaitAnswer, waitAnswer, takeAnswer}
 use Rattle.definition.specs.declared.Pair.{Pair}
 use Rattle.definition.specs.Pair.{isOne, own, peer, endsOf}
 use Rattle.definition.specs.Tests.{Lent}

@@ -17,7 +17,7 @@ use Rattle.definition.specs.Read.{bufferRead, bytesLanded}
 use Rattle.definition.specs.Pair.{isOne, own, endsOf}
 use Rattle.definition.specs.Calls.{Call, write, read, plainWrite, plainRead, close, control, Slices, State, ownSlices, view, ownLent, answerTo, landed, deliveredIn}
 use Rattle.claims.proofs.runs.Memory.{take-pasted}
-use Rattle.definition_runs.specs.Origins.{Origin, Line, flat, Lines, ownLine, sourceOf}
+use Rattle.definition_runs.specs.TwoRuns.{Origin, Line, flat, Lines, ownLine, sourceOf}
 use Rattle.claims.proofs.Holds.{Size, Holds, firstOf, ring-long}
 use Rattle.claims.proofs.Moves.{Taken, front-line, taken-within}
 use Rattle.claims.proofs.Answers.{plain-taken, user-taken}

@@ -23,7 +23,7 @@ use Rattle.definition.specs.Tests.{lentOf}
 use Rattle.definition.specs.Disposition.{dispositionOf}
 use Rattle.definition.specs.Shutdown.{shutsRead, shutsWrite}
 use Rattle.definition.specs.Calls.{Control, setDisposition, shutdown, plainDisposition, plainShutdown, setReadThreshold, setWriteThreshold, getThresholds, getInfo, wait, takePacket, Call, write, read, plainWrite, plainRead, close, control, Input, bytesOf, offsetOf, Slices, State, peerSlices, withPair, withPeer, view, ownLent, peerLent, controlAnswer, answerTo, controlled, pairAfter, written, stateAfter, answerOf, after}
-use Rattle.definition_runs.specs.Origins.{Origin, origins, Line, Lines, ownLine, withOwn, fed, added, shrunk, removed, linesAfter}
+use Rattle.definition_runs.specs.TwoRuns.{Origin, origins, Line, Lines, ownLine, withOwn, fed, added, shrunk, removed, linesAfter}
 use Rattle.claims.proofs.Lists.{length-origins, origin-bytes}
 use Rattle.claims.proofs.Holds.{Size, Holds, firstOf, first-is}
 use Rattle.claims.proofs.Moves.{fed-holds, Taken, drained-holds, no-holds}

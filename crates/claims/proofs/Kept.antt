@@ -6,7 +6,7 @@ use lib.Dec.{eqb}
 use Rattle.definition.specs.Status.{pick}
 use Rattle.definition.specs.declared.Places.{Places}
 use Rattle.definition.specs.Signal.{«PEER_WRITE_DISABLED»}
-use Rattle.definition.specs.Port.{used, sound, done, droppedOf}
+use Rattle.definition.specs.Port.{used, sound, done, droppedOf, waited, took}
 use Rattle.port.proofs.packets.Operations.{take-done}
 use Rattle.port.proofs.waits.Operations.{register-done, drop-done}
 use Rattle.port.proofs.waits.Sound.{sound-register, sound-change, sound-take, sound-drop}
@@ -22,7 +22,6 @@ use Rattle.definition.specs.Effect.{withChange, signalChange, putBit, switchRea
 use Rattle.definition.specs.Threshold.{readThresholdSet, writeThresholdSet}
 use Rattle.definition.specs.Disposition.{switchWriting, disposeOwn, disposePeer, disposedOwn, disposedPeer, disposed}
 use Rattle.definition.specs.Shutdown.{shutEnd, shut}
-use Rattle.definition.specs.Wait.{waited, took}
 
 pub record Kept (p p′ : Pair) : Type 0 where
   pub datagram : p′ .datagram ≡ p .datagram

@@ -13,15 +13,14 @@ use Rattle.definition.specs.Info.{infoAnswer}
 use Rattle.definition.specs.Read.{readAnswer, userReadAnswer}
 use Rattle.definition.specs.Tests.{soundEnds, soundTest, openingTest, Lent}
 use Rattle.definition.specs.Threshold.{readThresholdAnswer, writeThresholdAnswer, thresholdsAnswer}
-use Rattle.definition.specs.Wait.{waitAnswer, takeAnswer}
+use Rattle.definition.specs.Port.{waitAnswer, takeAnswer}
 use Rattle.definition.specs.Write.{writeAnswer, userWriteAnswer}
 use Rattle.definition.specs.Create.{noPair}
 use Rattle.definition.specs.Shutdown.{shutdownAnswer, userShutdownAnswer}
 use Rattle.definition.specs.Close.{closeAnswer}
 use Rattle.definition.specs.Disposition.{plainDisposeAnswer, userDisposeAnswer}
 use Rattle.definition.specs.Calls.{Control, setDisposition, shutdown, plainDisposition, plainShutdown, setReadThreshold, setWriteThreshold, getThresholds, getInfo, wait, takePacket, Call, write, read, plainWrite, plainRead, close, control, Input, Public, public, Slices, State, state, seenOf, View, view, controlAnswer, answerTo, pairAfter, answerOf, outcome, outcomes}
-use Rattle.definition_runs.specs.Origins.{Origin, Lines, noLines, linesAfter, sourceOf, sourcesFrom}
-use Rattle.definition_runs.specs.TwoRuns.{seen, answers, delivered, calls}
+use Rattle.definition_runs.specs.TwoRuns.{Origin, Lines, noLines, linesAfter, sourceOf, sourcesFrom, seen, answers, delivered, calls}
 use Rattle.claims.proofs.Lists.{cons-path}
 use Rattle.claims.proofs.Refused.{pair-stays, lines-stay, no-source, refused-after, refused-delivers}
 

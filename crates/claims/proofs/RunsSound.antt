@@ -23,7 +23,7 @@ use Rattle.definition.specs.Read.{emptyAnswer, readSize, readAnswer, userReadAn
 use Rattle.definition.specs.Disposition.{disposeChecks, plainDisposeAnswer, userDisposeAnswer}
 use Rattle.definition.specs.Info.{infoAnswer}
 use Rattle.definition.specs.Threshold.{readThresholdAnswer, writeThresholdAnswer, thresholdsAnswer}
-use Rattle.definition.specs.Wait.{waitAnswer, takeAnswer}
+use Rattle.definition.specs.Port.{waitAnswer, takeAnswer}
 use Rattle.definition.specs.declared.Pair.{Pair}
 use Rattle.definition.specs.Pair.{isOne, endsOf, own, peer}
 use Rattle.definition.specs.Shutdown.{shutdownAnswer, userShutdownAnswer}
@@ -31,7 +31,7 @@ use Rattle.definition.specs.Close.{closeAnswer}
 use Rattle.definition.specs.Memory.{lookup}
 use Rattle.definition.specs.Calls.{Control, setDisposition, shutdown, plainDisposition, plainShutdown, setReadThreshold, setWriteThreshold, getThresholds, getInfo, wait, takePacket, Call, write, read, plainWrite, plainRead, close, control, Input, State, state, ownSlices, Outcome, createdBy, View, view, ownLent, peerLent, tableOnly, controlAnswer, answerTo, answerOf, outcome, pairCreated}
 use Rattle.definition_runs.specs.Run.{Chain, none, next, Does, run}
-use Rattle.definition_runs.specs.Origins.{Origin, Lines, noLines, found, linesAfter}
+use Rattle.definition_runs.specs.TwoRuns.{Origin, Lines, noLines, found, linesAfter}
 use Rattle.definition_runs.specs.Laws.{Sound, RunsAreSound}
 use Rattle.claims.proofs.Holds.{Size, first-is, sound-queue, slices-long, first-good}
 use Rattle.claims.proofs.Invariant.{Inv}

@@ -12,7 +12,7 @@ use Rattle.port.proofs.waits.Sound.{sound-new}
 use Rattle.definition.specs.Create.{newEnd, numbersAnswer, createAnswer, newPair}
 use Rattle.definition.specs.Tests.{shortTable, shortSlices}
 use Rattle.definition.specs.Calls.{Create, Slices, state, createdBy}
-use Rattle.definition_runs.specs.Origins.{Origin, noLines}
+use Rattle.definition_runs.specs.TwoRuns.{Origin, noLines}
 use Rattle.claims.proofs.Answers.{then-done, if-off}
 use Rattle.claims.proofs.Holds.{Size}
 use Rattle.claims.proofs.Moves.{no-holds}

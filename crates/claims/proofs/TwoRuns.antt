@@ -17,8 +17,7 @@ use Rattle.definition.specs.declared.Pair.{Pair}
 use Rattle.definition.specs.Pair.{isOne}
 use Rattle.definition.specs.Tests.{Lent}
 use Rattle.definition.specs.Calls.{Create, Call, write, read, plainWrite, plainRead, close, control, Input, Public, public, Slices, State, state, withPeer, Seen, seenOf, Outcome, createdBy, View, view, answerTo, pairAfter, memoriesAfter, written, stateAfter, answerOf, after, outcome, outcomes, pairCreated, start}
-use Rattle.definition_runs.specs.Origins.{Origin, Line, Lines, noLines, linesAfter, sourcesFrom, sources, byteAt, found}
-use Rattle.definition_runs.specs.TwoRuns.{seen, answers, delivered, memoriesLeft, calls, Alike, SameLengths, TwoRuns}
+use Rattle.definition_runs.specs.TwoRuns.{Origin, Line, Lines, noLines, linesAfter, sourcesFrom, sources, byteAt, found, seen, answers, delivered, memoriesLeft, calls, Alike, SameLengths, TwoRuns}
 use Rattle.claims.proofs.Lists.{cons-path}
 use Rattle.claims.proofs.Holds.{Size, firstOf, lent-is}
 use Rattle.claims.proofs.Invariant.{Inv, after-inv}

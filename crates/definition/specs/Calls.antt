@@ -14,7 +14,7 @@ use Rattle.definition.specs.Tests.{Lent, lentOf}
 use Rattle.definition.specs.Threshold.{readThresholdAnswer, writeThresholdAnswer, thresholdsAnswer, readThresholdSet, writeThresholdSet}
 use Rattle.definition.specs.Shutdown.{shutdownAnswer, userShutdownAnswer, shut, shutsRead, shutsWrite}
 use Rattle.definition.specs.Info.{infoAnswer}
-use Rattle.definition.specs.Wait.{waitAnswer, takeAnswer, waited, took}
+use Rattle.definition.specs.Port.{waitAnswer, takeAnswer, waited, took}
 use Rattle.definition.specs.Disposition.{plainDisposeAnswer, userDisposeAnswer, disposed, dispositionOf}
 use Rattle.definition.specs.Write.{writeAnswer, userWriteAnswer, pairWritten, ringWritten, tableWritten}
 use Rattle.definition.specs.Read.{readAnswer, userReadAnswer, pairRead, isPeek, bufferRead, bytesLanded}

@@ -7,7 +7,6 @@ pub mod Tests
 pub mod Memory
 pub mod Effect
 pub mod Create
-pub mod Wait
 pub mod Write
 pub mod Read
 pub mod Threshold

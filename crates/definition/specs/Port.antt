@@ -1,9 +1,9 @@
--- The table of 128 places: its packets, its waits and its unused places; a wait, its packet, and what fires it. 01 "Signal word and packets".
+-- The table of 128 places: its packets, its waits and its unused places; what fires a wait; wait and take. 01 "Signal word and packets".
 -- An end is named by a Bool, true for end 1 and false for end 2; a place holds the end's number.
 use Prim.Native.Nat.{ℕ, _+_, _-_}
 use mathlib.Core.Bool.{Bool, false, not}
 use mathlib.Core.List.{List, [], _∷_, _++_, map, reverse}
-use lib.Dec.{leb, eqb}
+use lib.Dec.{leb, eqb, ltb}
 use lib.ListN.{take, drop, length, replicate, getD}
 use Rattle.definition.specs.declared.Place.{Place}
 use Rattle.definition.specs.declared.Places.{Places}
@@ -11,11 +11,16 @@ use Rattle.definition.specs.declared.PortPacket.{PortPacket}
 use Rattle.definition.specs.declared.Status.{Status}
 use Rattle.definition.specs.declared.Answer.the-variants.{Refused, Done}
 use Rattle.definition.specs.declared.Next.{Next}
-use Rattle.definition.specs.declared.Status.the-variants.{Internal, ShouldWait, NoResources}
+use Rattle.definition.specs.declared.Status.the-variants.{Internal, ShouldWait, NoResources, InvalidArgs}
 use Rattle.definition.specs.declared.Change.{Change}
 use Rattle.definition.specs.declared.Record.the-variants.{Packet}
-use Rattle.definition.specs.Status.{pick, _or_, ok, _and_}
+use Rattle.definition.specs.declared.Answer.{Answer}
+use Rattle.definition.specs.declared.Ends.{Ends}
+use Rattle.definition.specs.declared.Pair.{Pair}
+use Rattle.definition.specs.Status.{pick, _or_, ok, _and_, refuseIf, _then_}
 use Rattle.definition.specs.Signal.{meets, changedWord}
+use Rattle.definition.specs.Tests.{openingTest, soundTest}
+use Rattle.definition.specs.Pair.{own, withPlaces, endsOf}
 
 -- ---- lists
 
@@ -180,3 +185,31 @@ registerOf one w key mask edge t =
 -- 01 "Signal word and packets": a close removes the end's waits and keeps its packets. A table with more than 128 used places is INTERNAL.
 unfoldable pub dropOf : Bool → Places → Next
 dropOf one t = pick (sound t) (done (droppedOf one t)) (refused Internal t)
+
+-- ---- the calls
+
+-- ---- wait
+
+-- the edge byte is 0 or 1; −3 means exactly that all 128 places are used
+unfoldable pub waitAnswer : Ends → (h edge : ℕ) → Answer
+waitAnswer e h edge =
+    openingTest e h
+    then refuseIf (ltb 1 edge) InvalidArgs
+    then refuseIf (eqb (e .packets + e .waits) 128) NoResources
+
+-- 01 "Signal word and packets": a wait with edge 0 may fire as it is registered, by the end's word as it is
+unfoldable pub waited : Bool → (key mask edge : ℕ) → Pair → Pair
+waited t key mask edge p = withPlaces (registeredOf (waitOf t key mask) (own t (endsOf p) .signals) (eqb edge 1) (p .places)) p
+
+-- ---- take
+
+-- 01 "Signal word and packets": the oldest packet, or −22 where there is none
+unfoldable pub takeAnswer : Pair → Answer
+takeAnswer p =
+    soundTest (endsOf p)
+    then refuseIf (eqb (p .places .packets) 0) ShouldWait
+    then Done (Packet (packetOf (getD (packetsOf (p .places)) 0 free)))
+
+-- the pair without its oldest packet, whose place can be used again
+unfoldable pub took : Pair → Pair
+took p = withPlaces (takenOf (p .places)) p

@@ -9,8 +9,7 @@ use lib.Dec.{eqb}
 use Rattle.definition.specs.Calls.{write, read, plainWrite, plainRead, close, Input, input, Slices, Outcome, outcomes, start, State, afterAll, Seen, seenOf, createdBy, pairCreated}
 use Rattle.definition.specs.cases.Lines.{linesOf}
 use Rattle.definition.specs.cases.Scripts.{create, datagram, stream}
-use Rattle.definition_runs.specs.Origins.{Origin, origins, flat, added, shrunk, removed, linesAfter, sourceOf, sourcesFrom, sources}
-use Rattle.definition_runs.specs.TwoRuns.{answers, calls, delivered, Alike}
+use Rattle.definition_runs.specs.TwoRuns.{Origin, origins, flat, added, shrunk, removed, linesAfter, sourceOf, sourcesFrom, sources, answers, calls, delivered, Alike}
 use Rattle.definition_runs.specs.Run.{Run}
 
 -- A row of 3 bytes and one of 2 are written. The first is peeked at, and read into 2 bytes, so that its tail is dropped. The second is read

@@ -1,8 +1,6 @@
 pub mod Run
-pub mod Origins
 pub mod TwoRuns
 pub mod Laws
 pub mod Example
 pub mod Claims
 pub mod Exported
-pub mod ExportedRuns

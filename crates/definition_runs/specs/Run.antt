@@ -16,7 +16,7 @@ use Rattle.definition.specs.Threshold.{readThresholdAnswer, readThresholdSet, w
 use Rattle.definition.specs.Disposition.{disposed, dispositionOf, plainDisposeAnswer, userDisposeAnswer}
 use Rattle.definition.specs.Shutdown.{shutdownAnswer, shut, shutsRead, shutsWrite, userShutdownAnswer}
 use Rattle.definition.specs.Info.{infoAnswer}
-use Rattle.definition.specs.Wait.{waitAnswer, waited, takeAnswer, took}
+use Rattle.definition.specs.Port.{waitAnswer, waited, takeAnswer, took}
 use Rattle.definition.specs.Close.{closeAnswer, closed}
 use Rattle.definition.specs.Calls.{setDisposition, shutdown, plainDisposition, plainShutdown, setReadThreshold, setWriteThreshold, getThresholds, getInfo, wait, takePacket, write, read, plainWrite, plainRead, close, control, Input, input, State, ownSlices, peerSlices, withPair, withPeer, Outcome, gives, Create, Slices, state, Seen, seenOf, createdBy, leftBy, after, outcome, outcomes, afterAll, pairCreated, start}
 use Rattle.definition.specs.Create.{newPair, noPair}

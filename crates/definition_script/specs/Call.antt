@@ -22,7 +22,7 @@ use Rattle.definition.specs.Threshold.{readThresholdAnswer, readThresholdSet, w
 use Rattle.definition.specs.Tests.{lentOf, firstLength}
 use Rattle.definition.specs.Info.{infoAnswer}
 use Rattle.definition.specs.Close.{closeAnswer, closed}
-use Rattle.definition.specs.Wait.{waitAnswer, waited, takeAnswer, took}
+use Rattle.definition.specs.Port.{waitAnswer, waited, takeAnswer, took}
 use Rattle.definition.specs.Write.{userWriteAnswer, pairWritten, ringWritten, tableWritten}
 use Rattle.definition.specs.Memory.{countLanded, fits, countPut}
 use Rattle.definition.specs.Read.{userReadAnswer, pairRead, isPeek, bytesLanded}

@@ -43,7 +43,7 @@ use Rattle.definition.proofs.Ends as E
 use Rattle.definition.proofs.Ends.Laws as E′
 use Rattle.definition.proofs.Answer as N
 use Rattle.definition.proofs.Answer.Laws as N′
-use Rattle.definition.specs.Wait.{waitAnswer as waitAnswerOf}
+use Rattle.definition.specs.Port.{waitAnswer as waitAnswerOf}
 use Rattle.host.specs.values.Disposition.{plainDisposeEnds}
 use Rattle.control.specs.ends.ShutdownEnds.{shutEnds}
 use Rattle.control.specs.threshold.ThresholdEnds.{readThresholdEnds, writeThresholdEnds}

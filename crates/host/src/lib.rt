@@ -12,7 +12,7 @@ ghost use Rattle.definition.specs.Read.{Read};
 ghost use Rattle.definition.specs.Disposition.{disposed, dispositionOf, plainDisposeAnswer};
 ghost use Rattle.definition.specs.Shutdown.{shutdownAnswer, shut};
 ghost use Rattle.definition.specs.Threshold.{readThresholdAnswer, readThresholdSet, writeThresholdAnswer, writeThresholdSet};
-ghost use Rattle.definition.specs.Wait.{waitAnswer, waited};
+ghost use Rattle.definition.specs.Port.{waitAnswer, waited};
 ghost use Rattle.definition.specs.Close.{closeAnswer, closed};
 ghost use Rattle.definition_runs.specs.Exported.{signalNumber, Answered};
 

@@ -6,7 +6,7 @@ ghost use Rattle.definition.specs.Pair.{isOne, own, endsOf};
 ghost use Rattle.definition.specs.Tests.{lentOf};
 ghost use Rattle.definition.specs.Info.{infoAnswer};
 ghost use Rattle.definition.specs.Threshold.{thresholdsAnswer};
-ghost use Rattle.definition.specs.Wait.{takeAnswer, took};
+ghost use Rattle.definition.specs.Port.{takeAnswer, took};
 ghost use Rattle.definition_runs.specs.Exported.{Answered, thresholdNumbers, infoNumbers, packetNumbers, Recorded};
 
 // The read and the write threshold of an end.

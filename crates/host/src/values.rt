@@ -14,7 +14,7 @@ ghost use Rattle.definition.specs.Pair.{isOne, own, endsOf};
 ghost use Rattle.definition.specs.Tests.{lentOf, openingTest};
 ghost use Rattle.definition.specs.Info.{infoAnswer};
 ghost use Rattle.definition.specs.Threshold.{thresholdsAnswer};
-ghost use Rattle.definition.specs.Wait.{takeAnswer};
+ghost use Rattle.definition.specs.Port.{takeAnswer};
 ghost use Rattle.definition.specs.Create.{createAnswer};
 ghost use lib.ListN.{length};
 ghost use Rattle.definition.specs.Status.{_then_};

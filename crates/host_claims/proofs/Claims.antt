@@ -1,5 +1,5 @@
 -- Each claim by its proof. Assumes nothing.
-use Rattle.definition_runs.specs.ExportedRuns.{ExportedClaims}
+use Rattle.definition_runs.specs.Exported.{ExportedClaims}
 use Rattle.host_claims.proofs.Steps.{calls-are-steps, refused-leaves}
 use Rattle.host_claims.proofs.Runs.{create-starts, runs-are-runs}
 use Rattle.host_claims.proofs.Exist.{runs-exist}

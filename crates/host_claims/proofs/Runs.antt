@@ -10,8 +10,7 @@ use Rattle.definition.specs.declared.Pair.{Pair}
 use Rattle.definition.specs.Create.{newPair, noPair}
 use Rattle.definition.specs.Calls.{Create, Slices, State, Outcome, createdBy}
 use Rattle.definition_runs.specs.Run.{Chain, none, next, Does, run as run-of}
-use Rattle.definition_runs.specs.Exported.{Creates, Passed, Returned, isCount, Exported, run, inputs, arraysAfter, Gives, RunsAreRuns}
-use Rattle.definition_runs.specs.ExportedRuns.{CreateStarts}
+use Rattle.definition_runs.specs.Exported.{Creates, Passed, Returned, isCount, Exported, run, inputs, arraysAfter, Gives, RunsAreRuns, CreateStarts}
 use Rattle.host_claims.proofs.Words.{is-count}
 use Rattle.host_claims.proofs.Steps.{calls-are-steps}
 

@@ -1,5 +1,5 @@
 // What is claimed of runs of the exported calls that a kernel links: the statements are in specs/, their proofs in proofs/.
-ghost use Rattle.definition_runs.specs.ExportedRuns.{ExportedClaims};
+ghost use Rattle.definition_runs.specs.Exported.{ExportedClaims};
 
 // Its contract is all that is claimed, so that to prove this crate is to prove every claim. It does nothing.
 pub fn hold()

@@ -15,7 +15,7 @@ use Rattle.definition.specs.Status.{pick, _and_, isDone, refuseIf, _then_}
 use Rattle.endpoint.proofs.answer.Chains.{then-both, refuse-passed}
 use Rattle.definition.specs.declared.Places.{Places}
 use Rattle.definition.specs.declared.Next.{Next}
-use Rattle.definition.specs.Port.{sound, free, packetsOf, packetOf, done, refused, registerOf, takeOf}
+use Rattle.definition.specs.Port.{sound, free, packetsOf, packetOf, done, refused, registerOf, takeOf, waitAnswer, waited, takeAnswer, took}
 use Rattle.port.proofs.places.Lists.{either}
 use Rattle.port.proofs.waits.Operations.{register-done}
 use Rattle.port.proofs.packets.Operations.{take-none, take-done}
@@ -24,7 +24,6 @@ use Rattle.answers.proofs.control.Passed.{wait-room}
 use Rattle.definition.specs.declared.Pair.{Pair}
 use Rattle.definition.specs.Pair.{isOne, own, endsOf, withPlaces}
 use Rattle.definition.specs.Tests.{Steps}
-use Rattle.definition.specs.Wait.{waitAnswer, waited, takeAnswer, took}
 use Rattle.socket.specs.Deferred.{registeredPair, takenPair}
 
 -- the next pair by the answer: the next table where the call is done, else the same pair

@@ -9,7 +9,7 @@ ghost use Rattle.definition.specs.Status.{pick, isDone};
 ghost use Rattle.port.specs.places.Table.{unused, onlyPacket};
 ghost use Rattle.definition.specs.Pair.{isOne, endsOf};
 ghost use Rattle.definition.specs.Tests.{Steps};
-ghost use Rattle.definition.specs.Wait.{waitAnswer, waited, takeAnswer, took};
+ghost use Rattle.definition.specs.Port.{waitAnswer, waited, takeAnswer, took};
 ghost use Rattle.socket.specs.Deferred.{registeredPair, takenPair};
 
 // The pair with a wait more, if the answer is done.

@@ -9,7 +9,7 @@ use Rattle.definition.specs.Status.{isDone}
 use Rattle.endpoint.proofs.answer.Chains.{then-both, refuse-passed}
 use Rattle.definition.specs.declared.Ends.{Ends}
 use Rattle.answers.proofs.tests.Sound.{opening-passed}
-use Rattle.definition.specs.Wait.{waitAnswer}
+use Rattle.definition.specs.Port.{waitAnswer}
 
 -- a wait that may be registered: a place is unused
 pub wait-room : (p : Ends) (h edge : ℕ) (x : Answer) → x ≡ waitAnswer p h edge → isDone x ≡ true → p .packets + p .waits < 128

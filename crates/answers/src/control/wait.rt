@@ -5,7 +5,7 @@ use definition::Ends;
 use definition::Record;
 use definition::Status;
 ghost use mathlib.Core.Path.{_≡_};
-ghost use Rattle.definition.specs.Wait.{waitAnswer};
+ghost use Rattle.definition.specs.Port.{waitAnswer};
 
 // The tests of a wait.
 pub fn wait_answer(p: Ends, handle: u32, edge: u8) -> Answer

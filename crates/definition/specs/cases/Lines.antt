@@ -12,7 +12,7 @@ use Rattle.definition.specs.declared.Answer.the-variants.{Done, Refused}
 use Rattle.definition.specs.Calls.{Seen, Outcome, Create, Input, Slices, seenOf, createdBy, start, controlAnswer, answerTo, controlled, pairAfter, memoryAfter, written, stateAfter, landed, deliveredIn, after, outcome, outcomes, pairCreated, State, answerOf}
 use Rattle.definition.specs.Status.{answerWord, statusNumber, recordCount, countOf, isDone, refuseIf, refuseUnless, _then_, pick, _and_, _or_}
 use Rattle.definition.specs.Ring.{place, front, put}
-use Rattle.definition.specs.Port.{filter, fires, firedOf, changeOf, fired, kept, takenOf, insertedOf, appendedOf, registeredOf, droppedOf, ofOther, others, packetsOf, waitsOf, unusedOf, tableOf, newPlaces, endNumber, waitOf, observe, packetOf}
+use Rattle.definition.specs.Port.{filter, fires, firedOf, changeOf, fired, kept, takenOf, insertedOf, appendedOf, registeredOf, droppedOf, ofOther, others, packetsOf, waitsOf, unusedOf, tableOf, newPlaces, endNumber, waitOf, observe, packetOf, waitAnswer, waited, takeAnswer, took}
 use Rattle.definition.specs.Signal.{changedWord, meets, reached, missed, bitIf}
 use Rattle.definition.specs.Disposition.{enables, hasBacklog, hasOpenBacklog, enablesOver, disposeChecks, switchWriting, disposeOwn, disposePeer, disposedOwn, disposedPeer, disposed, dispositionOf, plainDisposeAnswer, userDisposeAnswer}
 use Rattle.definition.specs.Create.{newEnd, noEnd, numbersAnswer, createAnswer, newPair, noPair}
@@ -23,7 +23,6 @@ use Rattle.definition.specs.Tests.{soundLengths, soundQueue, shortTable,
 use Rattle.definition.specs.Read.{lostByReader, gainedByWriter, emptyAnswer, availableIn, readSize, readAnswer, leaving, drainedQueue, bufferRead, consumed, pairRead, userReadAnswer, bytesLanded}
 use Rattle.definition.specs.Write.{gainedByPeer, lostByWriter, datagramSize, writeSize, writeAnswer, fedQueue, ringFed, tableFed, ringWritten, tableWritten, wrote, pairWritten, writeRanges, userWriteAnswer}
 use Rattle.definition.specs.Threshold.{readThresholdAnswer, writeThresholdAnswer, thresholdsAnswer, readThresholdSet, writeThresholdSet}
-use Rattle.definition.specs.Wait.{waitAnswer, waited, takeAnswer, took}
 use Rattle.definition.specs.Shutdown.{shutdownAnswer, shutEnd, shut, userShutdownAnswer}
 use Rattle.definition.specs.Effect.{withChange, signalChange, putBit, switchReading}
 use Rattle.definition.specs.Memory.{fits, countFits, isNull, littleEndian, countLanded, lookup}

@@ -51,7 +51,7 @@ use Rattle.definition.proofs.Answer.Laws as N′
 use Rattle.kept.proofs.pair.Callees.{pair-one, pair-lawful}
 use Rattle.kept.proofs.steps.Steps.{asks, hands, opened, put-back, fills, frees-cell}
 use Rattle.host.proofs.Callees.{ends-lawful, ends-contract, ask-ends, wait-answer-contract, to-wait-answer, goes-wait-answer, wait-answer-told, wait-contract, hand-wait}
-use Rattle.definition.specs.Wait.{waitAnswer as waitAnswerOf, waitAnswer, waited}
+use Rattle.definition.specs.Port.{waitAnswer as waitAnswerOf, waitAnswer, waited}
 use Rattle.definition.specs.Pair.{isOne, own, endsOf}
 use Rattle.definition_runs.specs.Exported.{Answered}
 use Rattle.definition.specs.Tests.{Steps}

@@ -26,7 +26,7 @@ use Rattle.script_call.specs.pair_outcome.PairOutcome.{unchangedPair, re
 use Rattle.script_call.proofs.pair_outcome.Steps.{visit-step, unchanged-is, wait-step, new-step, mk as mkOutcome}
 use Rattle.definition_script.specs.Call.{Rings, rings, ownRing, ownTable, peerRing, peerTable, withPeer, stepOf, createStep, waitStep, takeStep, plainStep}
 use Rattle.script_call.specs.plain_call.Created.{CreatesPair}
-use Rattle.definition.specs.Wait.{waitAnswer}
+use Rattle.definition.specs.Port.{waitAnswer}
 
 abbrev pub mk : Pair → Answer → Step
 mk p a = record { pair = p; answer = a }

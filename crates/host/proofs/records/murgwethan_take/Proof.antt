@@ -48,7 +48,7 @@ use Rattle.kept.proofs.steps.Steps.{hands, opened, fills, frees-cell}
 use Rattle.host.proofs.Callees.{take-contract, hand-take}
 use Rattle.definition.specs.Pair.{own}
 use Rattle.definition_runs.specs.Exported.{Answered, arrayOf, packetNumbers, Recorded}
-use Rattle.definition.specs.Wait.{takeAnswer, took}
+use Rattle.definition.specs.Port.{takeAnswer, took}
 use Rattle.socket.proofs.Waits.{take-steps}
 use Rattle.host.proofs.values.take_answer as step
 use Rattle.host.proofs.values.take_answer.Symbol as step-def

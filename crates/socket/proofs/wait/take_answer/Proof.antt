@@ -3,7 +3,7 @@ use Rattle.definition.specs.Status.{isDone}
 use Rattle.endpoint.proofs.answer.Rules.{via-not, via-not-not, then-stop, then-go}
 use Rattle.answers.proofs.tests.Sound.{sound-passed}
 use Rattle.definition.specs.Pair.{endsOf}
-use Rattle.definition.specs.Wait.{takeAnswer}
+use Rattle.definition.specs.Port.{takeAnswer}
 use Rattle.socket.proofs.Waits.{oldest-answer}
 use Rattle.socket.proofs.wait.take_answer.Statement.{statement}
 use Rattle.socket.proofs.wait.take_answer.Tie as tie

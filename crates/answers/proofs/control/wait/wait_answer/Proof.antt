@@ -3,7 +3,7 @@ use native.Mathlib.Omega.{arith}
 use borrow.Author.Tests.{leb-true}
 use Rattle.answers.proofs.tests.Sound.{opening-sound}
 use Rattle.endpoint.proofs.answer.Rules.{chain, via-not, via-not-not, then-stop, then-go}
-use Rattle.definition.specs.Wait.{waitAnswer}
+use Rattle.definition.specs.Port.{waitAnswer}
 use borrow.Author.Needs.{needs}
 use Rattle.answers.proofs.control.wait.wait_answer.Statement.{statement}
 use Rattle.answers.proofs.control.wait.wait_answer.Tie as tie
