@@ -47,7 +47,7 @@ pub fn visit_only(p: Pair, r: Outcome) -> Pair
     ensures { λ q. ⌜ q ≡ pick (onlyWait (p .places)) (visitedAll r p) p ⌝ }
 {
     let t = port::visits::visited_alone(p.places, r);
-    parts::with_places(p, t)
+    parts::with_first_place(p, t)
 }
 
 // The pair with the ends of an outcome.

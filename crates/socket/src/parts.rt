@@ -53,6 +53,14 @@ pub fn with_places(p: Pair, places: Places) -> Pair
     }
 }
 
+// The same for places of which the first alone may change: it is then stored where it stands, and nothing else is.
+pub fn with_first_place(mut p: Pair, places: Places) -> Pair
+    ensures { λ r. ⌜ r ≡ withPlaces places p ⌝ }
+{
+    p.places = places;
+    p
+}
+
 // The word that the end of a handle shows.
 pub fn signal(p: Pair, handle: u32) -> SignalWord
     ensures { λ r. ⌜ r ≡ shownBy p handle ⌝ }

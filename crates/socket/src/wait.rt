@@ -46,7 +46,7 @@ pub fn registered_first(p: Pair, a: Answer, handle: u32, key: u64, mask: u32, ed
         mask,
         edge == 1,
     );
-    parts::with_places(p, next)
+    parts::with_first_place(p, next)
 }
 
 // The tests of a take, then the oldest packet.
@@ -83,7 +83,7 @@ pub fn taken_only(p: Pair, a: Answer) -> Pair
 {
     let places = p.places;
     let next = port::packets::only_taken(places, is_done(a));
-    parts::with_places(p, next)
+    parts::with_first_place(p, next)
 }
 
 // Registers a wait of an end. It may fire now, by the word as it is; with edge 1 only a later change fires it.

@@ -14,16 +14,16 @@ is-done-requires c κs = search needs
 first-registered-requires : tie.Need-first-registered-requires
 first-registered-requires c κs = search needs
 
-with-places-requires : tie.Need-with-places-requires
-with-places-requires c κs = search needs
+with-first-place-requires : tie.Need-with-first-place-requires
+with-first-place-requires c κs = search needs
 
 returns : tie.Need-returns
 unfolding registeredPair
 returns c =
-    (rw (c .before .first-registered .ensures, c .before .before .is-done .ensures, c .before .before .before .before .own .ensures) at (c .with-places .ensures))
+    (rw (c .before .first-registered .ensures, c .before .before .is-done .ensures, c .before .before .before .before .own .ensures) at (c .with-first-place .ensures))
     ∙ first-only _ _ _ _
 
 pub registered-first-spec : {M : Type 1} → statement M
 registered-first-spec =
     tie.close
-    (tie.spec own-requires is-done-requires first-registered-requires with-places-requires returns)
+    (tie.spec own-requires is-done-requires first-registered-requires with-first-place-requires returns)
