@@ -21,7 +21,7 @@ use Rattle.definition.specs.Read.{readAnswer, userReadAnswer, pairRead, 
 use Rattle.definition.specs.Close.{closeAnswer, closed}
 use Rattle.definition.specs.Status.{pick, countOf, isDone}
 use Rattle.definition.specs.Memory.{countLanded}
-use Rattle.definition.specs.Create.{createAnswer, newPair, noPair}
+use Rattle.definition.specs.Create.{createAnswer, newPair, noPair, Creates}
 
 -- ---- the calls and what each finds
 
@@ -321,3 +321,8 @@ pairCreated c r = pick (isDone r) (newPair (eqb (c .kind) 1) (c .capacity) (c .r
 
 abbrev pub start : Create → (one two : Slices) → State
 start c one two = state (pairCreated c (createdBy c one two)) one two
+
+-- create with the arguments and slices of a run
+abbrev pub CreatesBy : (before : Pair) → Create → (one two : Slices) → Step → Type 0
+CreatesBy before c one two =
+    Creates before (c .kind) (c .capacity) (c .rights1) (c .rights2) (one .ring) (one .table) (two .ring) (two .table)

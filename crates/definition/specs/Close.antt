@@ -4,12 +4,13 @@ use mathlib.Core.Bool.{true, Bool, not}
 use Rattle.definition.specs.declared.Endpoint.{Endpoint}
 use Rattle.definition.specs.declared.Answer.{Answer}
 use Rattle.definition.specs.declared.Pair.{Pair}
-use Rattle.definition.specs.Pair.{noQueue, endsOf, own, peer, withEnd, withPlaces}
-use Rattle.definition.specs.Tests.{openingTest}
+use Rattle.definition.specs.Pair.{noQueue, endsOf, own, peer, withEnd, withPlaces, isOne}
+use Rattle.definition.specs.Tests.{openingTest, Steps}
 use Rattle.definition.specs.Status.{pick}
 use Rattle.definition.specs.Signal.{WRITABLE, «PEER_CLOSED»}
 use Rattle.definition.specs.Port.{droppedOf}
 use Rattle.definition.specs.Effect.{signalChange}
+use Rattle.definition.specs.declared.Step.{Step}
 
 -- 01 "Delivered bytes", close: the queue is emptied and both its starts are 0; the rest of the record stays
 unfoldable pub closedEnd : Endpoint → Endpoint
@@ -26,3 +27,8 @@ unfoldable pub closed : Bool → Pair → Pair
 closed t p =
     let p₁ = withPlaces (droppedOf t (p .places)) (withEnd t (closedEnd (own t (endsOf p))) p) in
     pick (peer t (endsOf p) .closed) p₁ (signalChange (not t) WRITABLE «PEER_CLOSED» p₁)
+
+-- ---- the call
+
+abbrev pub Closes : Pair → (h : ℕ) → Step → Type 0
+Closes p h = Steps p (closeAnswer p h) (closed (isOne h) p)

@@ -7,10 +7,13 @@ use Rattle.definition.specs.declared.Answer.{Answer}
 use Rattle.definition.specs.declared.Endpoint.{Endpoint}
 use Rattle.definition.specs.declared.Pair.{Pair}
 use Rattle.definition.specs.Status.{refuseIf, _then_}
-use Rattle.definition.specs.Tests.{shortSlices}
+use Rattle.definition.specs.Tests.{shortSlices, Steps}
 use Rattle.definition.specs.Signal.{WRITABLE}
 use Rattle.definition.specs.Pair.{noQueue, noThresholds}
 use Rattle.definition.specs.Port.{newPlaces}
+use Rattle.definition.specs.declared.Step.{Step}
+use mathlib.Core.List.{List}
+use lib.ListN.{length}
 
 -- ---- the answer
 
@@ -49,3 +52,11 @@ newPair datagram C rights1 rights2 =
 -- what a refused create hands back: a record of capacity 0, on which every call answers −1
 unfoldable pub noPair : Pair
 noPair = record { datagram = false; spare1 = 0; spare2 = 0; capacity = 0; one = noEnd; two = noEnd; places = newPlaces }
+
+-- ---- the call
+
+-- a create on the record `before`, which a refused one leaves; the slices are those of end 1, then of end 2
+abbrev pub Creates : (before : Pair) → (kind C rights1 rights2 : ℕ) → (ring1 table1 ring2 table2 : List ℕ) → Step → Type 0
+Creates before kind C rights1 rights2 ring1 table1 ring2 table2 =
+    Steps before (createAnswer kind C rights1 rights2 (length ring1) (length table1) (length ring2) (length table2))
+    (newPair (eqb kind 1) C rights1 rights2)

@@ -12,9 +12,10 @@ use Rattle.definition.specs.declared.Pair.{Pair}
 use Rattle.definition.specs.Status.{_and_, pick, refuseIf, _then_}
 use Rattle.definition.specs.Signal.{«PEER_WRITE_DISABLED», meets, WRITABLE, «WRITE_DISABLED»}
 use Rattle.definition.specs.Pair.{isOne, own, peer, endsOf}
-use Rattle.definition.specs.Tests.{openingTest, soundTest}
+use Rattle.definition.specs.Tests.{openingTest, soundTest, Steps}
 use Rattle.definition.specs.Effect.{signalChange, putBit, switchReading}
 use Rattle.definition.specs.Memory.{RIGHT-MANAGE, lookup}
+use Rattle.definition.specs.declared.Step.{Step}
 
 -- ---- the checks
 
@@ -111,3 +112,17 @@ userDisposeAnswer e h a b =
     then refuseIf (ltb 2 b) InvalidArgs
     then lookup e h RIGHT-MANAGE
     then disposeChecks (own (isOne h) e) (peer (isOne h) e) (dispositionOf a) (dispositionOf b)
+
+-- ---- the calls
+
+-- by the values of the enum
+abbrev pub Disposes : Pair → (h : ℕ) → (disposition peerDisposition : Disposition) → Step → Type 0
+Disposes p h a b = Steps p (disposeAnswer (endsOf p) h a b) (disposed (isOne h) a b p)
+
+-- by numbers
+abbrev pub PlainDisposes : Pair → (h disposition peerDisposition : ℕ) → Step → Type 0
+PlainDisposes p h a b = Steps p (plainDisposeAnswer (endsOf p) h a b) (disposed (isOne h) (dispositionOf a) (dispositionOf b) p)
+
+-- with the lookup of manage
+abbrev pub UserDisposes : Pair → (h disposition peerDisposition : ℕ) → Step → Type 0
+UserDisposes p h a b = Steps p (userDisposeAnswer (endsOf p) h a b) (disposed (isOne h) (dispositionOf a) (dispositionOf b) p)

@@ -10,8 +10,11 @@ use Rattle.definition.specs.declared.Ends.{Ends}
 use Rattle.definition.specs.Status.{pick, _then_}
 use Rattle.definition.specs.Signal.{bitIf}
 use Rattle.definition.specs.Read.{availableIn}
-use Rattle.definition.specs.Pair.{isOne, own, peer}
-use Rattle.definition.specs.Tests.{soundTest, Lent, tableTest, handleTest}
+use Rattle.definition.specs.Pair.{isOne, own, peer, endsOf}
+use Rattle.definition.specs.Tests.{soundTest, Lent, tableTest, handleTest, Steps, lentOf}
+use Rattle.definition.specs.declared.Pair.{Pair}
+use Rattle.definition.specs.declared.Step.{Step}
+use mathlib.Core.List.{List, []}
 
 -- a number of the peer's
 unfoldable pub unlessClosed : Bool → ℕ → ℕ
@@ -37,3 +40,9 @@ infoAnswer e z h =
     then tableTest (e .datagram) (e .capacity) h (own (isOne h) e .queue) z
     then handleTest e h
     then Done (Info (infoOf (e .datagram) (e .capacity) (own (isOne h) e) (peer (isOne h) e) (z .first)))
+
+-- ---- the call
+
+-- info is lent its own table, and no ring
+abbrev pub AsksInfo : Pair → (h : ℕ) → (table : List ℕ) → Step → Type 0
+AsksInfo p h table = Steps p (infoAnswer (endsOf p) (lentOf (p .datagram) (own (isOne h) (endsOf p) .queue) [] table) h) p

@@ -19,8 +19,9 @@ use Rattle.definition.specs.declared.Ends.{Ends}
 use Rattle.definition.specs.declared.Pair.{Pair}
 use Rattle.definition.specs.Status.{pick, _or_, ok, _and_, refuseIf, _then_}
 use Rattle.definition.specs.Signal.{meets, changedWord}
-use Rattle.definition.specs.Tests.{openingTest, soundTest}
-use Rattle.definition.specs.Pair.{own, withPlaces, endsOf}
+use Rattle.definition.specs.Tests.{openingTest, soundTest, Steps}
+use Rattle.definition.specs.Pair.{own, withPlaces, endsOf, isOne}
+use Rattle.definition.specs.declared.Step.{Step}
 
 -- ---- lists
 
@@ -213,3 +214,11 @@ takeAnswer p =
 -- the pair without its oldest packet, whose place can be used again
 unfoldable pub took : Pair → Pair
 took p = withPlaces (takenOf (p .places)) p
+
+-- ---- what the two calls do
+
+abbrev pub Waits : Pair → (h key mask edge : ℕ) → Step → Type 0
+Waits p h key mask edge = Steps p (waitAnswer (endsOf p) h edge) (waited (isOne h) key mask edge p)
+
+abbrev pub Takes : Pair → Step → Type 0
+Takes p = Steps p (takeAnswer p) (took p)

@@ -5,12 +5,13 @@ use lib.Bits.{bitOr}
 use Rattle.definition.specs.declared.Answer.{Answer}
 use Rattle.definition.specs.declared.Pair.{Pair}
 use Rattle.definition.specs.declared.Ends.{Ends}
-use Rattle.definition.specs.Tests.{openingTest, soundTest}
-use Rattle.definition.specs.Pair.{endsOf, peer}
+use Rattle.definition.specs.Tests.{openingTest, soundTest, Steps}
+use Rattle.definition.specs.Pair.{endsOf, peer, isOne}
 use Rattle.definition.specs.Status.{pick, _then_}
 use Rattle.definition.specs.Signal.{WRITABLE, «WRITE_DISABLED», «PEER_WRITE_DISABLED», bitIf, meets}
 use Rattle.definition.specs.Effect.{signalChange, switchReading}
 use Rattle.definition.specs.Memory.{RIGHT-WRITE, lookup}
+use Rattle.definition.specs.declared.Step.{Step}
 
 -- a shutdown is refused for its record or its handle alone
 unfoldable pub shutdownAnswer : Pair → (h : ℕ) → Answer
@@ -42,3 +43,12 @@ shutsRead options = meets options 2
 -- 01 "Calls over user memory", shutdown: the lookup with write; any options are taken
 unfoldable pub userShutdownAnswer : Ends → (h : ℕ) → Answer
 userShutdownAnswer e h = soundTest e then lookup e h RIGHT-WRITE
+
+-- ---- the calls
+
+abbrev pub Shuts : Pair → (h : ℕ) → (read write : Bool) → Step → Type 0
+Shuts p h read write = Steps p (shutdownAnswer p h) (shut (isOne h) read write p)
+
+-- by options, with the lookup of write
+abbrev pub UserShuts : Pair → (h options : ℕ) → Step → Type 0
+UserShuts p h options = Steps p (userShutdownAnswer (endsOf p) h) (shut (isOne h) (shutsRead options) (shutsWrite options) p)

@@ -9,10 +9,11 @@ use Rattle.definition.specs.declared.Record.the-variants.{Limits}
 use Rattle.definition.specs.declared.Answer.the-variants.{Done}
 use Rattle.definition.specs.declared.Pair.{Pair}
 use Rattle.definition.specs.Status.{refuseIf, _then_}
-use Rattle.definition.specs.Tests.{openingTest}
+use Rattle.definition.specs.Tests.{openingTest, Steps}
 use Rattle.definition.specs.Pair.{isOne, peer, own, withThresholds, withEnd, endsOf}
 use Rattle.definition.specs.Signal.{«READ_THRESHOLD», reached, «WRITE_THRESHOLD»}
 use Rattle.definition.specs.Effect.{putBit}
+use Rattle.definition.specs.declared.Step.{Step}
 
 -- ---- the answers
 
@@ -44,3 +45,14 @@ unfoldable pub writeThresholdSet : Bool → (n : ℕ) → Pair → Pair
 writeThresholdSet t n p =
     putBit t (reached n (p .capacity - peer t (endsOf p) .queue .bytes .count)) «WRITE_THRESHOLD»
     (withEnd t (withThresholds (record { read = own t (endsOf p) .thresholds .read; write = n }) (own t (endsOf p))) p)
+
+-- ---- the calls
+
+abbrev pub SetsReadThreshold : Pair → (h n : ℕ) → Step → Type 0
+SetsReadThreshold p h n = Steps p (readThresholdAnswer (endsOf p) h n) (readThresholdSet (isOne h) n p)
+
+abbrev pub SetsWriteThreshold : Pair → (h n : ℕ) → Step → Type 0
+SetsWriteThreshold p h n = Steps p (writeThresholdAnswer (endsOf p) h n) (writeThresholdSet (isOne h) n p)
+
+abbrev pub AsksThresholds : Pair → (h : ℕ) → Step → Type 0
+AsksThresholds p h = Steps p (thresholdsAnswer (endsOf p) h) p

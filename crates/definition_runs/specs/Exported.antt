@@ -14,18 +14,17 @@ use Rattle.definition.specs.declared.Record.{Record}
 use Rattle.definition.specs.declared.Record.the-variants.{Empty, Count, Info, Limits, Packet}
 use Rattle.definition.specs.declared.Answer.the-variants.{Done, Refused}
 use Rattle.definition.specs.Status.{answerWord, pick, isDone}
-use Rattle.definition.specs.Tests.{Steps, openingTest, lentOf}
+use Rattle.definition.specs.Tests.{openingTest}
 use Rattle.definition.specs.Pair.{isOne, own, endsOf}
-use Rattle.definition.specs.Create.{newPair}
-use Rattle.definition.specs.Calls.{Create, Slices, createdBy, Input, input, Call, Control, setDisposition, shutdown, plainDisposition, plainShutdown, setReadThreshold, setWriteThreshold, getThresholds, getInfo, wait, takePacket, write, read, plainWrite, plainRead, close, control, State, ownSlices, peerSlices, withPair, withPeer, state, Outcome, seenOf, memoriesAfter, public}
+use Rattle.definition.specs.Calls.{Create, Slices, createdBy, Input, input, Call, Control, setDisposition, shutdown, plainDisposition, plainShutdown, setReadThreshold, setWriteThreshold, getThresholds, getInfo, wait, takePacket, write, read, plainWrite, plainRead, close, control, State, ownSlices, peerSlices, withPair, withPeer, state, Outcome, seenOf, memoriesAfter, public, CreatesBy}
 use Rattle.definition.specs.Write.{Wrote, UserWrote}
 use Rattle.definition.specs.Read.{Read, UserRead, bytesLanded}
-use Rattle.definition.specs.Disposition.{disposed, dispositionOf, plainDisposeAnswer, userDisposeAnswer}
-use Rattle.definition.specs.Shutdown.{shutdownAnswer, shut, shutsRead, shutsWrite, userShutdownAnswer}
-use Rattle.definition.specs.Threshold.{readThresholdAnswer, readThresholdSet, writeThresholdAnswer, writeThresholdSet, thresholdsAnswer}
-use Rattle.definition.specs.Port.{waitAnswer, waited, takeAnswer, took}
-use Rattle.definition.specs.Close.{closeAnswer, closed}
-use Rattle.definition.specs.Info.{infoAnswer}
+use Rattle.definition.specs.Disposition.{PlainDisposes, UserDisposes}
+use Rattle.definition.specs.Shutdown.{Shuts, UserShuts}
+use Rattle.definition.specs.Threshold.{SetsReadThreshold, SetsWriteThreshold, AsksThresholds}
+use Rattle.definition.specs.Port.{Waits, Takes}
+use Rattle.definition.specs.Close.{Closes}
+use Rattle.definition.specs.Info.{AsksInfo}
 use Rattle.definition_runs.specs.Run.{Chain, Run, Does}
 use Rattle.definition_runs.specs.TwoRuns.{answers, delivered, calls, SameLengths, sources, found}
 
@@ -71,87 +70,19 @@ arrayOf numbers (Done d) out = numbers d out
 arrayOf numbers (Refused s) out = out
 
 -- A call whose record goes to a lent array: its promise, and the array.
-pub record Recorded (numbers : Record → List ℕ → List ℕ) (p : Pair) (a : Answer) (q : Pair) (out out′ : List ℕ) (r : Step) : Type 0 where
-  pub step : Steps p a q r
+pub record Recorded (numbers : Record → List ℕ → List ℕ) (promise : Step → Type 0) (out out′ : List ℕ) (r : Step) : Type 0 where
+  pub step : promise r
   pub array : out′ ≡ arrayOf numbers (r .answer) out
 
 -- the record and the handle are tested as by every call (−1, then −11 for a handle that is none or closed); then the word of the handle's end
 unfoldable pub signalNumber : Pair → (h : ℕ) → ℤ
 signalNumber p h = pick (isDone (openingTest (endsOf p) h)) (pos (own (isOne h) (endsOf p) .signals)) (answerWord (openingTest (endsOf p) h))
 
--- ---- what each call ensures
-
--- create: its arguments and the slices of both ends. Where it is refused, the record stays as it was.
-abbrev pub Creates : Pair → Create → (one two : Slices) → Pair → ℤ → Type 0
-Creates p c one two p′ w =
-    Answered (Steps p (createdBy c one two) (newPair (eqb (c .kind) 1) (c .capacity) (c .rights1) (c .rights2))) p′ w
-
--- write, lent the peer's ring and table
-abbrev pub Writes : Pair → (h : ℕ) → (ring ring′ table table′ bytes : List ℕ) → Pair → ℤ → Type 0
-Writes p h ring ring′ table table′ bytes p′ w = Answered (Wrote p h bytes ring ring′ table table′) p′ w
-
--- read and peek, lent the reader's ring and table
-abbrev pub Reads : Pair → (h : ℕ) → (peek : Bool) → (ring table buffer buffer′ : List ℕ) → Pair → ℤ → Type 0
-Reads p h peek ring table buffer buffer′ p′ w = Answered (Read p h peek ring table buffer buffer′) p′ w
-
--- the plain disposition by its numbers, without a right
-abbrev pub Disposes : Pair → (h a b : ℕ) → Pair → ℤ → Type 0
-Disposes p h a b p′ w =
-    Answered (Steps p (plainDisposeAnswer (endsOf p) h a b) (disposed (isOne h) (dispositionOf a) (dispositionOf b) p)) p′ w
-
--- shutdown by its two flags
-abbrev pub Shuts : Pair → (h : ℕ) → (reading writing : Bool) → Pair → ℤ → Type 0
-Shuts p h reading writing p′ w = Answered (Steps p (shutdownAnswer p h) (shut (isOne h) reading writing p)) p′ w
-
--- both thresholds
-abbrev pub SetsReadThreshold : Pair → (h n : ℕ) → Pair → ℤ → Type 0
-SetsReadThreshold p h n p′ w = Answered (Steps p (readThresholdAnswer (endsOf p) h n) (readThresholdSet (isOne h) n p)) p′ w
-
-abbrev pub SetsWriteThreshold : Pair → (h n : ℕ) → Pair → ℤ → Type 0
-SetsWriteThreshold p h n p′ w = Answered (Steps p (writeThresholdAnswer (endsOf p) h n) (writeThresholdSet (isOne h) n p)) p′ w
-
--- wait
-abbrev pub Waits : Pair → (h key mask edge : ℕ) → Pair → ℤ → Type 0
-Waits p h key mask edge p′ w = Answered (Steps p (waitAnswer (endsOf p) h edge) (waited (isOne h) key mask edge p)) p′ w
-
--- close
-abbrev pub Closes : Pair → (h : ℕ) → Pair → ℤ → Type 0
-Closes p h p′ w = Answered (Steps p (closeAnswer p h) (closed (isOne h) p)) p′ w
+-- ---- the signal word
 
 -- the signal word of an end. It is no call of a run: the pair stays as it is.
 abbrev pub Signals : Pair → (h : ℕ) → Pair → ℤ → Type 0
 Signals p h p′ w = (w ≡ signalNumber p h) × (p′ ≡ p)
-
--- asking both thresholds of an end
-abbrev pub AsksThresholds : Pair → (h : ℕ) → (out out′ : List ℕ) → Pair → ℤ → Type 0
-AsksThresholds p h out out′ p′ w = Answered (Recorded thresholdNumbers p (thresholdsAnswer (endsOf p) h) p out out′) p′ w
-
--- info, lent the end's own table
-abbrev pub AsksInfo : Pair → (h : ℕ) → (table out out′ : List ℕ) → Pair → ℤ → Type 0
-AsksInfo p h table out out′ p′ w =
-    Answered (Recorded infoNumbers p (infoAnswer (endsOf p) (lentOf (p .datagram) (own (isOne h) (endsOf p) .queue) [] table) h) p out out′) p′ w
-
--- take
-abbrev pub Takes : Pair → (out out′ : List ℕ) → Pair → ℤ → Type 0
-Takes p out out′ p′ w = Answered (Recorded packetNumbers p (takeAnswer p) (took p) out out′) p′ w
-
--- write
-abbrev pub UserWrites : Pair → (h o base : ℕ) → (memory memory′ : List ℕ) → (a n at : ℕ) → (ring ring′ table table′ : List ℕ) → Pair → ℤ → Type 0
-UserWrites p h o base memory memory′ a n at ring ring′ table table′ p′ w =
-    Answered (UserWrote p h base o a n at memory memory′ ring ring′ table table′) p′ w
-
--- read and peek
-abbrev pub UserReads : Pair → (h o base : ℕ) → (memory memory′ : List ℕ) → (a n at : ℕ) → (ring table : List ℕ) → Pair → ℤ → Type 0
-UserReads p h o base memory memory′ a n at ring table p′ w = Answered (UserRead p h base o a n at ring table memory memory′) p′ w
-
--- disposition
-abbrev pub UserDisposes : Pair → (h a b : ℕ) → Pair → ℤ → Type 0
-UserDisposes p h a b p′ w =
-    Answered (Steps p (userDisposeAnswer (endsOf p) h a b) (disposed (isOne h) (dispositionOf a) (dispositionOf b) p)) p′ w
-
--- shutdown
-abbrev pub UserShuts : Pair → (h o : ℕ) → Pair → ℤ → Type 0
-UserShuts p h o p′ w = Answered (Steps p (userShutdownAnswer (endsOf p) h) (shut (isOne h) (shutsRead o) (shutsWrite o) p)) p′ w
 
 -- ---- what a call is passed and what it leaves
 
@@ -215,50 +146,50 @@ slicesOf ring table = record { ring = ring; table = table }
 -- and before the count does; by `UserReads` a done read leaves memory as this, with the count landed over it.
 pub data Exported (s : State) : Passed → State → Returned → Type 0 where
   murgwethan-write : {h : ℕ} {bytes ring′ table′ : List ℕ} {p : Pair} {w : ℤ}
-      → Writes (s .pair) h (peerSlices (isOne h) s .ring) ring′ (peerSlices (isOne h) s .table) table′ bytes p w
+      → Answered (Wrote (s .pair) h bytes (peerSlices (isOne h) s .ring) ring′ (peerSlices (isOne h) s .table) table′) p w
       → Exported s (passed (plainWrite h) 0 bytes []) (withPeer (isOne h) p (slicesOf ring′ table′) s) (returned w p [] bytes [])
   murgwethan-read : {h : ℕ} {peek : Bool} {buffer buffer′ : List ℕ} {p : Pair} {w : ℤ}
-      → Reads (s .pair) h peek (ownSlices (isOne h) s .ring) (ownSlices (isOne h) s .table) buffer buffer′ p w
+      → Answered (Read (s .pair) h peek (ownSlices (isOne h) s .ring) (ownSlices (isOne h) s .table) buffer buffer′) p w
       → Exported s (passed (plainRead h peek) 0 buffer []) (withPair p s) (returned w p (take (countIn w) buffer′) buffer′ [])
   murgwethan-set-disposition : {h a b : ℕ} {p : Pair} {w : ℤ}
-      → Disposes (s .pair) h a b p w
+      → Answered (PlainDisposes (s .pair) h a b) p w
       → Exported s (passed (control (plainDisposition h a b)) 0 [] []) (withPair p s) (returned w p [] [] [])
   murgwethan-shutdown : {h : ℕ} {reading writing : Bool} {p : Pair} {w : ℤ}
-      → Shuts (s .pair) h reading writing p w
+      → Answered (Shuts (s .pair) h reading writing) p w
       → Exported s (passed (control (plainShutdown h reading writing)) 0 [] []) (withPair p s) (returned w p [] [] [])
   murgwethan-set-read-threshold : {h n : ℕ} {p : Pair} {w : ℤ}
-      → SetsReadThreshold (s .pair) h n p w
+      → Answered (SetsReadThreshold (s .pair) h n) p w
       → Exported s (passed (control (setReadThreshold h n)) 0 [] []) (withPair p s) (returned w p [] [] [])
   murgwethan-set-write-threshold : {h n : ℕ} {p : Pair} {w : ℤ}
-      → SetsWriteThreshold (s .pair) h n p w
+      → Answered (SetsWriteThreshold (s .pair) h n) p w
       → Exported s (passed (control (setWriteThreshold h n)) 0 [] []) (withPair p s) (returned w p [] [] [])
   murgwethan-thresholds : {h : ℕ} {out out′ : List ℕ} {p : Pair} {w : ℤ}
-      → AsksThresholds (s .pair) h out out′ p w
+      → Answered (Recorded thresholdNumbers (AsksThresholds (s .pair) h) out out′) p w
       → Exported s (passed (control (getThresholds h)) 0 [] out) (withPair p s) (returned w p [] [] out′)
   murgwethan-info : {h : ℕ} {out out′ : List ℕ} {p : Pair} {w : ℤ}
-      → AsksInfo (s .pair) h (ownSlices (isOne h) s .table) out out′ p w
+      → Answered (Recorded infoNumbers (AsksInfo (s .pair) h (ownSlices (isOne h) s .table)) out out′) p w
       → Exported s (passed (control (getInfo h)) 0 [] out) (withPair p s) (returned w p [] [] out′)
   murgwethan-wait : {h key mask edge : ℕ} {p : Pair} {w : ℤ}
-      → Waits (s .pair) h key mask edge p w
+      → Answered (Waits (s .pair) h key mask edge) p w
       → Exported s (passed (control (wait h key mask edge)) 0 [] []) (withPair p s) (returned w p [] [] [])
   murgwethan-take : {out out′ : List ℕ} {p : Pair} {w : ℤ}
-      → Takes (s .pair) out out′ p w
+      → Answered (Recorded packetNumbers (Takes (s .pair)) out out′) p w
       → Exported s (passed (control takePacket) 0 [] out) (withPair p s) (returned w p [] [] out′)
   murgwethan-close : {h : ℕ} {p : Pair} {w : ℤ}
-      → Closes (s .pair) h p w
+      → Answered (Closes (s .pair) h) p w
       → Exported s (passed (close h) 0 [] []) (withPair p s) (returned w p [] [] [])
   murgwethan-user-write : {h o base a n at : ℕ} {memory memory′ ring′ table′ : List ℕ} {p : Pair} {w : ℤ}
-      → UserWrites (s .pair) h o base memory memory′ a n at (peerSlices (isOne h) s .ring) ring′ (peerSlices (isOne h) s .table) table′ p w
+      → Answered (UserWrote (s .pair) h base o a n at memory memory′ (peerSlices (isOne h) s .ring) ring′ (peerSlices (isOne h) s .table) table′) p w
       → Exported s (passed (write h o a n at) base memory []) (withPeer (isOne h) p (slicesOf ring′ table′) s) (returned w p [] memory′ [])
   murgwethan-user-read : {h o base a n at : ℕ} {memory memory′ : List ℕ} {p : Pair} {w : ℤ}
-      → UserReads (s .pair) h o base memory memory′ a n at (ownSlices (isOne h) s .ring) (ownSlices (isOne h) s .table) p w
+      → Answered (UserRead (s .pair) h base o a n at (ownSlices (isOne h) s .ring) (ownSlices (isOne h) s .table) memory memory′) p w
       → Exported s (passed (read h o a n at) base memory []) (withPair p s)
       (returned w p (take (countIn w) (drop (a - base) (bytesLanded (s .pair) h base a (countIn w) (ownSlices (isOne h) s .ring) memory))) memory′ [])
   murgwethan-user-set-disposition : {h a b : ℕ} {p : Pair} {w : ℤ}
-      → UserDisposes (s .pair) h a b p w
+      → Answered (UserDisposes (s .pair) h a b) p w
       → Exported s (passed (control (setDisposition h a b)) 0 [] []) (withPair p s) (returned w p [] [] [])
   murgwethan-user-shutdown : {h o : ℕ} {p : Pair} {w : ℤ}
-      → UserShuts (s .pair) h o p w
+      → Answered (UserShuts (s .pair) h o) p w
       → Exported s (passed (control (shutdown h o)) 0 [] []) (withPair p s) (returned w p [] [] [])
 
 -- ---- a run of exported calls
@@ -266,7 +197,7 @@ pub data Exported (s : State) : Passed → State → Returned → Type 0 where
 -- a run: a done create on any record, then a chain of exported calls. p is the pair that create leaves, s the last state. 01 "Two runs".
 pub data ExportedRun (c : Create) (one two : Slices) (xs : List Passed) : Pair → List Returned → State → Type 0 where
   run : {before p : Pair} {w : ℤ} {ys : List Returned} {s : State}
-      → Creates before c one two p w → isCount w ≡ true → Chain Exported (state p one two) xs ys s → ExportedRun c one two xs p ys s
+      → Answered (CreatesBy before c one two) p w → isCount w ≡ true → Chain Exported (state p one two) xs ys s → ExportedRun c one two xs p ys s
 
 abbrev pub inputs : List Passed → List Input
 inputs xs = map (λ (x : Passed). x .input) xs
@@ -352,7 +283,7 @@ pub record Created (p : Pair) (c : Create) (one two : Slices) (p′ : Pair) (w :
   pub refused : isCount w ≡ false → p′ ≡ p
 
 abbrev pub CreateStarts : Type 0
-CreateStarts = (p : Pair) (c : Create) (one two : Slices) (p′ : Pair) (w : ℤ) → Creates p c one two p′ w → Created p c one two p′ w
+CreateStarts = (p : Pair) (c : Create) (one two : Slices) (p′ : Pair) (w : ℤ) → Answered (CreatesBy p c one two) p′ w → Created p c one two p′ w
 
 -- ---- every list of exported calls has a run
 
@@ -395,7 +326,7 @@ ExportedRunsExist =
 abbrev pub CreatesAlike : Type 0
 CreatesAlike =
     (c : Create) (one two one′ two′ : Slices) → SameLengths one one′ → SameLengths two two′
-    → (before before′ p p′ : Pair) (w w′ : ℤ) → Creates before c one two p w → Creates before′ c one′ two′ p′ w′
+    → (before before′ p p′ : Pair) (w w′ : ℤ) → Answered (CreatesBy before c one two) p w → Answered (CreatesBy before′ c one′ two′) p′ w′
     → w ≡ w′
 
 abbrev pub signalsOf : (h : ℕ) → List Returned → List ℤ

@@ -8,18 +8,17 @@ use lib.ListN.{take, drop}
 use lib.Dec.{eqb}
 use Rattle.definition.specs.declared.Step.{Step}
 use Rattle.definition.specs.Status.{countOf}
-use Rattle.definition.specs.Pair.{isOne, own, endsOf}
-use Rattle.definition.specs.Tests.{lentOf, Steps}
+use Rattle.definition.specs.Pair.{isOne}
 use Rattle.definition.specs.Write.{Wrote, UserWrote}
 use Rattle.definition.specs.Read.{Read, BytesRead, UserRead}
-use Rattle.definition.specs.Threshold.{readThresholdAnswer, readThresholdSet, writeThresholdAnswer, writeThresholdSet, thresholdsAnswer}
-use Rattle.definition.specs.Disposition.{disposed, dispositionOf, plainDisposeAnswer, userDisposeAnswer}
-use Rattle.definition.specs.Shutdown.{shutdownAnswer, shut, shutsRead, shutsWrite, userShutdownAnswer}
-use Rattle.definition.specs.Info.{infoAnswer}
-use Rattle.definition.specs.Port.{waitAnswer, waited, takeAnswer, took}
-use Rattle.definition.specs.Close.{closeAnswer, closed}
-use Rattle.definition.specs.Calls.{setDisposition, shutdown, plainDisposition, plainShutdown, setReadThreshold, setWriteThreshold, getThresholds, getInfo, wait, takePacket, write, read, plainWrite, plainRead, close, control, Input, input, State, ownSlices, peerSlices, withPair, withPeer, Outcome, gives, Create, Slices, state, Seen, seenOf, createdBy, leftBy, after, outcome, outcomes, afterAll, pairCreated, start}
-use Rattle.definition.specs.Create.{newPair, noPair}
+use Rattle.definition.specs.Threshold.{AsksThresholds, SetsReadThreshold, SetsWriteThreshold}
+use Rattle.definition.specs.Disposition.{PlainDisposes, UserDisposes}
+use Rattle.definition.specs.Shutdown.{Shuts, UserShuts}
+use Rattle.definition.specs.Info.{AsksInfo}
+use Rattle.definition.specs.Port.{Takes, Waits}
+use Rattle.definition.specs.Close.{Closes}
+use Rattle.definition.specs.Calls.{setDisposition, shutdown, plainDisposition, plainShutdown, setReadThreshold, setWriteThreshold, getThresholds, getInfo, wait, takePacket, write, read, plainWrite, plainRead, close, control, Input, input, State, ownSlices, peerSlices, withPair, withPeer, Outcome, gives, Create, Slices, state, Seen, seenOf, createdBy, leftBy, after, outcome, outcomes, afterAll, pairCreated, start, CreatesBy}
+use Rattle.definition.specs.Create.{noPair}
 use Rattle.definition.specs.cases.Lines.{shownLines, linesOf}
 
 -- Each call takes the state that the last one left. A chain has its first state, what each call was passed, what each gave, and the last state. What
@@ -43,10 +42,10 @@ pub data Does (s : State) : Input → State → Outcome → Type 0 where
       → UserRead (s .pair) h base o a n at (ownSlices (isOne h) s .ring) (ownSlices (isOne h) s .table) memory memory′ r
       → Does s (input (read h o a n at) base memory) (withPair (r .pair) s) (gives r s (take (countOf (r .answer)) (drop (a - base) landed)) memory′)
   did-dispose : {h a b base : ℕ} {memory : List ℕ} {r : Step}
-      → Steps (s .pair) (userDisposeAnswer (endsOf (s .pair)) h a b) (disposed (isOne h) (dispositionOf a) (dispositionOf b) (s .pair)) r
+      → UserDisposes (s .pair) h a b r
       → Does s (input (control (setDisposition h a b)) base memory) (withPair (r .pair) s) (gives r s [] memory)
   did-shutdown : {h o base : ℕ} {memory : List ℕ} {r : Step}
-      → Steps (s .pair) (userShutdownAnswer (endsOf (s .pair)) h) (shut (isOne h) (shutsRead o) (shutsWrite o) (s .pair)) r
+      → UserShuts (s .pair) h o r
       → Does s (input (control (shutdown h o)) base memory) (withPair (r .pair) s) (gives r s [] memory)
   did-plain-write : {h base : ℕ} {src ring′ table′ : List ℕ} {r : Step}
       → Wrote (s .pair) h src (peerSlices (isOne h) s .ring) ring′ (peerSlices (isOne h) s .table) table′ r
@@ -56,38 +55,37 @@ pub data Does (s : State) : Input → State → Outcome → Type 0 where
       → Read (s .pair) h peek (ownSlices (isOne h) s .ring) (ownSlices (isOne h) s .table) buffer buffer′ r
       → Does s (input (plainRead h peek) base buffer) (withPair (r .pair) s) (gives r s (take (countOf (r .answer)) buffer′) buffer′)
   did-plain-dispose : {h a b base : ℕ} {memory : List ℕ} {r : Step}
-      → Steps (s .pair) (plainDisposeAnswer (endsOf (s .pair)) h a b) (disposed (isOne h) (dispositionOf a) (dispositionOf b) (s .pair)) r
+      → PlainDisposes (s .pair) h a b r
       → Does s (input (control (plainDisposition h a b)) base memory) (withPair (r .pair) s) (gives r s [] memory)
   did-plain-shutdown : {h base : ℕ} {reading writing : Bool} {memory : List ℕ} {r : Step}
-      → Steps (s .pair) (shutdownAnswer (s .pair) h) (shut (isOne h) reading writing (s .pair)) r
+      → Shuts (s .pair) h reading writing r
       → Does s (input (control (plainShutdown h reading writing)) base memory) (withPair (r .pair) s) (gives r s [] memory)
   did-read-threshold : {h n base : ℕ} {memory : List ℕ} {r : Step}
-      → Steps (s .pair) (readThresholdAnswer (endsOf (s .pair)) h n) (readThresholdSet (isOne h) n (s .pair)) r
+      → SetsReadThreshold (s .pair) h n r
       → Does s (input (control (setReadThreshold h n)) base memory) (withPair (r .pair) s) (gives r s [] memory)
   did-write-threshold : {h n base : ℕ} {memory : List ℕ} {r : Step}
-      → Steps (s .pair) (writeThresholdAnswer (endsOf (s .pair)) h n) (writeThresholdSet (isOne h) n (s .pair)) r
+      → SetsWriteThreshold (s .pair) h n r
       → Does s (input (control (setWriteThreshold h n)) base memory) (withPair (r .pair) s) (gives r s [] memory)
   did-thresholds : {h base : ℕ} {memory : List ℕ} {r : Step}
-      → Steps (s .pair) (thresholdsAnswer (endsOf (s .pair)) h) (s .pair) r
+      → AsksThresholds (s .pair) h r
       → Does s (input (control (getThresholds h)) base memory) (withPair (r .pair) s) (gives r s [] memory)
   did-info : {h base : ℕ} {memory : List ℕ} {r : Step}
-      → Steps (s .pair)
-      (infoAnswer (endsOf (s .pair)) (lentOf (s .pair .datagram) (own (isOne h) (endsOf (s .pair)) .queue) [] (ownSlices (isOne h) s .table)) h) (s .pair) r
+      → AsksInfo (s .pair) h (ownSlices (isOne h) s .table) r
       → Does s (input (control (getInfo h)) base memory) (withPair (r .pair) s) (gives r s [] memory)
   did-wait : {h key mask edge base : ℕ} {memory : List ℕ} {r : Step}
-      → Steps (s .pair) (waitAnswer (endsOf (s .pair)) h edge) (waited (isOne h) key mask edge (s .pair)) r
+      → Waits (s .pair) h key mask edge r
       → Does s (input (control (wait h key mask edge)) base memory) (withPair (r .pair) s) (gives r s [] memory)
   did-take : {base : ℕ} {memory : List ℕ} {r : Step}
-      → Steps (s .pair) (takeAnswer (s .pair)) (took (s .pair)) r
+      → Takes (s .pair) r
       → Does s (input (control takePacket) base memory) (withPair (r .pair) s) (gives r s [] memory)
   did-close : {h base : ℕ} {memory : List ℕ} {r : Step}
-      → Steps (s .pair) (closeAnswer (s .pair) h) (closed (isOne h) (s .pair)) r
+      → Closes (s .pair) h r
       → Does s (input (close h) base memory) (withPair (r .pair) s) (gives r s [] memory)
 
 -- A whole run: create, which only reads its slices, then the calls. It has what is seen of create, what each call gave, and the last state.
 pub data Run (c : Create) (one two : Slices) (is : List Input) : Seen → List Outcome → State → Type 0 where
   run : {r : Step} {os : List Outcome} {s : State}
-      → Steps noPair (createdBy c one two) (newPair (eqb (c .kind) 1) (c .capacity) (c .rights1) (c .rights2)) r
+      → CreatesBy noPair c one two r
       → Chain Does (state (r .pair) one two) is os s
       → Run c one two is (seenOf (r .answer) (r .pair)) os s
 

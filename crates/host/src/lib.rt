@@ -4,16 +4,14 @@ use definition::Pair;
 ghost use mathlib.Core.Path.{_≡_};
 ghost use lib.ListN.{length};
 ghost use lib.Dec.{eqb};
-ghost use Rattle.definition.specs.Create.{createAnswer, newPair};
-ghost use Rattle.definition.specs.Pair.{isOne, endsOf};
-ghost use Rattle.definition.specs.Tests.{Steps};
+ghost use Rattle.definition.specs.Create.{Creates};
 ghost use Rattle.definition.specs.Write.{Wrote};
 ghost use Rattle.definition.specs.Read.{Read};
-ghost use Rattle.definition.specs.Disposition.{disposed, dispositionOf, plainDisposeAnswer};
-ghost use Rattle.definition.specs.Shutdown.{shutdownAnswer, shut};
-ghost use Rattle.definition.specs.Threshold.{readThresholdAnswer, readThresholdSet, writeThresholdAnswer, writeThresholdSet};
-ghost use Rattle.definition.specs.Port.{waitAnswer, waited};
-ghost use Rattle.definition.specs.Close.{closeAnswer, closed};
+ghost use Rattle.definition.specs.Disposition.{PlainDisposes};
+ghost use Rattle.definition.specs.Shutdown.{Shuts};
+ghost use Rattle.definition.specs.Threshold.{SetsReadThreshold, SetsWriteThreshold};
+ghost use Rattle.definition.specs.Port.{Waits};
+ghost use Rattle.definition.specs.Close.{Closes};
 ghost use Rattle.definition_runs.specs.Exported.{signalNumber, Answered};
 
 pub mod memory;
@@ -33,7 +31,7 @@ pub extern "C" fn murgwethan_create(
     ring_two: &[u8],
     table_two: &[u32],
 ) -> i64
-    ensures { λ w. ⌜ Answered (Steps (now (p .entry)) (createAnswer kind capacity «rights_one» «rights_two» (length (now («ring_one» .entry))) (length (now («table_one» .entry))) (length (now («ring_two» .entry))) (length (now («table_two» .entry)))) (newPair (eqb kind 1) capacity «rights_one» «rights_two»)) (now (p .exit)) w ⌝ }
+    ensures { λ w. ⌜ Answered (Creates (now (p .entry)) kind capacity «rights_one» «rights_two» (now («ring_one» .entry)) (now («table_one» .entry)) (now («ring_two» .entry)) (now («table_two» .entry))) (now (p .exit)) w ⌝ }
 {
     let a = crate::values::create_answer(
         kind,
@@ -88,7 +86,7 @@ pub extern "C" fn murgwethan_set_disposition(
     disposition: u32,
     peer_disposition: u32,
 ) -> i64
-    ensures { λ w. ⌜ Answered (Steps (now (p .entry)) (plainDisposeAnswer (endsOf (now (p .entry))) handle disposition «peer_disposition») (disposed (isOne handle) (dispositionOf disposition) (dispositionOf «peer_disposition») (now (p .entry)))) (now (p .exit)) w ⌝ }
+    ensures { λ w. ⌜ Answered (PlainDisposes (now (p .entry)) handle disposition «peer_disposition») (now (p .exit)) w ⌝ }
 {
     let r = crate::values::dispose_ends(socket::ends_of(*p), handle, disposition, peer_disposition);
     kept::pair::outcome(p, r)
@@ -97,7 +95,7 @@ pub extern "C" fn murgwethan_set_disposition(
 // Prevents reading or writing by the end of a handle; a peer that is open is shut by the opposite of each flag.
 #[no_mangle]
 pub extern "C" fn murgwethan_shutdown(p: &mut Pair, handle: u32, read: bool, write: bool) -> i64
-    ensures { λ w. ⌜ Answered (Steps (now (p .entry)) (shutdownAnswer (now (p .entry)) handle) (shut (isOne handle) read write (now (p .entry)))) (now (p .exit)) w ⌝ }
+    ensures { λ w. ⌜ Answered (Shuts (now (p .entry)) handle read write) (now (p .exit)) w ⌝ }
 {
     let r = control::ends::shutdown_ends(socket::ends_of(*p), handle, read, write);
     kept::pair::outcome(p, r)
@@ -106,7 +104,7 @@ pub extern "C" fn murgwethan_shutdown(p: &mut Pair, handle: u32, read: bool, wri
 // Sets the number of bytes from which on an end's word shows that enough bytes are queued for a read; 0 turns it off.
 #[no_mangle]
 pub extern "C" fn murgwethan_set_read_threshold(p: &mut Pair, handle: u32, threshold: u64) -> i64
-    ensures { λ w. ⌜ Answered (Steps (now (p .entry)) (readThresholdAnswer (endsOf (now (p .entry))) handle threshold) (readThresholdSet (isOne handle) threshold (now (p .entry)))) (now (p .exit)) w ⌝ }
+    ensures { λ w. ⌜ Answered (SetsReadThreshold (now (p .entry)) handle threshold) (now (p .exit)) w ⌝ }
 {
     let r = control::threshold::read_threshold_ends(socket::ends_of(*p), handle, threshold);
     kept::pair::outcome(p, r)
@@ -115,7 +113,7 @@ pub extern "C" fn murgwethan_set_read_threshold(p: &mut Pair, handle: u32, thres
 // Sets the number of bytes from which on an end's word shows that there is enough room for a write; 0 turns it off.
 #[no_mangle]
 pub extern "C" fn murgwethan_set_write_threshold(p: &mut Pair, handle: u32, threshold: u64) -> i64
-    ensures { λ w. ⌜ Answered (Steps (now (p .entry)) (writeThresholdAnswer (endsOf (now (p .entry))) handle threshold) (writeThresholdSet (isOne handle) threshold (now (p .entry)))) (now (p .exit)) w ⌝ }
+    ensures { λ w. ⌜ Answered (SetsWriteThreshold (now (p .entry)) handle threshold) (now (p .exit)) w ⌝ }
 {
     let r = control::threshold::write_threshold_ends(socket::ends_of(*p), handle, threshold);
     kept::pair::outcome(p, r)
@@ -124,7 +122,7 @@ pub extern "C" fn murgwethan_set_write_threshold(p: &mut Pair, handle: u32, thre
 // Registers a wait of an end. It may fire now, by the word as it is; with edge 1 only a later change fires it.
 #[no_mangle]
 pub extern "C" fn murgwethan_wait(p: &mut Pair, handle: u32, key: u64, mask: u32, edge: u8) -> i64
-    ensures { λ w. ⌜ Answered (Steps (now (p .entry)) (waitAnswer (endsOf (now (p .entry))) handle edge) (waited (isOne handle) key mask edge (now (p .entry)))) (now (p .exit)) w ⌝ }
+    ensures { λ w. ⌜ Answered (Waits (now (p .entry)) handle key mask edge) (now (p .exit)) w ⌝ }
 {
     let a = answers::control::wait_answer(socket::ends_of(*p), handle, edge);
     kept::places::wait(p, a, handle, key, mask, edge)
@@ -133,7 +131,7 @@ pub extern "C" fn murgwethan_wait(p: &mut Pair, handle: u32, key: u64, mask: u32
 // Closes the end of a handle: its queue and its waits vanish, packets stay, and an open peer is told by its word.
 #[no_mangle]
 pub extern "C" fn murgwethan_close(p: &mut Pair, handle: u32) -> i64
-    ensures { λ w. ⌜ Answered (Steps (now (p .entry)) (closeAnswer (now (p .entry)) handle) (closed (isOne handle) (now (p .entry)))) (now (p .exit)) w ⌝ }
+    ensures { λ w. ⌜ Answered (Closes (now (p .entry)) handle) (now (p .exit)) w ⌝ }
 {
     let r = control::ends::close_ends(socket::ends_of(*p), handle);
     kept::pair::close(p, handle, r)

@@ -1,9 +1,7 @@
 // The calls over user memory: one slice that the caller lends, at a 64-bit base.
 use definition::Pair;
-ghost use Rattle.definition.specs.Pair.{isOne, endsOf};
-ghost use Rattle.definition.specs.Tests.{Steps};
-ghost use Rattle.definition.specs.Disposition.{disposed, dispositionOf, userDisposeAnswer};
-ghost use Rattle.definition.specs.Shutdown.{shut, userShutdownAnswer, shutsRead, shutsWrite};
+ghost use Rattle.definition.specs.Disposition.{UserDisposes};
+ghost use Rattle.definition.specs.Shutdown.{UserShuts};
 ghost use Rattle.definition.specs.Write.{UserWrote};
 ghost use Rattle.definition.specs.Read.{UserRead};
 ghost use Rattle.definition_runs.specs.Exported.{Answered};
@@ -78,7 +76,7 @@ pub extern "C" fn murgwethan_user_set_disposition(
     disposition: u32,
     peer_disposition: u32,
 ) -> i64
-    ensures { λ w. ⌜ Answered (Steps (now (p .entry)) (userDisposeAnswer (endsOf (now (p .entry))) handle disposition «peer_disposition») (disposed (isOne handle) (dispositionOf disposition) (dispositionOf «peer_disposition») (now (p .entry)))) (now (p .exit)) w ⌝ }
+    ensures { λ w. ⌜ Answered (UserDisposes (now (p .entry)) handle disposition «peer_disposition») (now (p .exit)) w ⌝ }
 {
     let r = syscall::dispose_ends(socket::ends_of(*p), handle, disposition, peer_disposition);
     kept::pair::outcome(p, r)
@@ -88,7 +86,7 @@ pub extern "C" fn murgwethan_user_set_disposition(
 // the opposite of each.
 #[no_mangle]
 pub extern "C" fn murgwethan_user_shutdown(p: &mut Pair, handle: u32, options: u32) -> i64
-    ensures { λ w. ⌜ Answered (Steps (now (p .entry)) (userShutdownAnswer (endsOf (now (p .entry))) handle) (shut (isOne handle) (shutsRead options) (shutsWrite options) (now (p .entry)))) (now (p .exit)) w ⌝ }
+    ensures { λ w. ⌜ Answered (UserShuts (now (p .entry)) handle options) (now (p .exit)) w ⌝ }
 {
     let r = syscall::shutdown_ends(socket::ends_of(*p), handle, options);
     kept::pair::outcome(p, r)

@@ -2,17 +2,15 @@
 use definition::Pair;
 ghost use mathlib.Core.Path.{_≡_};
 ghost use mathlib.Core.List.{[]};
-ghost use Rattle.definition.specs.Pair.{isOne, own, endsOf};
-ghost use Rattle.definition.specs.Tests.{lentOf};
-ghost use Rattle.definition.specs.Info.{infoAnswer};
-ghost use Rattle.definition.specs.Threshold.{thresholdsAnswer};
-ghost use Rattle.definition.specs.Port.{takeAnswer, took};
+ghost use Rattle.definition.specs.Info.{AsksInfo};
+ghost use Rattle.definition.specs.Threshold.{AsksThresholds};
+ghost use Rattle.definition.specs.Port.{Takes};
 ghost use Rattle.definition_runs.specs.Exported.{Answered, thresholdNumbers, infoNumbers, packetNumbers, Recorded};
 
 // The read and the write threshold of an end.
 #[no_mangle]
 pub extern "C" fn murgwethan_thresholds(p: &mut Pair, handle: u32, out: &mut [u64; 2]) -> i64
-    ensures { λ w. ⌜ Answered (Recorded thresholdNumbers (now (p .entry)) (thresholdsAnswer (endsOf (now (p .entry))) handle) (now (p .entry)) (now (out .entry)) (now (out .exit))) (now (p .exit)) w ⌝ }
+    ensures { λ w. ⌜ Answered (Recorded thresholdNumbers (AsksThresholds (now (p .entry)) handle) (now (out .entry)) (now (out .exit))) (now (p .exit)) w ⌝ }
 {
     let a = crate::values::thresholds(*p, handle, out);
     endpoint::answer::word(a)
@@ -26,7 +24,7 @@ pub extern "C" fn murgwethan_info(
     table: &[u32],
     out: &mut [u64; 6],
 ) -> i64
-    ensures { λ w. ⌜ Answered (Recorded infoNumbers (now (p .entry)) (infoAnswer (endsOf (now (p .entry))) (lentOf ((now (p .entry)) .datagram) (own (isOne handle) (endsOf (now (p .entry))) .queue) [] (now (table .entry))) handle) (now (p .entry)) (now (out .entry)) (now (out .exit))) (now (p .exit)) w ⌝ }
+    ensures { λ w. ⌜ Answered (Recorded infoNumbers (AsksInfo (now (p .entry)) handle (now (table .entry))) (now (out .entry)) (now (out .exit))) (now (p .exit)) w ⌝ }
 {
     let a = crate::values::info(*p, handle, table, out);
     endpoint::answer::word(a)
@@ -35,7 +33,7 @@ pub extern "C" fn murgwethan_info(
 // Takes the oldest packet: its key, trigger, observed word, count and timestamp.
 #[no_mangle]
 pub extern "C" fn murgwethan_take(p: &mut Pair, out: &mut [u64; 5]) -> i64
-    ensures { λ w. ⌜ Answered (Recorded packetNumbers (now (p .entry)) (takeAnswer (now (p .entry))) (took (now (p .entry))) (now (out .entry)) (now (out .exit))) (now (p .exit)) w ⌝ }
+    ensures { λ w. ⌜ Answered (Recorded packetNumbers (Takes (now (p .entry))) (now (out .entry)) (now (out .exit))) (now (p .exit)) w ⌝ }
 {
     let a = crate::values::take_answer(*p, out);
     kept::places::take(p, a)

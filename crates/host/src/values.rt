@@ -10,10 +10,10 @@ use endpoint::ends::Outcome;
 use user_answers::lookup::disposition_of;
 ghost use mathlib.Core.Path.{_≡_};
 ghost use mathlib.Core.List.{[]};
-ghost use Rattle.definition.specs.Pair.{isOne, own, endsOf};
-ghost use Rattle.definition.specs.Tests.{lentOf, openingTest};
-ghost use Rattle.definition.specs.Info.{infoAnswer};
-ghost use Rattle.definition.specs.Threshold.{thresholdsAnswer};
+ghost use Rattle.definition.specs.Pair.{own};
+ghost use Rattle.definition.specs.Tests.{openingTest};
+ghost use Rattle.definition.specs.Info.{AsksInfo};
+ghost use Rattle.definition.specs.Threshold.{AsksThresholds};
 ghost use Rattle.definition.specs.Port.{takeAnswer};
 ghost use Rattle.definition.specs.Create.{createAnswer};
 ghost use lib.ListN.{length};
@@ -135,7 +135,7 @@ fn put_packet(a: Answer, out: &mut [u64; 5])
 
 // The thresholds of an end, put into the array.
 pub fn thresholds(p: Pair, handle: u32, out: &mut [u64; 2]) -> Answer
-    ensures { λ a. ⌜ Recorded thresholdNumbers p (thresholdsAnswer (endsOf p) handle) p (now (out .entry)) (now (out .exit)) (record { pair = p; answer = a }) ⌝ }
+    ensures { λ a. ⌜ Recorded thresholdNumbers (AsksThresholds p handle) (now (out .entry)) (now (out .exit)) (record { pair = p; answer = a }) ⌝ }
 {
     let s = socket::threshold::get_rx_tx_threshold(p, handle);
     let a = s.answer;
@@ -145,7 +145,7 @@ pub fn thresholds(p: Pair, handle: u32, out: &mut [u64; 2]) -> Answer
 
 // The info of an end, put into the array.
 pub fn info(p: Pair, handle: u32, table: &[u32], out: &mut [u64; 6]) -> Answer
-    ensures { λ a. ⌜ Recorded infoNumbers p (infoAnswer (endsOf p) (lentOf (p .datagram) (own (isOne handle) (endsOf p) .queue) [] (now (table .entry))) handle) p (now (out .entry)) (now (out .exit)) (record { pair = p; answer = a }) ⌝ }
+    ensures { λ a. ⌜ Recorded infoNumbers (AsksInfo p handle (now (table .entry))) (now (out .entry)) (now (out .exit)) (record { pair = p; answer = a }) ⌝ }
 {
     let s = socket::info::get_info(p, handle, table);
     let a = s.answer;

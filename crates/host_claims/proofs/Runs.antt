@@ -8,15 +8,15 @@ use lib.Dec.{eqb}
 use Rattle.definition.specs.Status.{pick, answerWord, isDone}
 use Rattle.definition.specs.declared.Pair.{Pair}
 use Rattle.definition.specs.Create.{newPair, noPair}
-use Rattle.definition.specs.Calls.{Create, Slices, State, Outcome, createdBy}
+use Rattle.definition.specs.Calls.{Create, Slices, State, Outcome, createdBy, CreatesBy}
 use Rattle.definition_runs.specs.Run.{Chain, none, next, Does, run as run-of}
-use Rattle.definition_runs.specs.Exported.{Creates, Passed, Returned, isCount, Exported, run, inputs, arraysAfter, Gives, RunsAreRuns, CreateStarts}
+use Rattle.definition_runs.specs.Exported.{Answered, Passed, Returned, isCount, Exported, run, inputs, arraysAfter, Gives, RunsAreRuns, CreateStarts}
 use Rattle.host_claims.proofs.Words.{is-count}
 use Rattle.host_claims.proofs.Steps.{calls-are-steps}
 
 -- ---- create
 
-pub created-word : (p : Pair) (c : Create) (one two : Slices) (p′ : Pair) (w : ℤ) → Creates p c one two p′ w → w ≡ answerWord (createdBy c one two)
+pub created-word : (p : Pair) (c : Create) (one two : Slices) (p′ : Pair) (w : ℤ) → Answered (CreatesBy p c one two) p′ w → w ≡ answerWord (createdBy c one two)
 created-word p c one two p′ w k = k .word ∙ ap answerWord (k .kept .answer)
 
 pub create-starts : CreateStarts

@@ -3,13 +3,11 @@ use crate::deferred;
 use crate::parts;
 use definition::Pair;
 use definition::Step;
-ghost use Rattle.definition.specs.Pair.{isOne};
-ghost use Rattle.definition.specs.Tests.{Steps};
-ghost use Rattle.definition.specs.Close.{closeAnswer, closed};
+ghost use Rattle.definition.specs.Close.{Closes};
 
 // Closes an end. What it had sent stays queued at the peer.
 pub fn close(p: Pair, handle: u32) -> Step
-    ensures { λ r. ⌜ Steps p (closeAnswer p handle) (closed (isOne handle) p) r ⌝ }
+    ensures { λ r. ⌜ Closes p handle r ⌝ }
 {
     let r = control::ends::close_ends(parts::ends_of(p), handle);
     let mut p = p;

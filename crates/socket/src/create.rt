@@ -9,9 +9,8 @@ ghost use mathlib.Core.Bool.{false};
 ghost use lib.ListN.{length};
 ghost use lib.Dec.{eqb};
 ghost use Rattle.definition.specs.Status.{pick};
-ghost use Rattle.definition.specs.Create.{newEnd, noEnd, createAnswer, newPair, noPair};
+ghost use Rattle.definition.specs.Create.{newEnd, noEnd, newPair, noPair, Creates};
 ghost use Rattle.answers.specs.create.Held.{heldRights};
-ghost use Rattle.definition.specs.Tests.{Steps};
 
 // A new end, or one that was never made.
 fn end_if(made: bool, rights: u32) -> Endpoint
@@ -75,7 +74,7 @@ pub fn create(
     ring_two: &[u8],
     table_two: &[u32],
 ) -> Step
-    ensures { λ r. ⌜ Steps noPair (createAnswer kind capacity «rights_one» «rights_two» (length (now («ring_one» .entry))) (length (now («table_one» .entry))) (length (now («ring_two» .entry))) (length (now («table_two» .entry)))) (newPair (eqb kind 1) capacity «rights_one» «rights_two») r ⌝ }
+    ensures { λ r. ⌜ Creates noPair kind capacity «rights_one» «rights_two» (now («ring_one» .entry)) (now («table_one» .entry)) (now («ring_two» .entry)) (now («table_two» .entry)) r ⌝ }
 {
     let a = answers::create::create_answer(
         kind,

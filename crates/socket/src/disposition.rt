@@ -4,9 +4,7 @@ use crate::parts;
 use definition::Disposition;
 use definition::Pair;
 use definition::Step;
-ghost use Rattle.definition.specs.Pair.{isOne, endsOf};
-ghost use Rattle.definition.specs.Tests.{Steps};
-ghost use Rattle.definition.specs.Disposition.{disposeAnswer, disposed};
+ghost use Rattle.definition.specs.Disposition.{Disposes};
 
 // Disables or enables the writing of this end, then of its peer.
 pub fn set_disposition(
@@ -15,7 +13,7 @@ pub fn set_disposition(
     disposition: Disposition,
     peer_disposition: Disposition,
 ) -> Step
-    ensures { λ r. ⌜ Steps p (disposeAnswer (endsOf p) handle disposition «peer_disposition») (disposed (isOne handle) disposition «peer_disposition» p) r ⌝ }
+    ensures { λ r. ⌜ Disposes p handle disposition «peer_disposition» r ⌝ }
 {
     let r = control::disposition::dispose_ends(
         parts::ends_of(p),

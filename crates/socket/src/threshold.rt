@@ -3,13 +3,11 @@ use crate::deferred;
 use crate::parts;
 use definition::Pair;
 use definition::Step;
-ghost use Rattle.definition.specs.Pair.{isOne, endsOf};
-ghost use Rattle.definition.specs.Tests.{Steps};
-ghost use Rattle.definition.specs.Threshold.{readThresholdAnswer, writeThresholdAnswer, readThresholdSet, writeThresholdSet, thresholdsAnswer};
+ghost use Rattle.definition.specs.Threshold.{AsksThresholds, SetsReadThreshold, SetsWriteThreshold};
 
 // READ_THRESHOLD shows while at least so many bytes are queued at this end; 0 is none.
 pub fn set_read_threshold(p: Pair, handle: u32, threshold: u64) -> Step
-    ensures { λ r. ⌜ Steps p (readThresholdAnswer (endsOf p) handle threshold) (readThresholdSet (isOne handle) threshold p) r ⌝ }
+    ensures { λ r. ⌜ SetsReadThreshold p handle threshold r ⌝ }
 {
     let r = control::threshold::read_threshold_ends(parts::ends_of(p), handle, threshold);
     deferred::settle(p, r)
@@ -17,7 +15,7 @@ pub fn set_read_threshold(p: Pair, handle: u32, threshold: u64) -> Step
 
 // While the peer is open, WRITE_THRESHOLD shows whether its queue has at least so much space; 0 is none. The bit stays as it is when the peer closes.
 pub fn set_write_threshold(p: Pair, handle: u32, threshold: u64) -> Step
-    ensures { λ r. ⌜ Steps p (writeThresholdAnswer (endsOf p) handle threshold) (writeThresholdSet (isOne handle) threshold p) r ⌝ }
+    ensures { λ r. ⌜ SetsWriteThreshold p handle threshold r ⌝ }
 {
     let r = control::threshold::write_threshold_ends(parts::ends_of(p), handle, threshold);
     deferred::settle(p, r)
@@ -25,7 +23,7 @@ pub fn set_write_threshold(p: Pair, handle: u32, threshold: u64) -> Step
 
 // Both thresholds of an end.
 pub fn get_rx_tx_threshold(p: Pair, handle: u32) -> Step
-    ensures { λ r. ⌜ Steps p (thresholdsAnswer (endsOf p) handle) p r ⌝ }
+    ensures { λ r. ⌜ AsksThresholds p handle r ⌝ }
 {
     Step {
         pair: p,

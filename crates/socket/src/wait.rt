@@ -7,9 +7,8 @@ use endpoint::answer::is_done;
 ghost use mathlib.Core.Path.{_≡_};
 ghost use Rattle.definition.specs.Status.{pick, isDone};
 ghost use Rattle.port.specs.places.Table.{unused, onlyPacket};
-ghost use Rattle.definition.specs.Pair.{isOne, endsOf};
-ghost use Rattle.definition.specs.Tests.{Steps};
-ghost use Rattle.definition.specs.Port.{waitAnswer, waited, takeAnswer, took};
+ghost use Rattle.definition.specs.Pair.{isOne};
+ghost use Rattle.definition.specs.Port.{takeAnswer, Takes, Waits};
 ghost use Rattle.socket.specs.Deferred.{registeredPair, takenPair};
 
 // The pair with a wait more, if the answer is done.
@@ -88,7 +87,7 @@ pub fn taken_only(p: Pair, a: Answer) -> Pair
 
 // Registers a wait of an end. It may fire now, by the word as it is; with edge 1 only a later change fires it.
 pub fn wait(p: Pair, handle: u32, key: u64, mask: u32, edge: u8) -> Step
-    ensures { λ r. ⌜ Steps p (waitAnswer (endsOf p) handle edge) (waited (isOne handle) key mask edge p) r ⌝ }
+    ensures { λ r. ⌜ Waits p handle key mask edge r ⌝ }
 {
     let a = answers::control::wait_answer(parts::ends_of(p), handle, edge);
     Step {
@@ -99,7 +98,7 @@ pub fn wait(p: Pair, handle: u32, key: u64, mask: u32, edge: u8) -> Step
 
 // Takes the oldest packet.
 pub fn take(p: Pair) -> Step
-    ensures { λ r. ⌜ Steps p (takeAnswer p) (took p) r ⌝ }
+    ensures { λ r. ⌜ Takes p r ⌝ }
 {
     let a = take_answer(p);
     Step {

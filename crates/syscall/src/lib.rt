@@ -3,10 +3,8 @@ use definition::Pair;
 use definition::Step;
 use socket::ends_of;
 use socket::settle;
-ghost use Rattle.definition.specs.Pair.{isOne, endsOf};
-ghost use Rattle.definition.specs.Tests.{Steps};
-ghost use Rattle.definition.specs.Disposition.{disposed, dispositionOf, userDisposeAnswer};
-ghost use Rattle.definition.specs.Shutdown.{shut, userShutdownAnswer, shutsRead, shutsWrite};
+ghost use Rattle.definition.specs.Disposition.{UserDisposes};
+ghost use Rattle.definition.specs.Shutdown.{UserShuts};
 ghost use Rattle.definition.specs.Write.{UserWrote};
 ghost use Rattle.definition.specs.Read.{BytesRead, UserRead};
 
@@ -110,7 +108,7 @@ pub fn read(
 
 // Disables or enables the writing of an end and of its peer, by numbers.
 pub fn set_disposition(p: Pair, handle: u32, disposition: u32, peer_disposition: u32) -> Step
-    ensures { λ r. ⌜ Steps p (userDisposeAnswer (endsOf p) handle disposition «peer_disposition») (disposed (isOne handle) (dispositionOf disposition) (dispositionOf «peer_disposition») p) r ⌝ }
+    ensures { λ r. ⌜ UserDisposes p handle disposition «peer_disposition» r ⌝ }
 {
     let r = dispose_ends(ends_of(p), handle, disposition, peer_disposition);
     settle(p, r)
@@ -118,7 +116,7 @@ pub fn set_disposition(p: Pair, handle: u32, disposition: u32, peer_disposition:
 
 // Prevents reading or writing by the end of a handle, by bits; an open peer gets the negated flags.
 pub fn shutdown(p: Pair, handle: u32, options: u32) -> Step
-    ensures { λ r. ⌜ Steps p (userShutdownAnswer (endsOf p) handle) (shut (isOne handle) (shutsRead options) (shutsWrite options) p) r ⌝ }
+    ensures { λ r. ⌜ UserShuts p handle options r ⌝ }
 {
     let r = shutdown_ends(ends_of(p), handle, options);
     settle(p, r)

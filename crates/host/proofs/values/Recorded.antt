@@ -18,6 +18,6 @@ same true p = refl
 same false p = refl
 
 pub recorded : (numbers : Record → List ℕ → List ℕ) (p : Pair) (a : Answer) (out out′ : List ℕ) (s : Step)
-    → Steps p a p s → out′ ≡ arrayOf numbers (s .answer) out → Recorded numbers p a p out out′ (record { pair = p; answer = s .answer })
+    → Steps p a p s → out′ ≡ arrayOf numbers (s .answer) out → Recorded numbers (Steps p a p) out out′ (record { pair = p; answer = s .answer })
 recorded numbers p a out out′ s e f =
     record { step = record { answer = e .answer; pair = same (isDone a) p }; array = f }

@@ -58,7 +58,7 @@ use Rattle.endpoint.proofs.answer.word.Symbol as word-def
 use Rattle.endpoint.proofs.answer.word.Symbol.{name as #word}
 use Rattle.endpoint.proofs.answer.word.Met as word-thm
 use Rattle.definition.specs.Pair.{isOne, own, endsOf}
-use Rattle.definition.specs.Tests.{lentOf}
+use Rattle.definition.specs.Tests.{lentOf, Steps}
 use Rattle.definition.specs.Info.{infoAnswer}
 use Rattle.host.proofs.values.info as step
 use Rattle.host.proofs.values.info.Symbol as step-def
@@ -114,7 +114,7 @@ module _ {M : Type 1} (𝓤 : URA M) (H : Heap 𝓤) (A : Atoms 𝓤) (W : Given
   abbrev Post : Val → SProp 𝓤
   Post = walkOf 𝓤 H A f.ended stayed (f.clauses 𝓤 H A at-mem run) .post ((bound, (q, (q₁, (q₂, tt))), tt, x, at), tt)
 
-  exits : (r : Answer) (z : ℤ) (v : Val) (zs₃ : List ℕ) → Recorded infoNumbers h (infoAnswer (endsOf h) (lentOf (h .datagram) (own (isOne x₁) (endsOf h) .queue) [] (x₂ .now)) x₁) h ys₃ zs₃ (record { pair = h; answer = r }) → z ≡ answerWord r
+  exits : (r : Answer) (z : ℤ) (v : Val) (zs₃ : List ℕ) → Recorded infoNumbers (Steps h (infoAnswer (endsOf h) (lentOf (h .datagram) (own (isOne x₁) (endsOf h) .queue) [] (x₂ .now)) x₁) h) ys₃ zs₃ (record { pair = h; answer = r }) → z ≡ answerWord r
       → ent 𝓤 (⋆ 𝓤 H A (‵ (fobs γ (T.the-row .coded .code h)) ∷ ‵ (fbor κ (Body (mem T.the-row) b o γ)) ∷ ‵ (flft κ q) ∷ (‵ (flft κ₁ q₁) ⊛ ‵ (flft κ₂ q₂) ⊛ ‵ ftrue) ∷ ‵ (fres γ₃ ((Array u64 tt 6) .coded .code zs₃)) ∷ ‵ (i64 .own z (v ∷ [])) ∷ [])) (Post v)
   exits r z v zs₃ e d =
       qed W (‵ (fobs γ (T.the-row .coded .code h)) ∷ ‵ (fbor κ (Body (mem T.the-row) b o γ)) ∷ ‵ (flft κ q) ∷ (‵ (flft κ₁ q₁) ⊛ ‵ (flft κ₂ q₂) ⊛ ‵ ftrue) ∷ ‵ (fres γ₃ ((Array u64 tt 6) .coded .code zs₃)) ∷ ‵ (i64 .own z (v ∷ [])) ∷ []) ∵
@@ -150,8 +150,8 @@ module _ {M : Type 1} (𝓤 : URA M) (H : Heap 𝓤) (A : Atoms 𝓤) (W : Given
         -- [pre; cell; open; obs; auth; _7; d_7; _6; d_6; _5; d_5; _4; d_4; _3; …]
         calls-at ! fm (Called 𝓤 H A at-mem run) known-step to-step (and-then ! (load ! (from ! (stop !)) (look ! 7 refl)) (and-then ! (load ! (from ! (stop !)) (look ! 15 refl)) (and-then ! (load ! (from ! (stop !)) (look ! 13 refl)) (and-then ! (load ! (from ! (stop !)) (look ! 5 refl)) (no-more !))))) (λ v.
         use1 W (later (some (λ (r : Answer). ((‵ (flft κ₁ q₁) ⊛ ‵ (flft κ₂ q₂) ⊛ ‵ ftrue) ⊛ ‵ (N.the-row .own r (v ∷ []))) ⊛ raw (ensured 𝓤 H A step.ended (step.clauses 𝓤 H A at-mem run) (κ₁, (κ₂, tt)) (h, (x₁, (x₂, (r₃, tt)))) tt r)))) (id⊢ 𝓤 _) $ await ! tt $ pick ! (λ r. split ! $ move ! (1 ∷ []) $
-        use1 W (some (λ (zs : (Unit {0} × (Unit {0} × (Unit {0} × (List ℕ × Unit {0}))))). ‵ (lasts step.ended (κ₁, (κ₂, tt)) (h, (x₁, (x₂, (r₃, tt)))) zs) ⊛ raw (fact 𝓤 (Recorded infoNumbers h (infoAnswer (endsOf h) (lentOf (h .datagram) (own (isOne x₁) (endsOf h) .queue) [] (x₂ .now)) x₁) h ys₃ (zs .1 .1 .1 .0) (record { pair = h; answer = r }))))) (id⊢ 𝓤 _) $ pick ! (λ zs. split ! $ move ! (1 ∷ []) $
-        heard ! (Recorded infoNumbers h (infoAnswer (endsOf h) (lentOf (h .datagram) (own (isOne x₁) (endsOf h) .queue) [] (x₂ .now)) x₁) h ys₃ (zs .1 .1 .1 .0) (record { pair = h; answer = r })) (λ e. fsplit ! $ move ! (1 ∷ []) $ fsplit ! $ move ! (1 ∷ []) $ fsplit ! $ move ! (1 ∷ []) $ fsplit ! $ move ! (5 ∷ []) $ split ! $ move ! (1 ∷ []) $
+        use1 W (some (λ (zs : (Unit {0} × (Unit {0} × (Unit {0} × (List ℕ × Unit {0}))))). ‵ (lasts step.ended (κ₁, (κ₂, tt)) (h, (x₁, (x₂, (r₃, tt)))) zs) ⊛ raw (fact 𝓤 (Recorded infoNumbers (Steps h (infoAnswer (endsOf h) (lentOf (h .datagram) (own (isOne x₁) (endsOf h) .queue) [] (x₂ .now)) x₁) h) ys₃ (zs .1 .1 .1 .0) (record { pair = h; answer = r }))))) (id⊢ 𝓤 _) $ pick ! (λ zs. split ! $ move ! (1 ∷ []) $
+        heard ! (Recorded infoNumbers (Steps h (infoAnswer (endsOf h) (lentOf (h .datagram) (own (isOne x₁) (endsOf h) .queue) [] (x₂ .now)) x₁) h) ys₃ (zs .1 .1 .1 .0) (record { pair = h; answer = r })) (λ e. fsplit ! $ move ! (1 ∷ []) $ fsplit ! $ move ! (1 ∷ []) $ fsplit ! $ move ! (1 ∷ []) $ fsplit ! $ move ! (5 ∷ []) $ split ! $ move ! (1 ∷ []) $
         -- [r; toks; finout; rest; L2; L1; L0; cell; open; obs; auth; _7; d_7; _6; …]
         peeks ! N.the-row (Is N.the-row) (shows 𝓤 H A N.the-row) r (v ∷ []) (λ is. land ! (from ! (stop !)) (init ! 15 refl (EL.lawful N.the-type N′.the-laws 𝓤 H A W tt .typed r _ is .0)) $
         owned ! T.the-row (Is T.the-row) ((LL.makes T.the-type T′.the-plain) 𝓤 H A) h _ was $ move ! (8 ∷ 0 ∷ 9 ∷ 10 ∷ 11 ∷ []) $ closes ! tt T.the-row h (vals h) b o $

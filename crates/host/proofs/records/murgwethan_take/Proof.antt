@@ -37,6 +37,7 @@ use denote.Triple.Spec.{Meets, tripleOf}
 use denote.Triple.Table.{entered, cited}
 use denote.Triple.Walked.{says, Stays, gave-ref, walkOf, AllGo, goes-gave-ref, Walks, ends-at, walked, walk-meets}
 use denote.Triple.Clauses.{ensured, lasts}
+use Rattle.definition.specs.Tests.{Steps}
 use Rattle.definition.specs.declared.Answer.{Answer}
 use Rattle.definition.specs.declared.Pair.{Pair}
 use Rattle.definition.proofs.Pair as T
@@ -89,7 +90,7 @@ module _ {M : Type 1} (𝓤 : URA M) (H : Heap 𝓤) (A : Atoms 𝓤) (W : Given
   abbrev Post : Val → SProp 𝓤
   Post = walkOf 𝓤 H A f.ended stayed (f.clauses 𝓤 H A at-mem run) .post ((bound, (q, (q₁, tt)), tt, x, at), tt)
 
-  exits : (p′ : Pair) (z : ℤ) (v : Val) (zs₁ : List ℕ) → Answered (Recorded packetNumbers h (takeAnswer h) (took h) ys₁ zs₁) p′ z
+  exits : (p′ : Pair) (z : ℤ) (v : Val) (zs₁ : List ℕ) → Answered (Recorded packetNumbers (Steps h (takeAnswer h) (took h)) ys₁ zs₁) p′ z
       → ent 𝓤 (⋆ 𝓤 H A (‵ (fres γ (T.the-row .coded .code p′)) ∷ (‵ (flft κ q) ⊛ ‵ ftrue) ∷ (‵ (flft κ₁ q₁) ⊛ ‵ ftrue) ∷ ‵ (fres γ₁ ((Array u64 tt 5) .coded .code zs₁)) ∷ ‵ (i64 .own z (v ∷ [])) ∷ [])) (Post v)
   exits p′ z v zs₁ ens =
       qed W (‵ (fres γ (T.the-row .coded .code p′)) ∷ (‵ (flft κ q) ⊛ ‵ ftrue) ∷ (‵ (flft κ₁ q₁) ⊛ ‵ ftrue) ∷ ‵ (fres γ₁ ((Array u64 tt 5) .coded .code zs₁)) ∷ ‵ (i64 .own z (v ∷ [])) ∷ []) ∵

@@ -45,6 +45,7 @@ use denote.Triple.Spec.{Meets, tripleOf}
 use denote.Triple.Table.{entered, cited}
 use denote.Triple.Walked.{says, Stays, stay-ref, stay-dropped, gave-ref, gave-slice, walkOf, AllGo, goes-ref, goes-dropped, goes-gave-ref, goes-gave-slice, Walks, ends-at, walked, walk-meets}
 use denote.Triple.Clauses.{ensured, lasts}
+use Rattle.definition.specs.Tests.{Steps}
 use Rattle.definition.specs.declared.Answer.{Answer}
 use Rattle.definition.specs.Status.{answerWord}
 use Rattle.definition.specs.declared.Pair.{Pair}
@@ -107,7 +108,7 @@ module _ {M : Type 1} (𝓤 : URA M) (H : Heap 𝓤) (A : Atoms 𝓤) (W : Given
   abbrev Post : Val → SProp 𝓤
   Post = walkOf 𝓤 H A f.ended stayed (f.clauses 𝓤 H A at-mem run) .post ((bound, (q, (q₁, tt)), tt, x, at), tt)
 
-  exits : (r : Answer) (z : ℤ) (v : Val) (zs₂ : List ℕ) → Recorded thresholdNumbers h (thresholdsAnswer (endsOf h) x₁) h ys₂ zs₂ (record { pair = h; answer = r }) → z ≡ answerWord r
+  exits : (r : Answer) (z : ℤ) (v : Val) (zs₂ : List ℕ) → Recorded thresholdNumbers (Steps h (thresholdsAnswer (endsOf h) x₁) h) ys₂ zs₂ (record { pair = h; answer = r }) → z ≡ answerWord r
       → ent 𝓤 (⋆ 𝓤 H A (‵ (fobs γ (T.the-row .coded .code h)) ∷ ‵ (fbor κ (Body (mem T.the-row) b o γ)) ∷ ‵ (flft κ q) ∷ (‵ (flft κ₁ q₁) ⊛ ‵ ftrue) ∷ ‵ (fres γ₂ ((Array u64 tt 2) .coded .code zs₂)) ∷ ‵ (i64 .own z (v ∷ [])) ∷ [])) (Post v)
   exits r z v zs₂ e d =
       qed W (‵ (fobs γ (T.the-row .coded .code h)) ∷ ‵ (fbor κ (Body (mem T.the-row) b o γ)) ∷ ‵ (flft κ q) ∷ (‵ (flft κ₁ q₁) ⊛ ‵ ftrue) ∷ ‵ (fres γ₂ ((Array u64 tt 2) .coded .code zs₂)) ∷ ‵ (i64 .own z (v ∷ [])) ∷ []) ∵
@@ -143,8 +144,8 @@ module _ {M : Type 1} (𝓤 : URA M) (H : Heap 𝓤) (A : Atoms 𝓤) (W : Given
         -- [pre; cell; open; obs; auth; _6; d_6; _5; d_5; _4; d_4; _3; d_3; _2; …]
         calls-at ! fm (Called 𝓤 H A at-mem run) known-step to-step (and-then ! (load ! (from ! (stop !)) (look ! 7 refl)) (and-then ! (load ! (from ! (stop !)) (look ! 13 refl)) (and-then ! (load ! (from ! (stop !)) (look ! 5 refl)) (no-more !)))) (λ v.
         use1 W (later (some (λ (r : Answer). ((‵ (flft κ₁ q₁) ⊛ ‵ ftrue) ⊛ ‵ (N.the-row .own r (v ∷ []))) ⊛ raw (ensured 𝓤 H A step.ended (step.clauses 𝓤 H A at-mem run) (κ₁, tt) (h, (x₁, (r₂, tt))) tt r)))) (id⊢ 𝓤 _) $ await ! tt $ pick ! (λ r. split ! $ move ! (1 ∷ []) $
-        use1 W (some (λ (zs : (Unit {0} × (Unit {0} × (List ℕ × Unit {0})))). ‵ (lasts step.ended (κ₁, tt) (h, (x₁, (r₂, tt))) zs) ⊛ raw (fact 𝓤 (Recorded thresholdNumbers h (thresholdsAnswer (endsOf h) x₁) h ys₂ (zs .1 .1 .0) (record { pair = h; answer = r }))))) (id⊢ 𝓤 _) $ pick ! (λ zs. split ! $ move ! (1 ∷ []) $
-        heard ! (Recorded thresholdNumbers h (thresholdsAnswer (endsOf h) x₁) h ys₂ (zs .1 .1 .0) (record { pair = h; answer = r })) (λ e. fsplit ! $ move ! (1 ∷ []) $ fsplit ! $ move ! (1 ∷ []) $ fsplit ! $ move ! (4 ∷ []) $ split ! $ move ! (1 ∷ []) $
+        use1 W (some (λ (zs : (Unit {0} × (Unit {0} × (List ℕ × Unit {0})))). ‵ (lasts step.ended (κ₁, tt) (h, (x₁, (r₂, tt))) zs) ⊛ raw (fact 𝓤 (Recorded thresholdNumbers (Steps h (thresholdsAnswer (endsOf h) x₁) h) ys₂ (zs .1 .1 .0) (record { pair = h; answer = r }))))) (id⊢ 𝓤 _) $ pick ! (λ zs. split ! $ move ! (1 ∷ []) $
+        heard ! (Recorded thresholdNumbers (Steps h (thresholdsAnswer (endsOf h) x₁) h) ys₂ (zs .1 .1 .0) (record { pair = h; answer = r })) (λ e. fsplit ! $ move ! (1 ∷ []) $ fsplit ! $ move ! (1 ∷ []) $ fsplit ! $ move ! (4 ∷ []) $ split ! $ move ! (1 ∷ []) $
         -- [r; toks; finout; rest; L1; L0; cell; open; obs; auth; _6; d_6; _5; d_5; …]
         peeks ! N.the-row (Is N.the-row) (shows 𝓤 H A N.the-row) r (v ∷ []) (λ is. land ! (from ! (stop !)) (init ! 14 refl (EL.lawful N.the-type N′.the-laws 𝓤 H A W tt .typed r _ is .0)) $
         owned ! T.the-row (Is T.the-row) ((LL.makes T.the-type T′.the-plain) 𝓤 H A) h _ was $ move ! (7 ∷ 0 ∷ 8 ∷ 9 ∷ 10 ∷ []) $ closes ! tt T.the-row h (vals h) b o $
