@@ -29,6 +29,7 @@ pub enum Lie {
 pub enum Work {
     /// A pair with a port, or what stands for it; then perhaps both ends closed.
     Create {
+        capacity: u32,
         and_close: bool,
     },
     Pass {
@@ -37,10 +38,17 @@ pub enum Work {
         lie: Lie,
         part: Part,
     },
+    /// A write and a read of all of user memory, which has so many bytes.
+    User(usize),
     /// Passes of 64 bytes, with waits at the reader that its two changes of a signal visit and do not fire.
     Waits(u64),
     WaitFireTake,
     Info,
+    /// A pair whose memory is allocated for it and freed again, and its first write.
+    FirstWrite {
+        capacity: u32,
+        bytes: usize,
+    },
 }
 
 const SMALL: usize = 64;
@@ -48,8 +56,8 @@ const SMALL: usize = 64;
 impl Work {
     pub fn name(&self) -> String {
         match *self {
-            Work::Create { and_close: false } => "create".to_string(),
-            Work::Create { and_close: true } => "create, close both ends".to_string(),
+            Work::Create { capacity, and_close: false } => format!("create, C {capacity}"),
+            Work::Create { capacity, and_close: true } => format!("create, close both ends, C {capacity}"),
             Work::Pass { kind, bytes, lie, part } => {
                 let kind = if kind == 0 { "stream" } else { "datagram" };
                 let lie = if lie == Lie::Straight { "straight" } else { "wrapped" };
@@ -60,14 +68,16 @@ impl Work {
                 };
                 format!("{kind} {part} {bytes} B, {lie}")
             }
+            Work::User(bytes) => format!("user memory write+read {bytes} B"),
             Work::Waits(count) => format!("stream write+read 64 B, {count} waits"),
             Work::WaitFireTake => "wait, write that fires it, take, read".to_string(),
             Work::Info => "info".to_string(),
+            Work::FirstWrite { capacity, bytes } => format!("C {capacity}, first write {bytes} B"),
         }
     }
 
     /// A pair in the state that the work begins with.
-    pub fn prepare<S: Side>(&self) -> S {
+    fn prepare<S: Side>(&self) -> S {
         match *self {
             Work::Pass { kind, bytes, lie: Lie::Wrapped, .. } if bytes < MOST => {
                 let mut side = S::new(kind, bytes as u32 + 2);
@@ -81,6 +91,13 @@ impl Work {
                 side
             }
             Work::Pass { kind, .. } => S::new(kind, MOST as u32),
+            Work::Create { capacity, .. } => S::new(0, capacity),
+            Work::FirstWrite { .. } => S::new(0, 1),
+            Work::User(bytes) => {
+                let mut side = S::new(0, MOST as u32);
+                side.map(bytes);
+                side
+            }
             Work::Waits(count) => {
                 let mut side = S::new(0, MOST as u32);
                 (0..count).for_each(|key| side.wait(key, Mask::PeerClosed));
@@ -91,19 +108,38 @@ impl Work {
     }
 
     /// The time of so many passes.
-    pub fn time<S: Side>(&self, side: &mut S, passes: u32) -> Duration {
+    fn time<S: Side>(&self, side: &mut S, passes: u32) -> Duration {
         match *self {
-            Work::Create { and_close } => batches(side, passes, and_close),
+            Work::Create { and_close, .. } => batches(side, passes, and_close),
             Work::Pass { bytes, part, .. } => transfers(side, passes, bytes, part),
+            Work::User(bytes) => elapsed(passes, || {
+                assert_eq!(side.user_write(), bytes);
+                assert_eq!(side.user_read(), bytes);
+            }),
             Work::Waits(_) => transfers(side, passes, SMALL, Part::Both),
             Work::WaitFireTake => fired_waits(side, passes),
-            Work::Info => {
-                let start = Instant::now();
-                (0..passes).for_each(|_| side.info());
-                start.elapsed()
+            Work::Info => elapsed(passes, || side.info()),
+            Work::FirstWrite { capacity, bytes } => {
+                let source = vec![7u8; bytes];
+                elapsed(passes, || assert_eq!(S::first_write(capacity, black_box(&source)), bytes))
             }
         }
     }
+
+    /// The time of so many passes on a new pair. The first passes, which meet memory that no cache holds,
+    /// come before that.
+    pub fn measure<S: Side>(&self, passes: u32) -> Duration {
+        let mut side = self.prepare::<S>();
+        self.time(&mut side, passes / 8 + 1);
+        self.time(&mut side, passes)
+    }
+}
+
+/// The time of a call made so many times.
+pub fn elapsed(passes: u32, mut call: impl FnMut()) -> Duration {
+    let start = Instant::now();
+    (0..passes).for_each(|_| call());
+    start.elapsed()
 }
 
 /// A pass is one pair of a batch.
