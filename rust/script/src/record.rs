@@ -266,3 +266,22 @@ pub fn next_piece(bytes: &[u8]) -> (Piece, usize) {
         Err(_) => (Piece::Raw(bytes.to_vec()), bytes.len()),
     }
 }
+
+/// The records of a script as far as they decode, then the rest.
+pub fn pieces(script: &[u8]) -> Vec<Piece> {
+    let mut pieces = Vec::new();
+    let mut at = 0;
+    while at < script.len() {
+        let (piece, size) = next_piece(&script[at..]);
+        pieces.push(piece);
+        at += size;
+    }
+    pieces
+}
+
+/// The bytes of the parts, one after the other.
+pub fn join(pieces: &[Piece]) -> Vec<u8> {
+    let mut script = Vec::new();
+    pieces.iter().for_each(|piece| piece.encode(&mut script));
+    script
+}
