@@ -192,7 +192,7 @@ fn mistakes_in(path: &Path, mistakes: &str) -> Failure {
 fn fits(outcome: &Outcome) -> Result<(), Failure> {
     match outcome.number {
         0 => Ok(()),
-        number => Err(Failure(format!("the listing does not fit the script: {number} found"))),
+        _ => Err(Failure(outcome.fit())),
     }
 }
 

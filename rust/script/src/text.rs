@@ -132,24 +132,22 @@ pub fn encode(text: &str, missing: Missing) -> Result<Vec<u8>, Mistakes> {
 
 /// Appends the bytes of a line, as often as it says.
 fn put_line(script: &mut Vec<u8>, line: Word, missing: Missing) -> Result<(), Mistake> {
-    let (times, line) = match line.split_once('*') {
-        Some((times, line)) => (times_of(times)?, line),
-        None if line.words().is_empty() => return Ok(()),
-        None => (1, line),
+    if line.words().is_empty() {
+        return Ok(());
+    }
+    let (times, repeat, line) = match line.split_once('*') {
+        Some((before, line)) => (times_of(before)?, before.words()[0], line),
+        None => (1, line, line),
     };
     let mut bytes = Vec::new();
     piece_of(line, missing)?.encode(&mut bytes);
-    let room = MOST_BYTES - script.len();
-    let whole = usize::try_from(times).ok().and_then(|times| times.checked_mul(bytes.len()));
-    match whole.filter(|whole| *whole <= room) {
-        Some(_) => {
-            (0..times).for_each(|_| script.extend(&bytes));
-            Ok(())
-        }
-        None => Err(line.mistake(format!(
-            "the script would have more than {MOST_BYTES} bytes; there is room for {room}"
-        ))),
+    let most = (MOST_BYTES - script.len()) / bytes.len();
+    if times > most as u64 {
+        let expected = format!("at most {most} times: a script has at most {MOST_BYTES} bytes");
+        return Err(repeat.unexpected(expected));
     }
+    (0..times).for_each(|_| script.extend(&bytes));
+    Ok(())
 }
 
 /// How often a line stands.

@@ -55,6 +55,17 @@ pub struct Outcome {
     pub number: usize,
 }
 
+impl Outcome {
+    /// Whether the listing fits the script, in words.
+    pub fn fit(&self) -> String {
+        match self.number {
+            0 => "the listing fits the script".to_string(),
+            1 => "the listing does not fit the script in 1 place".to_string(),
+            number => format!("the listing does not fit the script in {number} places"),
+        }
+    }
+}
+
 struct Trace<'a> {
     script: &'a [u8],
     lines: std::iter::Peekable<std::iter::Enumerate<std::str::Lines<'a>>>,

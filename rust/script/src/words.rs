@@ -128,11 +128,6 @@ fn stopped(at: usize, stop: Stop) -> String {
 
 /// One line that sums up what was gone through.
 pub(crate) fn summary(outcome: &Outcome) -> String {
-    let done = outcome.records - outcome.refused;
-    let fit = match outcome.number {
-        0 => "the listing fits the script".to_string(),
-        1 => "the listing does not fit the script in 1 place".to_string(),
-        number => format!("the listing does not fit the script in {number} places"),
-    };
-    format!("{} records, {done} done, {} refused; {fit}", outcome.records, outcome.refused)
+    let (records, refused) = (outcome.records, outcome.refused);
+    format!("{records} records, {} done, {refused} refused; {}", records - refused, outcome.fit())
 }
