@@ -171,6 +171,7 @@ pub fn run(run: &Run) -> Result<(), Failure> {
         }
         "decode" => write(run.output.as_deref(), text::decode(&input).as_bytes()),
         name => {
+            is_script(first, &input)?;
             let listing = read(&run.files[1])?;
             let listing = text::text_of(&listing)
                 .map_err(|mistakes| mistakes_in(&run.files[1], &mistakes.to_string()))?;
@@ -180,6 +181,15 @@ pub fn run(run: &Run) -> Result<(), Failure> {
             })?;
             fits(&outcome)
         }
+    }
+}
+
+/// A file of letters that begins with one that is no tag is not meant as a script in bytes.
+fn is_script(path: &Path, bytes: &[u8]) -> Result<(), Failure> {
+    let is_letter = |byte: &u8| matches!(byte, b' '..=b'~' | b'\n' | b'\r' | b'\t');
+    match bytes.first().is_some_and(|byte| *byte >= b' ') && bytes.iter().all(is_letter) {
+        true => Err(Failure(format!("script: {} is text; script encode makes a script of it", named(path)))),
+        false => Ok(()),
     }
 }
 

@@ -22,27 +22,99 @@ const EDITS: [(&str, &str, &str); 24] = [
     ("record word end1 end2\n", "", ": line 1, column 1: expected `record word end1 end2`"),
     ("\n0 0 ", "\n0 1 ", " (line 2 of the listing): the word is 1, expected 0"),
     ("\n0 0 ", "\n0 -10 ", " (line 2 of the listing): the word is -10, but nothing refuses the call"),
-    ("1 0 00000002 00000002", "1 0 00000002 00000003", " (line 3 of the listing): end2 has READABLE|WRITABLE, expected WRITABLE"),
-    ("1 0 00000002 00000002", "1 0 0000002 00000002", ": line 3, column 5: found `0000002`, expected a signal word, 8 hexadecimal digits, or `-`, for record 1 (`wait`)"),
-    ("1 0 00000002 00000002", "1 0 00000002 0000000A", ": line 3, column 14: found `0000000A`, expected a signal word, 8 hexadecimal digits, or `-`, for record 1 (`wait`)"),
-    ("1 0 00000002 00000002", "1 0 00000002", ": line 3, column 13: expected a signal word, 8 hexadecimal digits, or `-`, for record 1 (`wait`)"),
-    ("1 0 00000002 00000002", "1 0 00000002 00000002 7", ": line 3, column 23: found `7`, expected the end of the line, for record 1 (`wait`)"),
+    (
+        "1 0 00000002 00000002",
+        "1 0 00000002 00000003",
+        " (line 3 of the listing): end2 has \
+        READABLE|WRITABLE, expected WRITABLE",
+    ),
+    (
+        "1 0 00000002 00000002",
+        "1 0 0000002 00000002",
+        ": line 3, column 5: found `0000002`, expected a \
+        signal word, 8 hexadecimal digits, or `-`, for record 1 (`wait`)",
+    ),
+    (
+        "1 0 00000002 00000002",
+        "1 0 00000002 0000000A",
+        ": line 3, column 14: found `0000000A`, expected a \
+        signal word, 8 hexadecimal digits, or `-`, for record 1 (`wait`)",
+    ),
+    (
+        "1 0 00000002 00000002",
+        "1 0 00000002",
+        ": line 3, column 13: expected a signal word, 8 hexadecimal \
+        digits, or `-`, for record 1 (`wait`)",
+    ),
+    (
+        "1 0 00000002 00000002",
+        "1 0 00000002 00000002 7",
+        ": line 3, column 23: found `7`, expected the \
+        end of the line, for record 1 (`wait`)",
+    ),
     ("2 3 00000002", "2 2 00000002", " (line 4 of the listing): the word is 2, expected 3"),
     ("2 3 00000002", "3 3 00000002", ": line 4: found record 3, expected record 2 (`fill`)"),
-    ("2 3 00000002", "2 03 00000002", ": line 4, column 3: found `03`, expected an answer's word, a count or a status, for record 2 (`fill`)"),
+    (
+        "2 3 00000002",
+        "2 03 00000002",
+        ": line 4, column 3: found `03`, expected an answer's word, a count \
+        or a status, for record 2 (`fill`)",
+    ),
     ("3 3 00000002 00000003", "3 2 00000002 00000003", " (line 5 of the listing): the word is 2, expected 3"),
-    ("3 3 00000002 00000003", "3 3 00000000 00000003", " (line 5 of the listing): end1 has no signal, expected WRITABLE"),
+    (
+        "3 3 00000002 00000003",
+        "3 3 00000000 00000003",
+        " (line 5 of the listing): end1 has no signal, \
+        expected WRITABLE",
+    ),
     ("3 3 00000002 00000003", "stop 61", ": line 5: found `stop 61`, but record 3 (`write`) is whole"),
-    ("0000000000000005 00000001", "0000000000000006 00000001", " (line 6 of the listing): expected the packet 0000000000000005 00000001 00000003"),
-    ("0000000000000005 00000001", "000000000000005 00000001", ": line 6, column 23: found `000000000000005`, expected key, 16 hexadecimal digits, for record 4 (`take`)"),
-    ("4 0 00000002 00000003 0000000000000005 00000001 00000003", "4 -22 00000002 00000003", " (line 6 of the listing): the word is -22, but nothing refuses the call"),
-    ("00000003 6162", "00000003 6163", " (line 7 of the listing): byte 1 of those delivered is not the one that is queued there"),
-    ("00000003 6162", "00000003 616263", ": line 7, column 23: found `616263`, expected 2 bytes delivered, in hexadecimal, for record 5 (`read`)"),
-    ("6 0 00000004 -", "6 0 00000004 00000000", " (line 8 of the listing): end2 has a word, expected `-`: the end is closed"),
+    (
+        "0000000000000005 00000001",
+        "0000000000000006 00000001",
+        " (line 6 of the listing): expected the \
+        packet 0000000000000005 00000001 00000003",
+    ),
+    (
+        "0000000000000005 00000001",
+        "000000000000005 00000001",
+        ": line 6, column 23: found \
+        `000000000000005`, expected key, 16 hexadecimal digits, for record 4 (`take`)",
+    ),
+    (
+        "4 0 00000002 00000003 0000000000000005 00000001 00000003",
+        "4 -22 00000002 00000003",
+        " (line 6 of the listing): the word is -22, but nothing refuses the call",
+    ),
+    (
+        "00000003 6162",
+        "00000003 6163",
+        " (line 7 of the listing): byte 1 of those delivered is not the one that is queued there",
+    ),
+    (
+        "00000003 6162",
+        "00000003 616263",
+        ": line 7, column 23: found `616263`, expected 2 bytes \
+        delivered, in hexadecimal, for record 5 (`read`)",
+    ),
+    (
+        "6 0 00000004 -",
+        "6 0 00000004 00000000",
+        " (line 8 of the listing): end2 has a word, expected `-`: \
+        the end is closed",
+    ),
     ("6 0 00000004 -", "6 0 - -", " (line 8 of the listing): end1 is `-`, expected a word: the end is open"),
-    ("7 -24", "7 -22", " (line 9 of the listing): the word is -22, expected PEER_CLOSED (-24): the other end is closed"),
+    (
+        "7 -24",
+        "7 -22",
+        " (line 9 of the listing): the word is -22, expected PEER_CLOSED (-24): the other \
+        end is closed",
+    ),
     ("7 -24 00000004 -\n", "", ": the listing has ended before the line of record 7 (`write`)"),
-    ("7 -24 00000004 -\n", "7 -24 00000004 -\n8 0 - -\n", ": line 10: found `8 0 - -`, but the script has ended"),
+    (
+        "7 -24 00000004 -\n",
+        "7 -24 00000004 -\n8 0 - -\n",
+        ": line 10: found `8 0 - -`, but the script has ended",
+    ),
 ];
 
 #[test]

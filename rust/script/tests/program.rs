@@ -129,3 +129,12 @@ fn a_listing_that_does_not_fit_has_another_exit_status() {
     let (status, _, error) = told(script(&["explain", SCRIPT, "-"], b"\xff"));
     assert!(status == 1 && error.starts_with("standard input: line 1, column 1: "), "{error}");
 }
+
+#[test]
+fn a_text_in_the_place_of_a_script_is_told() {
+    for command in ["explain", "page"] {
+        let (status, output, error) = told(script(&[command, TEXT, LISTING], &[]));
+        assert!(status == 1 && output.is_empty());
+        assert_eq!(error, "script: examples/worked.txt is text; script encode makes a script of it\n");
+    }
+}

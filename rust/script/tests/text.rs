@@ -45,24 +45,74 @@ fn names_stand_for_numbers() {
 
 /// What is wrong, and all that is said of it.
 const MISTAKES: [(&str, &str); 24] = [
-    ("take\npush 1", "line 2, column 1: found `push`, expected a record: create, write, read, disposition, shutdown, read_threshold, write_threshold, info, close, wait, take, fill or raw"),
-    ("wait end2 key=5 mask=READABEL edge=0", "line 1, column 22: found `READABEL`, expected a signal (READABLE, WRITABLE, PEER_CLOSED, PEER_WRITE_DISABLED, WRITE_DISABLED, READ_THRESHOLD, WRITE_THRESHOLD), several joined by |, or a number from 0 to 4294967295"),
-    ("wait end2 key=5 mask=READABLE|peek edge=0", "line 1, column 31: found `peek`, expected a signal (READABLE, WRITABLE, PEER_CLOSED, PEER_WRITE_DISABLED, WRITE_DISABLED, READ_THRESHOLD, WRITE_THRESHOLD), several joined by |, or a number from 0 to 4294967295"),
-    ("read end2 options=peek| address=1 count=2 count_at=3", "line 1, column 24: expected an option (peek), several joined by |, or a number from 0 to 4294967295"),
-    ("create kind=pipe capacity=8 rights1=7 rights2=7", "line 1, column 13: found `pipe`, expected a kind (stream, datagram) or a number from 0 to 4294967295"),
-    ("create kind=0 capacity=8 rights1=256 rights2=7", "line 1, column 34: found `256`, expected a right (read, write, manage), several joined by |, or a number from 0 to 255"),
-    ("close end3", "line 1, column 7: found `end3`, expected an end (end1, end2) or a number from 0 to 4294967295"),
-    ("disposition 1 own=off peer=0", "line 1, column 19: found `off`, expected a disposition (none, disable, enable) or a number from 0 to 4294967295"),
-    ("read_threshold 1 threshold=18446744073709551616", "line 1, column 28: found `18446744073709551616`, expected a number from 0 to 18446744073709551615"),
-    ("wait 2 key=+5 mask=1 edge=0", "line 1, column 12: found `+5`, expected a number from 0 to 18446744073709551615"),
-    ("wait 2 key=0x mask=1 edge=0", "line 1, column 12: found `0x`, expected a number from 0 to 18446744073709551615"),
+    (
+        "take\npush 1",
+        "line 2, column 1: found `push`, expected a record: create, write, read, \
+        disposition, shutdown, read_threshold, write_threshold, info, close, wait, take, fill or raw",
+    ),
+    (
+        "wait end2 key=5 mask=READABEL edge=0",
+        "line 1, column 22: found `READABEL`, expected a signal \
+        (READABLE, WRITABLE, PEER_CLOSED, PEER_WRITE_DISABLED, WRITE_DISABLED, READ_THRESHOLD, \
+        WRITE_THRESHOLD), several joined by |, or a number from 0 to 4294967295",
+    ),
+    (
+        "wait end2 key=5 mask=READABLE|peek edge=0",
+        "line 1, column 31: found `peek`, expected a signal \
+        (READABLE, WRITABLE, PEER_CLOSED, PEER_WRITE_DISABLED, WRITE_DISABLED, READ_THRESHOLD, \
+        WRITE_THRESHOLD), several joined by |, or a number from 0 to 4294967295",
+    ),
+    (
+        "read end2 options=peek| address=1 count=2 count_at=3",
+        "line 1, column 24: expected an option \
+        (peek), several joined by |, or a number from 0 to 4294967295",
+    ),
+    (
+        "create kind=pipe capacity=8 rights1=7 rights2=7",
+        "line 1, column 13: found `pipe`, expected a kind \
+        (stream, datagram) or a number from 0 to 4294967295",
+    ),
+    (
+        "create kind=0 capacity=8 rights1=256 rights2=7",
+        "line 1, column 34: found `256`, expected a right \
+        (read, write, manage), several joined by |, or a number from 0 to 255",
+    ),
+    (
+        "close end3",
+        "line 1, column 7: found `end3`, expected an end (end1, end2) or a number from 0 to \
+        4294967295",
+    ),
+    (
+        "disposition 1 own=off peer=0",
+        "line 1, column 19: found `off`, expected a disposition (none, \
+        disable, enable) or a number from 0 to 4294967295",
+    ),
+    (
+        "read_threshold 1 threshold=18446744073709551616",
+        "line 1, column 28: found `18446744073709551616`, \
+        expected a number from 0 to 18446744073709551615",
+    ),
+    (
+        "wait 2 key=+5 mask=1 edge=0",
+        "line 1, column 12: found `+5`, expected a number from 0 to \
+        18446744073709551615",
+    ),
+    (
+        "wait 2 key=0x mask=1 edge=0",
+        "line 1, column 12: found `0x`, expected a number from 0 to \
+        18446744073709551615",
+    ),
     ("wait 2 key=5 mask=1", "line 1, column 20: `wait` lacks `edge=`"),
     ("close   # which?", "line 1, column 6: `close` lacks `handle`"),
     ("wait 2 key=5 key=6 mask=1 edge=0", "line 1, column 14: `key` is given twice"),
     ("wait 2 handle=1 key=6 mask=1 edge=0", "line 1, column 8: `handle` is given twice"),
     ("close 1 2", "line 1, column 9: found `2`, expected an argument of `close`: handle"),
     ("take 1", "line 1, column 6: found `1`, expected nothing behind `take`"),
-    ("write 1 size=3", "line 1, column 9: found `size=3`, expected an argument of `write`: handle, options=, address=, count=, count_at="),
+    (
+        "write 1 size=3",
+        "line 1, column 9: found `size=3`, expected an argument of `write`: handle, \
+        options=, address=, count=, count_at=",
+    ),
     ("fill 65536", "line 1, column 11: `fill` lacks its bytes in hexadecimal, two digits each"),
     ("fill 65536 61 62", "line 1, column 15: the bytes of `fill` are given twice"),
     ("fill 65536 616x", "line 1, column 15: found `x`, expected bytes in hexadecimal, two digits each"),
