@@ -33,10 +33,14 @@ pub fn page(title: &str, script: &[u8], listing: &str, out: &mut dyn Write) -> i
     Ok(outcome)
 }
 
-/// A text in HTML. A line may be broken behind `|`.
+/// A text in HTML.
 fn escaped(text: &str) -> String {
-    let text = text.replace('&', "&amp;").replace('<', "&lt;").replace('>', "&gt;").replace('"', "&quot;");
-    text.replace('|', "|<wbr>")
+    text.replace('&', "&amp;").replace('<', "&lt;").replace('>', "&gt;").replace('"', "&quot;")
+}
+
+/// A text in a cell, where a line may be broken inside the names of bits.
+fn cell(text: &str) -> String {
+    escaped(text).replace('|', "|<wbr>").replace('_', "_<wbr>")
 }
 
 /// How to read the page.
@@ -77,15 +81,15 @@ fn row(step: &Step) -> String {
         classes.push("wrong");
     }
     let mut text = classes.join(" ");
-    let call = escaped(&words::call(step.record));
-    let answer = escaped(&words::answer(step));
+    let call = cell(&words::call(step.record));
+    let answer = cell(&words::answer(step));
     writeln!(text, "\n<td class=\"call\"><p>{call}</p><p class=\"answer\">{answer}</p>").unwrap();
     for mismatch in step.mismatches {
-        let mismatch = escaped(mismatch);
+        let mismatch = cell(mismatch);
         writeln!(text, "<p class=\"mismatch\">Does not fit (line {}): {mismatch}</p>", step.number + 2)
             .unwrap();
     }
-    writeln!(text, "<code>{}</code></td>", escaped(&shortened(line_of(step.record)))).unwrap();
+    writeln!(text, "<code>{}</code></td>", cell(&shortened(line_of(step.record)))).unwrap();
     for place in 0..2 {
         let name = place + 1;
         writeln!(text, "<td class=\"ends\" data-end=\"end{name}\">{}</td>", end_cell(step, place)).unwrap();
@@ -115,6 +119,7 @@ fn end_cell(step: &Step, place: usize) -> String {
     let mut text = String::new();
     let mut put = |class: &str, bits: u32| {
         for name in signals(bits) {
+            let name = cell(&name);
             write!(text, "<span class=\"{class}\">{name}</span>").unwrap();
         }
     };
@@ -162,16 +167,16 @@ fn parts(end: &End, added: usize) -> Vec<usize> {
 fn waits_cell(step: &Step) -> String {
     let mut text = String::new();
     for packet in &step.pair.came {
-        let packet = escaped(&words::packet(packet));
+        let packet = cell(&words::packet(packet));
         write!(text, "<p><span class=\"bit new\">packet comes</span> {packet}</p>").unwrap();
     }
     if let Some(packet) = &step.pair.gone {
-        let packet = escaped(&words::packet(packet));
+        let packet = cell(&words::packet(packet));
         write!(text, "<p><span class=\"bit left\">packet goes</span> {packet}</p>").unwrap();
     }
-    let waits = step.pair.waits.iter().map(|wait| escaped(&words::wait(wait)));
-    let packets = step.pair.packets.iter().map(|packet| words::key(packet.key));
-    text + &listed("Waits", waits) + &listed("Packets to take, keys", packets)
+    let waits = step.pair.waits.iter().map(|wait| cell(&words::wait(wait)));
+    let packets = step.pair.packets.iter().map(|packet| format!("key {}", words::key(packet.key)));
+    text + &listed("Waits", waits) + &listed("Packets to take", packets)
 }
 
 /// The first of some things, and how many there are.

@@ -6,10 +6,11 @@ use script::page::page;
 use script::text::{encode, Missing};
 use support::{stored, WORKED, WORKED_LISTING};
 
+/// The page without the places where a line may be broken.
 fn html(title: &str, script: &[u8], listing: &str) -> String {
     let mut out = Vec::new();
     page(title, script, listing, &mut out).expect("a vector takes it");
-    String::from_utf8(out).expect("text")
+    String::from_utf8(out).expect("text").replace("<wbr>", "")
 }
 
 /// The cells of a row of the worked example.
@@ -94,9 +95,18 @@ fn what_does_not_fit_is_marked() {
     assert!(page.contains("Does not fit: the listing has ended before the line of record 0 (`create`)"));
 }
 
+/// Inside a title, and only there, a place to break a line would be shown as it is.
+#[test]
+fn lines_may_be_broken_inside_names_but_not_in_the_title() {
+    let mut out = Vec::new();
+    page("a_name", WORKED, WORKED_LISTING, &mut out).expect("a vector takes it");
+    let page = String::from_utf8(out).expect("text");
+    assert!(page.contains("<title>a_name and its listing</title>") && page.contains("PEER_<wbr>CLOSED"));
+}
+
 #[test]
 fn text_cannot_become_tags() {
-    let page = html("<b>&\"", WORKED, &WORKED_LISTING.replace("7 -24", "<i> -24"));
-    assert!(page.contains("&lt;b&gt;&amp;&quot; and its listing") && !page.contains("<b>"));
+    let page = html("<b>_|&\"", WORKED, &WORKED_LISTING.replace("7 -24", "<i> -24"));
+    assert!(page.contains("<title>&lt;b&gt;_|&amp;&quot; and its listing") && !page.contains("<b>"));
     assert!(page.contains("found `&lt;i&gt;`") && !page.contains("<i>"));
 }

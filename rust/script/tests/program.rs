@@ -124,6 +124,7 @@ fn a_listing_that_does_not_fit_has_another_exit_status() {
     for command in ["explain", "page"] {
         let (status, output, error) = told(script(&[command, SCRIPT, "-"], listing.as_bytes()));
         assert_eq!((status, error.as_str()), (1, "the listing does not fit the script in 1 place\n"));
+        let output = output.replace("<wbr>", "");
         assert!(output.contains("the word is -22, expected PEER_CLOSED (-24)"), "{command}");
     }
     let (status, _, error) = told(script(&["explain", SCRIPT, "-"], b"\xff"));
