@@ -62,7 +62,7 @@ Writes the script whose text form it reads from TEXT or from standard input. One
 
 Numbers are taken for names too, in decimal or in hexadecimal after 0x. `#` begins a comment, `3 *`
 stands before a line that stands so often, and raw bytes need not be a record. A script has at most
-268435456 bytes. Mistakes are told with line and column, and then nothing is written.
+67108864 bytes. Mistakes are told with line and column, and then nothing is written.
 
 --zero  an argument that is left out is 0; else it is a mistake
 ",

@@ -13,7 +13,7 @@ use std::fmt::Write;
 /// From how many equal lines on their number is written.
 const MANY: usize = 3;
 /// The most bytes that a script may have, so that a large repeat cannot use up the memory.
-pub const MOST_BYTES: usize = 1 << 28;
+pub const MOST_BYTES: usize = 1 << 26;
 /// The most mistakes that are told.
 const MOST_MISTAKES: usize = 20;
 
