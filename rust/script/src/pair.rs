@@ -106,6 +106,11 @@ pub fn fits(address: u64, length: u64) -> bool {
 }
 
 impl Pair {
+    /// No pair yet, and memory of zeros.
+    pub fn new() -> Pair {
+        Pair { memory: vec![0; MEMORY as usize], ..Pair::default() }
+    }
+
     /// The place of the end that a record's handle names, if it is open.
     pub fn open(&self, record: &Record) -> Option<usize> {
         let place = match record.value("handle") {
@@ -249,9 +254,8 @@ pub(crate) fn created(pair: &mut Pair, call: &Call, _: &mut Vec<String>) {
         kind: call.record.value("kind"),
         capacity: call.record.value("capacity"),
         ends: [end("rights1"), end("rights2")],
-        memory: vec![0; MEMORY as usize],
         due: [WRITABLE; 2],
-        ..Pair::default()
+        ..Pair::new()
     };
 }
 

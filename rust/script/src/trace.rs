@@ -78,11 +78,8 @@ struct Trace<'a> {
 pub fn trace(script: &[u8], listing: &str, see: &mut dyn FnMut(&Step)) -> Outcome {
     let outcome = Outcome { ending: Ending::Lost, records: 0, refused: 0, mismatches: Vec::new(), number: 0 };
     let lines = listing.lines().enumerate().peekable();
-    let mut trace = Trace { script, lines, offset: 0, pair: Pair::default(), outcome };
-    match trace.lines.peek() {
-        Some((_, HEADER)) => drop(trace.lines.next()),
-        _ => trace.note(format!("line 1, column 1: expected `{HEADER}`")),
-    }
+    let mut trace = Trace { script, lines, offset: 0, pair: Pair::new(), outcome };
+    trace.header();
     trace.outcome.ending = loop {
         match trace.next(see) {
             Ok(None) => {}
@@ -96,7 +93,7 @@ pub fn trace(script: &[u8], listing: &str, see: &mut dyn FnMut(&Step)) -> Outcom
     if let (Some((at, line)), true) = (trace.lines.next(), trace.outcome.ending != Ending::Lost) {
         trace.note(format!("line {}: found `{line}`, but the script has ended", at + 1));
     }
-    if !listing.ends_with('\n') {
+    if !listing.is_empty() && !listing.ends_with('\n') {
         trace.note("the last line of the listing is cut: it has no newline".to_string());
     }
     trace.outcome
@@ -106,6 +103,17 @@ impl Trace<'_> {
     fn note(&mut self, mismatch: String) {
         self.outcome.mismatches.push(mismatch);
         self.outcome.number += 1;
+    }
+
+    /// The header, or a line in its place that is no record's.
+    fn header(&mut self) {
+        let first = self.lines.peek().map_or("", |(_, line)| line);
+        if first != HEADER {
+            self.note(format!("line 1, column 1: expected `{HEADER}`"));
+        }
+        if !first.starts_with("0 ") && !first.starts_with("stop ") {
+            self.lines.next();
+        }
     }
 
     /// Goes through one record; says how the script ends where it does.

@@ -18,7 +18,8 @@ fn mismatches(script: &[u8], listing: &str) -> Vec<String> {
 }
 
 /// What is edited in the worked example's listing, and what is said first.
-const EDITS: [(&str, &str, &str); 24] = [
+const EDITS: [(&str, &str, &str); 25] = [
+    ("record word end1 end2\n", "record\n", ": line 1, column 1: expected `record word end1 end2`"),
     ("record word end1 end2\n", "", ": line 1, column 1: expected `record word end1 end2`"),
     ("\n0 0 ", "\n0 1 ", " (line 2 of the listing): the word is 1, expected 0"),
     ("\n0 0 ", "\n0 -10 ", " (line 2 of the listing): the word is -10, but nothing refuses the call"),
@@ -155,4 +156,28 @@ fn an_info_record_that_does_not_fit_the_queues_is_told() {
     assert!(mismatches(&script, &listing("1 8 5 3 8 0")).is_empty());
     let told = mismatches(&script, &listing("1 8 5 5 8 0"));
     assert_eq!(told, [" (line 5 of the listing): expected the info record 1 8 5 3 8 0"]);
+}
+
+/// The first edit leaves nothing else to tell.
+#[test]
+fn a_wrong_header_is_told_alone() {
+    let expected = [": line 1, column 1: expected `record word end1 end2`"];
+    for header in ["", "record\n"] {
+        let listing = WORKED_LISTING.replacen("record word end1 end2\n", header, 1);
+        assert_eq!(mismatches(WORKED, &listing), expected, "{header}");
+    }
+    assert_eq!(mismatches(&[], ""), expected);
+}
+
+#[test]
+fn a_create_that_has_to_be_refused_is_told_and_what_follows_it_too() {
+    let text = "create kind=0 capacity=0 rights1=7 rights2=7\nfill 65536 61\ninfo 1";
+    let script = encode(text, Missing::Mistake).expect("a script");
+    let listing = "record word end1 end2\n0 0 00000002 00000002\n1 1 00000002 00000002\n2 -11 - -\n";
+    let told = mismatches(&script, listing);
+    assert!(
+        told[0].contains("the word is 0, expected INVALID_ARGS (-10): the capacity is not from 1"),
+        "{told:?}"
+    );
+    assert_eq!(told.len(), 5, "{told:?}");
 }

@@ -26,6 +26,18 @@ fn listings_fit() {
     }
 }
 
+/// The listing of another script does not fit, unless it is the same.
+#[test]
+fn listings_of_other_scripts_do_not_fit() {
+    let stored = stored();
+    for (entry, other) in
+        stored.iter().zip(&stored[1..]).filter(|(entry, other)| entry.listing != other.listing)
+    {
+        let outcome = trace(&entry.script, &other.listing, &mut |_| {});
+        assert!(outcome.number > 0, "{} and the listing of {}", entry.name, other.name);
+    }
+}
+
 /// Edits that are tried of each listing.
 const EDITS: u64 = 40;
 
