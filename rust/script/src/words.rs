@@ -20,7 +20,7 @@ pub(crate) fn call(record: &Record) -> String {
             said = format!("{said}, {phrase}");
         }
     }
-    singular(&said)
+    said
 }
 
 /// `1 byte` for `1 bytes`.
@@ -33,14 +33,15 @@ fn singular(said: &str) -> String {
 
 /// A phrase with the values of a record, and whether one of them is 0.
 fn filled_in(phrase: &str, record: &Record) -> (String, bool) {
-    let mut said = phrase.replace("{bytes}", &bytes(&record.bytes));
+    let mut said = phrase.to_string();
     let mut has_zero = false;
     for (field, value) in record.shape().fields.iter().zip(&record.values) {
         let place = format!("{{{}}}", field.name);
         has_zero |= *value == 0 && said.contains(&place);
         said = said.replace(&place, &field.values.words(*value));
     }
-    (said, has_zero)
+    // The bytes come last: they may have letters that look like one of the places above.
+    (singular(&said).replace("{bytes}", &bytes(&record.bytes)), has_zero)
 }
 
 /// Bytes in hexadecimal, with their letters if all have one, cut where there are many.
