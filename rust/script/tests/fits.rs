@@ -18,7 +18,12 @@ fn mismatches(script: &[u8], listing: &str) -> Vec<String> {
 }
 
 /// What is edited in the worked example's listing, and what is said first.
-const EDITS: [(&str, &str, &str); 25] = [
+const EDITS: [(&str, &str, &str); 26] = [
+    (
+        "\n1 0 ",
+        "\n01 0 ",
+        ": line 3, column 1: found `01`, expected a record's number or `stop`, for record 1 (`wait`)",
+    ),
     ("record word end1 end2\n", "record\n", ": line 1, column 1: expected `record word end1 end2`"),
     ("record word end1 end2\n", "", ": line 1, column 1: expected `record word end1 end2`"),
     ("\n0 0 ", "\n0 1 ", " (line 2 of the listing): the word is 1, expected 0"),
@@ -194,4 +199,22 @@ fn letters_of_a_fill_are_left_alone() {
     explain(&script, listing, &mut said).expect("a vector takes it");
     let said = String::from_utf8(said).expect("text");
     assert!(said.contains(&format!("fill memory at 65536 with {hex} \"{letters}\"")), "{said}");
+}
+
+#[test]
+fn digits_are_those_that_the_program_writes() {
+    let text = "create kind=0 capacity=8 rights1=7 rights2=7\nfill 65536 ab\n\
+        write 1 options=0 address=65536 count=1 count_at=0\nread 2 options=0 address=65536 count=8 count_at=0\n\
+        info 2";
+    let script = encode(text, Missing::Mistake).expect("a script");
+    let listing = |bytes: &str, info: &str| {
+        let lines =
+            "record word end1 end2\n0 0 00000002 00000002\n1 1 00000002 00000002\n2 1 00000002 00000003\n";
+        format!("{lines}3 1 00000002 00000002 {bytes}\n4 0 00000002 00000002 {info}\n")
+    };
+    assert!(mismatches(&script, &listing("ab", "0 8 0 0 8 0")).is_empty());
+    let told = mismatches(&script, &listing("AB", "0 8 0 0 8 0"));
+    assert!(told[0].contains("found `AB`, expected 1 bytes delivered, in hexadecimal"), "{told:?}");
+    let told = mismatches(&script, &listing("ab", "0 08 0 0 8 0"));
+    assert!(told[0].contains("found `08`, expected capacity, a decimal number"), "{told:?}");
 }
