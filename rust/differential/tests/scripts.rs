@@ -1,8 +1,10 @@
-//! The text form goes both ways, and scripts come out alike on every run.
+//! The text form goes both ways, listings fit their scripts, and scripts come out alike on every run.
 
+use differential::oracle::listing;
 use differential::source::Source;
 use differential::{generate, sample, stream};
 use script::text::{decode, encode, Missing};
+use script::trace::trace;
 
 #[test]
 fn text_and_bytes_of_random_scripts_agree() {
@@ -10,6 +12,16 @@ fn text_and_bytes_of_random_scripts_agree() {
         let script = generate::script(7, number);
         let text = decode(&script);
         assert_eq!(encode(&text, Missing::Mistake).unwrap(), script, "{text}");
+    }
+}
+
+/// What `script explain` computes of each line is what the original answers.
+#[test]
+fn listings_of_random_scripts_fit_them() {
+    for number in 0..5000 {
+        let script = generate::script(9, number);
+        let outcome = trace(&script, &listing(&script), &mut |step| assert_eq!(step.mismatches, [""; 0]));
+        assert_eq!(outcome.mismatches, [""; 0], "{}", decode(&script));
     }
 }
 
