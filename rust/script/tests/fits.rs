@@ -187,18 +187,23 @@ fn a_create_that_has_to_be_refused_is_told_and_what_follows_it_too() {
     assert_eq!(told.len(), 5, "{told:?}");
 }
 
-/// The letters of a fill are shown as they are, whatever they look like.
+/// `1 byte`, and the letters of a fill as they are, whatever they look like.
 #[test]
-fn letters_of_a_fill_are_left_alone() {
+fn one_byte_is_said_so_and_letters_are_left_alone() {
     let letters = "{address} 1 bytes";
     let hex: String = letters.bytes().map(|byte| format!("{byte:02x}")).collect();
-    let text = format!("create kind=0 capacity=1 rights1=0 rights2=0\nfill 65536 {hex}");
+    let write = "write end1 options=0 address=65536 count=1 count_at=0";
+    let text =
+        format!("create kind=0 capacity=1 rights1=0 rights2=0\nfill 65536 {hex}\nfill 65536 41\n{write}");
     let script = encode(&text, Missing::Mistake).expect("a script");
-    let listing = "record word end1 end2\n0 0 00000002 00000002\n1 17 00000002 00000002\n";
+    let listing =
+        "record word end1 end2\n0 0 00000002 00000002\n1 17 00000002 00000002\n2 1 00000002 00000002\n\
+        3 -30 00000002 00000002\n";
     let mut said = Vec::new();
     explain(&script, listing, &mut said).expect("a vector takes it");
     let said = String::from_utf8(said).expect("text");
     assert!(said.contains(&format!("fill memory at 65536 with {hex} \"{letters}\"")), "{said}");
+    assert!(said.contains("done: 1 byte put") && said.contains("write 1 byte of memory"), "{said}");
 }
 
 #[test]

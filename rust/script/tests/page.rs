@@ -75,15 +75,15 @@ fn changes_are_marked() {
 
 #[test]
 fn datagrams_are_drawn_one_by_one() {
-    let text = "create kind=datagram capacity=8 rights1=7 rights2=7\n\
-        write end1 options=0 address=65536 count=4 count_at=0\n\
-        write end1 options=0 address=65536 count=2 count_at=0";
-    let script = encode(text, Missing::Mistake).expect("a script");
-    let listing =
-        "record word end1 end2\n0 0 00000002 00000002\n1 4 00000002 00000003\n2 2 00000002 00000003\n";
-    let bar =
-        "<span class=\"queued\" style=\"width:50.00%\"></span><span class=\"added\" style=\"width:25.00%\">";
-    assert!(html("two", &script, listing).contains(bar));
+    let write = |count| format!("write end1 options=0 address=65536 count={count} count_at=0\n");
+    let create = "create kind=datagram capacity=8 rights1=7 rights2=7\n".to_string();
+    let text = [create, write(4), write(2), write(1)].concat();
+    let script = encode(&text, Missing::Mistake).expect("a script");
+    let listing = "record word end1 end2\n0 0 00000002 00000002\n1 4 00000002 00000003\n\
+        2 2 00000002 00000003\n3 1 00000002 00000003\n";
+    let part = |class, width| format!("<span class=\"{class}\" style=\"width:{width}%\"></span>");
+    let bar = part("queued", "50.00") + &part("queued", "25.00") + &part("added", "12.50");
+    assert!(html("three", &script, listing).contains(&bar));
 }
 
 #[test]

@@ -93,9 +93,11 @@ fn a_wrong_path_is_told_in_a_line() {
 
 #[test]
 fn output_that_fails_is_told_once() {
-    let (status, _, error) = told(script(&["page", "-o", "/dev/full", SCRIPT, LISTING], &[]));
-    assert_eq!((status, error.lines().count()), (1, 1), "{error}");
-    assert!(error.starts_with("script: cannot write /dev/full: "), "{error}");
+    for words in [&["page", "-o", "/dev/full", SCRIPT, LISTING][..], &["encode", TEXT, "-o", "/dev/full"]] {
+        let (status, _, error) = told(script(words, &[]));
+        assert_eq!((status, error.lines().count()), (1, 1), "{error}");
+        assert!(error.starts_with("script: cannot write /dev/full: "), "{error}");
+    }
 }
 
 #[test]
