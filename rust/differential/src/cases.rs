@@ -1,6 +1,6 @@
 //! The named scripts of cases.txt, with what document 01 says of their lines.
 
-use crate::text;
+use script::text::{encode, Missing};
 
 const TEXT: &str = include_str!("../cases.txt");
 
@@ -33,6 +33,6 @@ fn case(section: &str) -> Case {
             }
         }
     }
-    let script = text::encode(&script).unwrap_or_else(|what| panic!("case {name}: {what}"));
+    let script = encode(&script, Missing::Zero).unwrap_or_else(|what| panic!("case {name}: {what}"));
     Case { name: name.to_string(), script, lines }
 }

@@ -1,7 +1,7 @@
 //! How scripts end, and the names of the ways, so that a run can say which it
 //! covered.
 
-use crate::record::{Damage, Record, FILL};
+use script::record::{Damage, Stop, FILL};
 
 /// How a script ends.
 pub enum Ending {
@@ -12,26 +12,6 @@ pub enum Ending {
     Stopped(Stop),
 }
 
-/// Why a script stops.
-pub enum Stop {
-    /// There is no whole record.
-    Damaged(Damage),
-    /// A create behind the first record.
-    SecondCreate,
-    /// Another first record than a create.
-    NoCreate,
-}
-
-/// The first record of some bytes and its size, or why a script stops there.
-pub fn record_of(bytes: &[u8], created: bool) -> Result<(Record, usize), Stop> {
-    let (record, size) = Record::decode(bytes).map_err(Stop::Damaged)?;
-    match (matches!(record, Record::Create { .. }), created) {
-        (true, true) => Err(Stop::SecondCreate),
-        (false, false) => Err(Stop::NoCreate),
-        _ => Ok((record, size)),
-    }
-}
-
 impl Ending {
     pub fn name(&self) -> &'static str {
         match self {
@@ -39,23 +19,21 @@ impl Ending {
             Ending::Whole(_) => "script ends behind its last record",
             Ending::Refused(0) => "script ends at a refused create, its last record",
             Ending::Refused(_) => "script ends at a refused create, bytes behind it",
-            Ending::Stopped(stop) => stop.name(),
+            Ending::Stopped(stop) => stop_name(stop),
         }
     }
 }
 
-impl Stop {
-    fn name(&self) -> &'static str {
-        match self {
-            Stop::Damaged(Damage::Tag) => "stop at a tag of 12 or more",
-            Stop::Damaged(Damage::CutHead(2)) => "stop at a record cut inside its length",
-            Stop::Damaged(Damage::CutHead(_)) => "stop at a record cut after its tag",
-            Stop::Damaged(Damage::CutBody(0)) => "stop at a record cut before its body",
-            Stop::Damaged(Damage::CutBody(_)) => "stop at a record cut inside its body",
-            Stop::Damaged(Damage::Length { tag, length }) => wrong_length(*tag, *length),
-            Stop::SecondCreate => "stop at a second create",
-            Stop::NoCreate => "stop at a first record that is no create",
-        }
+fn stop_name(stop: &Stop) -> &'static str {
+    match stop {
+        Stop::Damaged(Damage::Tag(_)) => "stop at a tag of 12 or more",
+        Stop::Damaged(Damage::CutHead(2)) => "stop at a record cut inside its length",
+        Stop::Damaged(Damage::CutHead(_)) => "stop at a record cut after its tag",
+        Stop::Damaged(Damage::CutBody(0)) => "stop at a record cut before its body",
+        Stop::Damaged(Damage::CutBody(_)) => "stop at a record cut inside its body",
+        Stop::Damaged(Damage::Length { tag, length }) => wrong_length(*tag, *length),
+        Stop::SecondCreate => "stop at a second create",
+        Stop::NoCreate => "stop at a first record that is no create",
     }
 }
 

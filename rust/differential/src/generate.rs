@@ -5,7 +5,9 @@
 use crate::draw::{Draw, ALL};
 use crate::machine::{BASE, MEMORY, RING};
 use crate::random::Random;
-use crate::record::{script_of, Record, Transfer, CREATE, FILL, HEAD, MOST_FILL, SHAPES};
+use crate::record::{script_of, Record, Transfer};
+use script::record::{CREATE, FILL, HEAD, MOST_FILL};
+use script::table::SHAPES;
 
 const END: u64 = BASE + MEMORY as u64;
 

@@ -20,6 +20,5 @@ pub mod source;
 pub mod stream;
 pub mod tables;
 pub mod tally;
-pub mod text;
 pub mod values;
 pub mod waits;

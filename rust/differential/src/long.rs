@@ -2,8 +2,9 @@
 
 use crate::machine::BASE;
 use crate::random::Random;
-use crate::record::{join, pieces, script_of, Record, Transfer, HEAD, MOST_FILL};
-use crate::text;
+use crate::record::{script_of, Record, Transfer};
+use script::record::{join, pieces, HEAD, MOST_FILL};
+use script::text::{encode, Missing};
 
 /// What the script program reads at once.
 pub const BUFFER: usize = 131072;
@@ -19,7 +20,8 @@ const TAKES: usize = 10000;
 /// the bytes of a fill. The second begins with that fill and ends behind the tag
 /// of a write. The third begins with that write and has all the takes.
 pub fn script() -> Vec<u8> {
-    let worked = text::encode(include_str!("../../../examples/worked.txt")).expect("the text form");
+    let worked = include_str!("../../../examples/worked.txt");
+    let worked = encode(worked, Missing::Mistake).expect("the text form");
     let mut first = pieces(&worked);
     let last = first.split_off(6);
     let mut random = Random::new(1, 0);

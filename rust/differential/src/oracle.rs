@@ -1,13 +1,12 @@
 //! The script program over the original: a script in, its listing out.
 
-use crate::endings::{record_of, Ending};
+use crate::endings::Ending;
 use crate::machine::{Answer, Done, Machine};
 use crate::record::Record;
-use crate::text::hex;
+use script::listing::HEADER;
+use script::record::next_record;
+use script::text::hex;
 use std::fmt::Write;
-
-/// The first line of every listing.
-pub const HEADER: &str = "record word end1 end2";
 
 /// Sees each record, its answer, and the pair after it, and how the script ends.
 pub trait Observer {
@@ -38,8 +37,8 @@ pub fn observed_listing(script: &[u8], observer: &mut dyn Observer) -> String {
     let mut number = 0u64;
     let mut ending = None;
     while offset < script.len() && ending.is_none() {
-        let (record, size) = match record_of(&script[offset..], machine.is_some()) {
-            Ok(found) => found,
+        let (record, size) = match next_record(&script[offset..], machine.is_some()) {
+            Ok((record, size)) => (Record::from(record), size),
             Err(stop) => {
                 writeln!(text, "stop {offset}").unwrap();
                 ending = Some(Ending::Stopped(stop));

@@ -5,9 +5,11 @@ use crate::cases::cases;
 use crate::enumerate::{Sequences, Start};
 use crate::generate;
 use crate::oracle::listing;
-use crate::record::{script_of, Record, FILL, HEAD, MOST_FILL, SHAPES};
+use crate::record::{script_of, Record};
 use crate::stream;
 use crate::waits::PLACES;
+use script::record::{FILL, HEAD, MOST_FILL};
+use script::table::SHAPES;
 use std::collections::HashSet;
 
 /// A random script is stored if it and its listing are at most this long.
@@ -68,7 +70,7 @@ fn one_of_each() -> Vec<Record> {
     let mut records: Vec<Record> = (0..FILL)
         .map(|tag| {
             let values = vec![1; SHAPES[tag as usize].fields.len()];
-            Record::from_values(tag, &values, &[])
+            Record::from_values(tag, &values, Vec::new())
         })
         .collect();
     for number in [1, 2, MOST_FILL] {

@@ -1,7 +1,7 @@
 //! Cuts a script, or another list of calls, down while it still shows what it
 //! is kept for.
 
-use crate::record::{join, pieces, Piece, Record, SHAPES};
+use script::record::{join, pieces, Piece, Record};
 
 /// A small script for which `shows` still holds, from one for which it does.
 pub fn shrink(script: &[u8], mut shows: impl FnMut(&[u8]) -> bool) -> Vec<u8> {
@@ -75,19 +75,20 @@ fn simplify<T: Clone>(
 /// Records with one number, or the bytes, made smaller, smallest first.
 fn simpler(piece: &Piece) -> Vec<Piece> {
     let Piece::Record(record) = piece else { return Vec::new() };
-    let (tag, values, bytes) = record.values();
     let mut records = Vec::new();
-    for (place, (name, _)) in SHAPES[tag as usize].fields.iter().enumerate() {
-        let least = if *name == "handle" { 1 } else { 0 };
-        for value in smaller(values[place], least) {
-            let mut fewer = values.clone();
-            fewer[place] = value;
-            records.push(Piece::Record(Record::from_values(tag, &fewer, bytes)));
+    for (place, field) in record.shape().fields.iter().enumerate() {
+        let least = if field.name == "handle" { 1 } else { 0 };
+        for value in smaller(record.values[place], least) {
+            let mut fewer = record.clone();
+            fewer.values[place] = value;
+            records.push(Piece::Record(fewer));
         }
     }
+    let bytes = &record.bytes;
     for length in [1, bytes.len() / 2, bytes.len() - bytes.len().min(1)] {
         if (1..bytes.len()).contains(&length) {
-            records.push(Piece::Record(Record::from_values(tag, &values, &bytes[..length])));
+            let fewer = Record { bytes: bytes[..length].to_vec(), ..record.clone() };
+            records.push(Piece::Record(fewer));
         }
     }
     records

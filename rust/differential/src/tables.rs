@@ -1,8 +1,8 @@
 //! What a run covered, as docs/DIFFERENCES.md shows it.
 
 use crate::branches::BRANCHES;
-use crate::record::SHAPES;
 use crate::tally::{with_commas, Tally};
+use script::table::SHAPES;
 use std::collections::BTreeSet;
 use std::ops::Range;
 

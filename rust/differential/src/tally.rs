@@ -4,7 +4,8 @@ use crate::branches::{created, Step, View};
 use crate::endings::Ending;
 use crate::machine::{Answer, Machine};
 use crate::oracle::{observed_listing, word, Observer};
-use crate::record::{Record, SHAPES};
+use crate::record::Record;
+use script::table::SHAPES;
 use std::collections::{BTreeMap, BTreeSet};
 use std::fmt;
 

@@ -3,7 +3,7 @@
 use differential::compare::{compare, Program};
 use differential::oracle::listing;
 use differential::source::Source;
-use differential::text;
+use script::text::decode;
 
 fn random(count: u64) -> Source {
     Source::Random { seed: 5, count }
@@ -23,7 +23,7 @@ fn a_wrong_status_is_cut_to_two_records() {
     let wrong = |script: &[u8]| listing(script).replace(" -22 ", " -20 ").into_bytes();
     let (_, difference) = compare(&random(1000), &wrong, 1);
     let difference = difference.expect("the wrong status is found");
-    let lines = text::decode(&difference.script);
+    let lines = decode(&difference.script);
     assert_eq!(lines.lines().count(), 2, "{lines}");
     let (line, expected, found) = difference.line();
     assert_eq!(line, 2);
@@ -36,7 +36,7 @@ fn a_wrong_packet_is_cut_to_few_records() {
     let wrong =
         |script: &[u8]| listing(script).replace(" 00000010 00000012\n", " 00000010 00000042\n").into_bytes();
     let (_, difference) = compare(&random(4000), &wrong, 1);
-    let lines = text::decode(&difference.expect("the wrong packet is found").script);
+    let lines = decode(&difference.expect("the wrong packet is found").script);
     assert!(lines.lines().count() <= 4, "{lines}");
 }
 

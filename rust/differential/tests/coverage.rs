@@ -3,10 +3,10 @@
 
 use differential::branches::BRANCHES;
 use differential::compare::cover;
-use differential::record::SHAPES;
 use differential::sample;
 use differential::source::Source;
 use differential::tally::Tally;
+use script::table::SHAPES;
 use std::collections::BTreeSet;
 
 /// 0 stands for a call that is done.

@@ -7,7 +7,7 @@ use differential::compare::cover;
 use differential::oracle::listing;
 use differential::source::Source;
 use differential::tables::tables;
-use differential::text;
+use script::text::{decode, encode, Missing};
 
 const DIFFERENCES: &str = include_str!("../../../docs/DIFFERENCES.md");
 
@@ -20,7 +20,7 @@ fn scripts() -> Vec<(Vec<u8>, &'static str)> {
         let length = script.find("\n\n").expect("text behind a script");
         rest = &script[length..];
         let behind = &rest[..rest.find("    create ").unwrap_or(rest.len())];
-        scripts.push((text::encode(&script[..length]).expect("the text form"), behind));
+        scripts.push((encode(&script[..length], Missing::Zero).expect("the text form"), behind));
     }
     scripts
 }
@@ -32,7 +32,7 @@ fn scripts_have_the_lines_shown() {
     for (script, behind) in scripts {
         let listing = listing(&script);
         let last = listing.lines().last().expect("a listing");
-        assert!(behind.contains(&format!("`{last}`")), "{}{last}\n{behind}", text::decode(&script));
+        assert!(behind.contains(&format!("`{last}`")), "{}{last}\n{behind}", decode(&script));
     }
 }
 
@@ -44,7 +44,7 @@ fn scripts_are_stored() {
         cases.iter().any(|case| case.name.starts_with("difference ") && case.script.starts_with(script))
     };
     for (script, _) in scripts() {
-        assert!(stored(&script), "not among the cases:\n{}", text::decode(&script));
+        assert!(stored(&script), "not among the cases:\n{}", decode(&script));
     }
 }
 

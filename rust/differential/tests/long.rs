@@ -2,7 +2,8 @@
 
 use differential::long::{self, BUFFER};
 use differential::oracle::listing;
-use differential::record::{pieces, Piece, Record, HEAD};
+use differential::record::Record;
+use script::record::{pieces, Piece, HEAD};
 
 /// The record across a place of a script, and where it begins.
 fn across(script: &[u8], place: usize) -> (Record, usize) {
@@ -12,7 +13,7 @@ fn across(script: &[u8], place: usize) -> (Record, usize) {
         let mut bytes = Vec::new();
         record.encode(&mut bytes);
         if from + bytes.len() > place {
-            return (record, from);
+            return (Record::from(record), from);
         }
         from += bytes.len();
     }

@@ -1,33 +1,34 @@
-//! The text form goes both ways, and scripts come out alike on every run.
+//! The text form goes both ways, listings fit their scripts, and scripts come out alike on every run.
 
+use differential::oracle::listing;
 use differential::source::Source;
-use differential::{generate, sample, stream, text};
+use differential::{generate, sample, stream};
+use script::text::{decode, encode, Missing};
+use script::trace::trace;
 
 #[test]
 fn text_and_bytes_of_random_scripts_agree() {
     for number in 0..500 {
         let script = generate::script(7, number);
-        let text = text::decode(&script);
-        assert_eq!(text::encode(&text).unwrap(), script, "{text}");
+        let text = decode(&script);
+        assert_eq!(encode(&text, Missing::Mistake).unwrap(), script, "{text}");
+    }
+}
+
+/// What `script explain` computes of each line is what the original answers.
+#[test]
+fn listings_of_random_scripts_fit_them() {
+    for number in 0..5000 {
+        let script = generate::script(9, number);
+        let outcome = trace(&script, &listing(&script), &mut |step| assert_eq!(step.mismatches, [""; 0]));
+        assert_eq!(outcome.mismatches, [""; 0], "{}", decode(&script));
     }
 }
 
 #[test]
 fn text_and_bytes_of_stored_scripts_agree() {
     for (name, script) in sample::scripts() {
-        assert_eq!(text::encode(&text::decode(&script)).unwrap(), script, "{name}");
-    }
-}
-
-#[test]
-fn text_is_read_as_the_readme_says() {
-    let short = "take # comment\n\n  wait 2 mask=0x10 key=5\ntake\n2 * take\nraw 0c 00 00\n";
-    let whole = "take\nwait 2 key=5 mask=0x10 edge=0\n3 * take\nraw 0c0000\n";
-    assert_eq!(text::decode(&text::encode(short).unwrap()), whole);
-    for bad in
-        ["wait 2 edge=256", "push", "take 1", "fill 0", "write 1 size=3", "raw 0", "info x", "x * take"]
-    {
-        assert!(text::encode(bad).is_err(), "{bad}");
+        assert_eq!(encode(&decode(&script), Missing::Mistake).unwrap(), script, "{name}");
     }
 }
 

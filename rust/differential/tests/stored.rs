@@ -1,7 +1,8 @@
 //! The files of the repository that were written by the programs here are what
 //! they write now.
 
-use differential::{sample, stream, text};
+use differential::{sample, stream};
+use script::text::{encode, Missing};
 use std::collections::HashSet;
 
 /// For each script its name, the script and its listing.
@@ -9,7 +10,8 @@ const STORED: &[u8] = include_bytes!("../../../crates/replay/stdin");
 
 #[test]
 fn the_worked_example_is_its_text_encoded() {
-    let script = text::encode(include_str!("../../../examples/worked.txt")).expect("the text form");
+    let text = include_str!("../../../examples/worked.txt");
+    let script = encode(text, Missing::Mistake).expect("the text form");
     assert_eq!(script, include_bytes!("../../../examples/worked.script"));
 }
 

@@ -3,7 +3,7 @@
 
 use differential::compare::{compare, Difference, Program};
 use differential::source::{Source, USAGE};
-use differential::text;
+use script::text::decode;
 use std::process::ExitCode;
 use std::time::Instant;
 
@@ -59,7 +59,7 @@ fn run(mut words: Vec<String>) -> Result<ExitCode, String> {
 fn show(difference: &Difference) {
     let (line, expected, found) = difference.line();
     println!("script {} differs; cut down:", difference.number);
-    print!("{}", text::decode(&difference.script));
+    print!("{}", decode(&difference.script));
     println!("line {} of the listing:", line + 1);
     println!("oracle:  {expected}");
     println!("program: {found}");
