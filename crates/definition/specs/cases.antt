@@ -1,3 +1,10 @@
+-- Tables of cases, computed through the definitions:
+--   Lines          what a line of the listing shows of a call, and the lines of a run, computed
+--   Edges          01 "At the edges": P1 to P14. Scripts: how the calls and lines of a case are written
+--   Orders         orders of tests, rights, thresholds, info, memory at exit. Packets: waits and packets
+--   Damaged        01 "Status and answer word": damaged records. States: what the states of single calls are made of; EveryCall: every call
+--   Lends          01 "Status and answer word": short slices. FirstLengths: first lengths. LentCalls: the calls of both
+--   Creates        01 "Status and answer word": create's arguments
 pub mod Creates
 pub mod Damaged
 pub mod Edges

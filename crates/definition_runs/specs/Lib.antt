@@ -1,3 +1,10 @@
+-- What a run of calls is, and what is claimed of runs. 01 "Two runs", "Status and answer word".
+--   Run        a run of the code, by what each call ensures
+--   TwoRuns    the lines of origins, and any list of calls run twice
+--   Laws       a refused call changes nothing; memory at exit; no call of a run is INTERNAL
+--   Example    runs with two memories, computed through the claim
+--   Claims     all claims as one record; the crate claims has its proof
+--   Exported   the same for the calls that a kernel links; the crate host_claims has its proofs
 pub mod Run
 pub mod TwoRuns
 pub mod Laws

@@ -1,4 +1,5 @@
-// Records.
+// The records of a script: what bytes begin with, the fields of a write or a read, where a script stands. What a record does and what a line
+// shows is defined in specs/. There is no function here.
 use definition::Pair;
 
 // The body of a write or a read.
