@@ -1,5 +1,5 @@
 // Shutdown and close over both ends of a pair: each is tested, then changes the two ends, and the waits are visited later. Also one change of an
-// end's word, which disposition and the thresholds share (crates control_disposition and control_threshold). After `Socket` of ipc/socket.rs.
+// end's word, which disposition and the thresholds share (modules disposition and threshold). After `Socket` of ipc/socket.rs.
 
 mod change;
 mod close;

@@ -36,7 +36,7 @@ unfoldable pub countLanded : (base countAt n : ℕ) → (memory : List ℕ) → 
 countLanded base countAt n memory = pick (eqb countAt 0) memory (paste memory (countAt - base) (littleEndian 8 n) 8)
 
 -- 01 "Calls over user memory", write: the same for any count address. Where the count's range does not fit, memory stays as it is. The law
--- `count-put` of proofs/Landed: where it fits, this is `countLanded`.
+-- `count-put` of crates/user_answers/proofs/memory/Landed: where it fits, this is `countLanded`.
 unfoldable pub countPut : (base countAt n : ℕ) → (memory : List ℕ) → List ℕ
 countPut base countAt n memory = pick (countFits base (length memory) countAt) (countLanded base countAt n memory) memory
 

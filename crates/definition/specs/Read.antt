@@ -130,7 +130,7 @@ bytesLanded p h base address k ring memory =
     pick (eqb k 0) memory (paste memory (address - base) (front (p .capacity) (own (isOne h) (endsOf p) .queue .bytes .start) k ring) k)
 
 -- 01 "Calls over user memory", read: a read or peek, but for its count. ring and table are the reader's and stay as they are. The
--- law `count-after` of proofs/Calls: with the count after it, this is `UserRead`.
+-- law `count-after` of crates/syscall/proofs/Calls: with the count after it, this is `UserRead`.
 pub record BytesRead (p : Pair) (h base options address n countAt : ℕ) (ring table memory memory′ : List ℕ) (r : Step) : Type 0 where
   pub answer : r .answer ≡ userReadAnswer (endsOf p) (lentOf (p .datagram) (own (isOne h) (endsOf p) .queue) ring table) h base (length memory) options address n countAt
   pub pair : r .pair ≡ pairRead p h (isPeek options) (firstLength (p .datagram) (own (isOne h) (endsOf p) .queue) table) (countOf (r .answer))

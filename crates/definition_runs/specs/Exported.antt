@@ -227,7 +227,7 @@ arraysAfter (c ∷ cs) [] outs = []
 arraysAfter (c ∷ cs) (r ∷ rs) [] = []
 arraysAfter (c ∷ cs) (r ∷ rs) (out ∷ outs) = arrayAfter c r out ∷ arraysAfter cs rs outs
 
--- what the calls give, from the outcomes of a run of the crate runs
+-- what the calls give, from the outcomes of a run by value
 pub record Gives (xs : List Passed) (ys : List Returned) (os : List Outcome) : Type 0 where
   pub words : wordsOf ys ≡ map answerWord (answers os)
   pub pairs : pairsOf ys ≡ map (λ (o : Outcome). o .seen .pair) os
@@ -235,7 +235,7 @@ pub record Gives (xs : List Passed) (ys : List Returned) (os : List Outcome) : T
   pub memories : memoriesOf ys ≡ map (λ (o : Outcome). o .memory) os
   pub arrays : arraysOf ys ≡ arraysAfter (calls (inputs xs)) (answers os) (arraysIn xs)
 
--- a run of the crate runs with the same last state; its outcomes have each end's slices after each call
+-- a `Run` with the same last state; its outcomes have each end's slices after each call
 pub record RunOf (c : Create) (one two : Slices) (xs : List Passed) (p : Pair) (ys : List Returned) (s : State) : Type 0 where
   pub outcomes : List Outcome
   pub run : Run c one two (inputs xs) (seenOf (createdBy c one two) p) outcomes s
@@ -250,7 +250,7 @@ RunsAreRuns =
 
 -- ---- each exported call is a step of a run, and a done create starts one
 
--- An exported call is a step of the crate runs, with an outcome whose answer has the word returned. The pair, the bytes and the memory are those of the
+-- An exported call is a step of `Does`, with an outcome whose answer has the word returned. The pair, the bytes and the memory are those of the
 -- outcome, and the array has the numbers of the answer's record.
 pub record IsStep (s : State) (x : Passed) (s′ : State) (y : Returned) : Type 0 where
   pub outcome : Outcome
@@ -273,7 +273,7 @@ pub record ExportedUnchanged (s : State) (x : Passed) (s′ : State) (y : Return
 abbrev pub ExportedRefusedChangesNothing : Type 0
 ExportedRefusedChangesNothing = (s : State) (x : Passed) (s′ : State) (y : Returned) → Exported s x s′ y → isCount (y .word) ≡ false → ExportedUnchanged s x s′ y
 
--- A done create starts a run of the crate runs with the pair at exit. A refused one leaves the record as it was, while a run of the crate runs has the record of
+-- A done create starts a `Run` with the pair at exit. A refused one leaves the record as it was, while a `Run` has the record of
 -- capacity 0 there, on which every call is −1; so a run of exported calls starts with a done create.
 pub record Created (p : Pair) (c : Create) (one two : Slices) (p′ : Pair) (w : ℤ) : Type 0 where
   pub word : w ≡ answerWord (createdBy c one two)
@@ -371,7 +371,7 @@ pub record ExportedClaims : Type 0 where
   pub refused : ExportedRefusedChangesNothing
   -- a done create starts a run, and a refused one changes nothing
   pub create : CreateStarts
-  -- a run of exported calls is a run of the crate runs
+  -- a run of exported calls is a `Run`
   pub runs : RunsAreRuns
   -- every list of exported calls has a run
   pub exist : ExportedRunsExist

@@ -131,7 +131,7 @@ plainStep z p tag b =
 
 -- ---- the calls over memory
 
--- the list with xs in writtenAt of what stood at the writtenAt
+-- the list with xs in place of what stood at the place
 unfoldable pub writtenAt : (at : ℕ) → (xs l : List ℕ) → List ℕ
 writtenAt at xs l = take at l ++ (xs ++ drop (at + length xs) l)
 

@@ -1,4 +1,4 @@
--- The contracts of the exported calls, as the checker reads them from crates/host/src, are the propositions of specs/Contracts: what a call
+-- The contracts of the exported calls, as the checker reads them from crates/host/src, are the promises that `Exported` cites: what a call
 -- ensures, at any arguments, any values at exit and any word returned, is the premise of its case of `Exported`. Assumes nothing.
 use Prim.Native.Nat.{ℕ}
 use mathlib.Core.Path.{_≡_, refl}

@@ -1,4 +1,4 @@
--- A run of exported calls is a run of the crate runs. Assumes nothing.
+-- A run of exported calls is a `Run`. Assumes nothing.
 use Prim.Native.Nat.{ℕ}
 use mathlib.Core.Path.{_≡_, refl, sym, ap, ap₂, _∙_}
 use mathlib.Core.Bool.{Bool, true}

@@ -1,4 +1,4 @@
--- Each exported call is a step of the crate runs, and a refused one changes nothing. Assumes nothing.
+-- Each exported call is a step of `Does`, and a refused one changes nothing. Assumes nothing.
 use Prim.Native.Nat.{ℕ, _-_}
 use mathlib.Core.Path.{_≡_, refl, sym, ap, _∙_}
 use mathlib.Core.Bool.{false}

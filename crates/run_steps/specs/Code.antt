@@ -1,5 +1,5 @@
 -- What the functions of src/ ensure: what a call of the code gives is a step of `Does`, on every state that has its pair and the slices
--- that it is lent. The rest of the state is any. That `Does` has no other step for it is `CallsMatch`, in the crate runs. 01 "Two runs".
+-- that it is lent. The rest of the state is any. That `Does` has no other step for it is `CallsMatch`, in the crate definition_runs. 01 "Two runs".
 use Prim.Native.Nat.{ℕ, _-_}
 use mathlib.Core.List.{List, []}
 use mathlib.Core.Path.{_≡_}

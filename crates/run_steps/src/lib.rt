@@ -161,7 +161,7 @@ pub fn plain_read(
 }
 
 // The plain disposition by value takes an enum, so that no number above 2 can be passed. A run has such a call too: `murgwethan_set_disposition` of the
-// crate host makes it, and the crate host_runs shows that it is a step of `Does`.
+// crate host makes it, and the crate host_claims shows that it is a step of `Does`.
 pub fn plain_disposition(
     p: Pair,
     handle: u32,

@@ -29,7 +29,7 @@ need r p l = by (r .fires) (onlyWait (p .places)) (anyDue r (p .places)) refl
     by true false true e = refl
     by true false false e = sym (sym (each-all r p) ∙ ap (λ (t : Places). withPlaces t p) (none-due r (p .places) l e))
 
--- the pair of a settledStep call
+-- the pair of a settled call
 pub settled-need : (r : Outcome) (p : Pair) → length (p .places .table) ≡ 128
     → pick (needsVisit r (withOutcome r p .places)) (visitedAll r (withOutcome r p)) (withOutcome r p) ≡ settledStep r p .pair
 unfolding settledStep withEnds

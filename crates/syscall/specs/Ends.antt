@@ -1,4 +1,4 @@
--- The calls over user memory by the two ends of a pair: no answer looks at the table of places. 01 "Calls over user memory".
+-- How the code goes: the calls over user memory by the two ends of a pair; no answer looks at the table of places.
 use Prim.Native.Nat.{ℕ, _-_}
 use mathlib.Core.List.{[], List}
 use mathlib.Core.Path.{_≡_}

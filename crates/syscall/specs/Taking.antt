@@ -1,4 +1,4 @@
--- Write over user memory. 01 "Calls over user memory", write.
+-- How the code goes: the bytes that a write over user memory takes.
 use Prim.Native.Nat.{ℕ, _+_, _-_, _≤_}
 use mathlib.Core.Path.{_≡_}
 use Rattle.definition.specs.declared.Answer.{Answer}

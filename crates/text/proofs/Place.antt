@@ -1,4 +1,4 @@
--- Laws of text put into a list at a writtenAt, and of writers called one after the other. Assumes nothing.
+-- Laws of text put into a list at a place, and of writers called one after the other. Assumes nothing.
 use Prim.Native.Nat.{ℕ, suc, _+_, _-_, _≤_, _<_}
 use native.Mathlib.Omega.{arith}
 use mathlib.Core.Path.{_≡_, refl, sym, ap, _∙_, subst}
@@ -79,7 +79,7 @@ room j k at r xs l l′ p h =
     let s : length l′ ≡ length l = ap length (p .out) ∙ place-length at xs l (omega (arith, p .next, p .fits)) in
     omega (arith, p .most, s)
 
--- one writer, then another at the writtenAt that the first gave
+-- one writer, then another at the place that the first gave
 pub seq : {j k at r r′ : ℕ} {xs ys l l′ l″ : List ℕ} → Fit j at xs r l l′ → Fit k r ys r′ l′ l″ → Fit (j + k) at (xs ++ ys) r′ l l″
 seq {j} {k} {at} {r} {r′} {xs} {ys} {l} {l′} {l″} p q =
     record {
@@ -121,7 +121,7 @@ room-short len at k h = record { yes = λ e. absurd (never e); no = λ e. omega 
 pub room-test : (len at k : ℕ) → k ≤ len → Room len at k (leb at (len - k))
 room-test len at k h = record { yes = λ e. omega (arith, leb-true at (len - k) e); no = λ e. omega (arith, leb-false at (len - k) e) }
 
--- the text stands in the list up to the writtenAt behind it
+-- the text stands in the list up to the place behind it
 pub place-front : (at : ℕ) (xs l : List ℕ) → at ≤ length l → take (at + length xs) (writtenAt at xs l) ≡ take at l ++ xs
 unfolding writtenAt
 place-front at xs l h =

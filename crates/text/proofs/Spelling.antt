@@ -14,7 +14,7 @@ use Rattle.definition_script.specs.Call.{writtenAt}
 use Rattle.definition_script.specs.Line.{digitOf, digitsOf, widthBy, widthOf, hexBytesOf}
 use Rattle.text.proofs.Place.{place-none, place-cons, place-snoc}
 
--- what the loop still does to a list, with i digits of n left to be put from a writtenAt on
+-- what the loop still does to a list, with i digits of n left to be put from a place on
 pub back : (base at i n : ℕ) → List ℕ → List ℕ
 back base at zero n l = l
 back base at (suc i) n l = back base at i (n / base) (set l (at + i) (digitOf (n % base)))

@@ -6,7 +6,7 @@ use mathlib.Core.Bool.{Bool, true, false}
 use lib.ListN.{length}
 use Rattle.definition_script.specs.Call.{writtenAt}
 
--- xs, at most k bytes, was put into l at a place: r is the writtenAt behind it, and l′ the list after
+-- xs, at most k bytes, was put into l at a place: r is the place behind it, and l′ the list after
 pub record Put (k at : ℕ) (xs : List ℕ) (r : ℕ) (l l′ : List ℕ) : Type 0 where
   pub next : r ≡ at + length xs
   pub most : r ≤ at + k

@@ -1,4 +1,4 @@
-// What a write and a read over both ends of a pair change; the crates transfer_write and transfer_read compute it.
+// What a write and a read over both ends of a pair change; the modules write and read compute it.
 // After `Socket::write` and `Socket::read` of ipc/socket.rs.
 use definition::Answer;
 use definition::Queue;

@@ -1,4 +1,4 @@
--- Disposition. 01 "Delivered bytes", disposition.
+-- How the code goes: a disposition over the two ends, and the changes of their words in their order. What it does is in crates/definition/specs/Disposition.
 use Prim.Native.Nat.{ℕ}
 use mathlib.Core.Bool.{Bool, not, true, false}
 use Rattle.endpoint.specs.declared.ends.Pending.{Pending}

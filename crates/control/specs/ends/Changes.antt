@@ -1,4 +1,4 @@
--- One change of an end's word, and a call that changes both ends or none. 01 "Signal word and packets".
+-- How the code goes: one change of an end's word, and a call that changes both ends or none.
 use Prim.Native.Nat.{ℕ}
 use mathlib.Core.Bool.{Bool, not}
 use Rattle.endpoint.specs.declared.ends.Pending.{Pending}

@@ -1,4 +1,4 @@
--- Close. 01 "Delivered bytes", close.
+-- How the code goes: a close over the two ends. What it does is in crates/definition/specs/Close.
 use Prim.Native.Nat.{ℕ}
 use mathlib.Core.Bool.{Bool, not}
 use lib.Dec.{eqb}

@@ -1,4 +1,4 @@
--- Shutdown. 01 "Delivered bytes", shutdown.
+-- How the code goes: a shutdown over the two ends. What it does is in crates/definition/specs/Shutdown.
 use Prim.Native.Nat.{ℕ}
 use mathlib.Core.Bool.{Bool, true, not}
 use lib.Bits.{bitOr}

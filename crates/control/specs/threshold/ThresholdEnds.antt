@@ -1,4 +1,4 @@
--- The thresholds. 01 "Delivered bytes", thresholds.
+-- How the code goes: setting a threshold over the two ends. What it does is in crates/definition/specs/Threshold.
 use Prim.Native.Nat.{ℕ, _-_}
 use mathlib.Core.Bool.{Bool}
 use Rattle.definition.specs.declared.Endpoint.{Endpoint}

@@ -1,5 +1,4 @@
--- What a call leaves of the two ends, the changes of their words, and whether a wait can fire. 01 "Signal word and packets": a change of a word visits the end's waits.
--- The visit itself is in the crate visits.
+-- How the code goes: what a call leaves of the two ends, the changes of their words, and whether a wait can fire.
 use Prim.Native.Nat.{ℕ}
 use mathlib.Core.Bool.{true, Bool, false, not}
 use lib.Dec.{eqb}

@@ -1,4 +1,4 @@
--- What a write and a read change, put into the pair: the pair of the settledStep call, where no wait can fire. Assumes nothing.
+-- What a write and a read change, put into the pair: the pair of the settled call, where no wait can fire. Assumes nothing.
 use Prim.Native.Nat.{ℕ}
 use mathlib.Core.Path.{_≡_, refl, sym, ap, _∙_}
 use mathlib.Core.Bool.{Bool, true, false, not}
@@ -43,7 +43,7 @@ none-visited : (w : ℕ) (v : Visits) → canFire w v ≡ false → anyFires w v
 unfolding anyFires _or_
 none-visited w v e = rw e (none-fires w)
 
--- the pair of a settledStep call of end t that can fire no wait
+-- the pair of a settled call of end t that can fire no wait
 settled-no-visit : (w : ℕ) (t : Bool) (x : Transfer) (d : Moved) (p : Pair) → canFire w (d .visits) ≡ false
     → withMoved t d p ≡ settledStep (outcomeOf w t (x .answer) d noVisits) p .pair
 unfolding settledStep outcomeOf withMoved

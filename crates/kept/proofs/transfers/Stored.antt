@@ -28,7 +28,7 @@ pub read-unvisited : (h : ℕ) (t : Transfer) (p q : Pair) (n : Bool) → n ≡ 
     → q ≡ transferredPair (isOne h) (isOne h) t p → q ≡ settledStep (readBy (endsOf p) h t) p .pair
 read-unvisited h t p q n e u f = no-visit-read h t p q (holds n (readWithoutVisit h t p) e u) f
 
--- the outcome was settledStep
+-- the outcome was settled
 pub passed-on : (r s : Outcome) (p q : Pair) → s ≡ r → q ≡ settledStep s p .pair → q ≡ settledStep r p .pair
 passed-on r s p q e f = f ∙ ap (λ (k : Outcome). settledStep k p .pair) e
 

@@ -1,4 +1,4 @@
--- One line of the listing. 01 "Script program", line. 32 is a space, 10 a newline.
+-- What the function says that puts a line. The line is defined in crates/definition_script/specs/Line.
 use Prim.Native.Nat.{ℕ, _≤_, _<_}
 use mathlib.Core.Path.{_≡_}
 use mathlib.Core.List.{List}

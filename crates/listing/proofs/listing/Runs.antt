@@ -49,7 +49,7 @@ ready : (input memory : ℕ) → input ≤ LIMIT → memory ≤ 4096 → isReady
 unfolding isReady startState _and_
 ready input memory hi hm = simp (le-leb input 4611686018427387904 hi, le-leb memory 4096 hm)
 
--- a list, when its part from a writtenAt on is back
+-- a list, when its part from a place on is back
 abbrev pub behind : (at : ℕ) → (l part : List ℕ) → List ℕ
 behind at l part = putMid at (length l - at) l part
 
@@ -120,7 +120,7 @@ put-if {k} {r} {xs} {l} {l′} w =
     let p = w .kept (omega (arith, leb-false k (length l) e)) in rw e (p .0, p .1 ∙ sym (place-none 0 l)))
     (either (leb k (length l)))
 
--- a text that was put at the front of a part was put at the part's writtenAt
+-- a text that was put at the front of a part was put at the part's place
 part-put : (at : ℕ) (xs l : List ℕ) → at ≤ length l → behind at l (writtenAt 0 xs (midOf at (length l - at) l)) ≡ writtenAt at xs l
 unfolding writtenAt
 part-put at xs l h =

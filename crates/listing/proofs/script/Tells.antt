@@ -113,7 +113,7 @@ passes offset room m s =
 
 -- ---- a block that was done
 
--- its text is what stands before the writtenAt that was given back
+-- its text is what stands before the place that was given back
 pub shown : {b : Block} {memory′ : List ℕ} {z′ : Rings} {out out′ : List ℕ} {r : Fed} → BlockDone b memory′ z′ out out′ r → take (r .written) out′ ≡ b .text
 shown {b} {memory′} {z′} {out} {out′} {r} d =
     ap (λ (x : List ℕ). take (r .written) x) (d .text)

@@ -1,5 +1,4 @@
--- The table of 128 places: its packets, its waits and its unused places; a wait and its packet. 01 "Signal word and packets".
--- An end is named by a Bool, true for end 1 and false for end 2; a place holds the end's number.
+-- How the code goes: tables of which no place is used, or one alone.
 use mathlib.Core.Bool.{Bool}
 use lib.Dec.{eqb}
 use Rattle.definition.specs.declared.Places.{Places}

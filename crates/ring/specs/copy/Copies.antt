@@ -1,5 +1,4 @@
--- A ring of capacity C is the first C entries of a lent slice. A queue in it starts at a place and continues at the ring's start where it
--- runs past the ring's end. Queued bytes and a table's lengths lie so alike. 01 "Delivered bytes".
+-- How the code goes: the copies into a ring and out of it, total, so that they demand nothing. What lies in a ring is in crates/definition/specs/Ring.
 use Prim.Native.Nat.{ℕ}
 use mathlib.Core.Bool.{Bool}
 use mathlib.Core.List.{List}

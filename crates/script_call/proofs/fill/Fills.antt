@@ -18,7 +18,7 @@ use Rattle.definition_script.specs.Call.{writtenAt, BASE, fillAnswer, filled}
 use Rattle.definition_script.specs.Record.{eight, isBody}
 use Rattle.script_call.specs.fill.FillMade.{FillMade}
 
--- the part of a list from a writtenAt to its end
+-- the part of a list from a place to its end
 pub part-all : (from : ℕ) (l : List ℕ) → from ≤ length l → take (length l - from) (drop from l) ≡ drop from l
 part-all from l h = take-all (length l - from) (drop from l) (simp length-drop (omega arith))
 

@@ -1,4 +1,4 @@
--- Read and peek. 01 "Delivered bytes", read.
+-- How the code goes: a read over the two ends, but for the visit of the waits. What it does is in crates/definition/specs/Read.
 use Prim.Native.Nat.{ℕ, _-_, _≤_, _<_}
 use mathlib.Core.Bool.{Bool, not, true}
 use mathlib.Core.Path.{_≡_}

@@ -1,4 +1,4 @@
--- Write. 01 "Delivered bytes", write.
+-- How the code goes: a write over the two ends, but for the visit of the waits. What it does is in crates/definition/specs/Write.
 use Prim.Native.Nat.{ℕ, _+_, _-_, _≤_, _<_}
 use mathlib.Core.Bool.{Bool, not, true}
 use mathlib.Core.Path.{_≡_}
