@@ -21,7 +21,7 @@ unfoldable pub unlessClosed : Bool → ℕ → ℕ
 unlessClosed closed n = pick closed 0 n
 
 -- options, C, queued, available (the first datagram's length, on a stream all that is queued), then the peer's C and queued bytes, both 0
--- if it is closed
+-- if it is closed. `first` is the first queued length, 0 where none is queued (`firstLength` of Tests)
 unfoldable pub infoOf : (datagram : Bool) → (C : ℕ) → (own peer : Endpoint) → (first : ℕ) → SocketInfo
 infoOf datagram C own peer first =
     record {

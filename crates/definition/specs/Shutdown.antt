@@ -34,11 +34,11 @@ shut t read write p =
 
 -- 01 "Calls over user memory", shutdown: bit 0x1 of the options is write; bits other than 0x1 and 0x2 are ignored
 abbrev pub shutsWrite : (options : ℕ) → Bool
-shutsWrite options = meets options 1
+shutsWrite options = meets options 0x1
 
 -- 01 "Calls over user memory", shutdown: bit 0x2 of the options is read
 abbrev pub shutsRead : (options : ℕ) → Bool
-shutsRead options = meets options 2
+shutsRead options = meets options 0x2
 
 -- 01 "Calls over user memory", shutdown: the lookup with write; any options are taken
 unfoldable pub userShutdownAnswer : Ends → (h : ℕ) → Answer

@@ -7,25 +7,25 @@ use Rattle.definition.specs.Status.{pick, _and_}
 
 -- the signals' bits, those of the public header
 abbrev pub READABLE : ℕ
-READABLE = 1
+READABLE = 0x1
 
 abbrev pub WRITABLE : ℕ
-WRITABLE = 2
+WRITABLE = 0x2
 
 abbrev pub «PEER_CLOSED» : ℕ
-«PEER_CLOSED» = 4
+«PEER_CLOSED» = 0x4
 
 abbrev pub «PEER_WRITE_DISABLED» : ℕ
-«PEER_WRITE_DISABLED» = 16
+«PEER_WRITE_DISABLED» = 0x10
 
 abbrev pub «WRITE_DISABLED» : ℕ
-«WRITE_DISABLED» = 32
+«WRITE_DISABLED» = 0x20
 
 abbrev pub «READ_THRESHOLD» : ℕ
-«READ_THRESHOLD» = 1024
+«READ_THRESHOLD» = 0x400
 
 abbrev pub «WRITE_THRESHOLD» : ℕ
-«WRITE_THRESHOLD» = 2048
+«WRITE_THRESHOLD» = 0x800
 
 -- 01 "Signal word and packets": a change clears bits of the 32-bit word, then sets bits
 unfoldable pub changedWord : ℕ → ℕ → ℕ → ℕ
