@@ -2,10 +2,10 @@
 use Prim.Native.Nat.{ℕ, _<_}
 use mathlib.Core.Path.{_≡_, refl, _∙_}
 use mathlib.Core.Bool.{Bool, true, false, not}
+use mathlib.Core.List.{List, [], _∷_}
 use lib.Dec.{eqb}
 use Rattle.definition.specs.Status.{pick}
 use Rattle.definition.specs.declared.Places.{Places}
-use Rattle.definition.specs.Signal.{«PEER_WRITE_DISABLED»}
 use Rattle.definition.specs.Port.{used, sound, done, droppedOf, waited, took}
 use Rattle.port.proofs.packets.Operations.{take-done}
 use Rattle.port.proofs.waits.Operations.{register-done, drop-done}
@@ -14,14 +14,14 @@ use Rattle.definition.specs.declared.Endpoint.{Endpoint}
 use Rattle.definition.specs.declared.Disposition.{Disposition}
 use Rattle.definition.specs.declared.Disposition.the-variants.{Unchanged, Disable, Enable}
 use Rattle.definition.specs.Pair.{withQueue, withSignals, withReadDisabled, withThresholds, own, peer, withEnd, withPlaces, endsOf}
-use Rattle.definition.specs.Close.{closedEnd, closed}
-use Rattle.definition.specs.Read.{drainedQueue, consumed}
-use Rattle.definition.specs.Write.{fedQueue, wrote}
+use Rattle.definition.specs.Close.{closedEnd, closeEffect, closed}
+use Rattle.definition.specs.Read.{drainedQueue, readEffect, consumed}
+use Rattle.definition.specs.Write.{fedQueue, writeEffect, wrote}
 use Rattle.definition.specs.declared.Pair.{Pair}
-use Rattle.definition.specs.Effect.{withChange, signalChange, putBit, switchReading}
-use Rattle.definition.specs.Threshold.{readThresholdSet, writeThresholdSet}
-use Rattle.definition.specs.Disposition.{switchWriting, disposeOwn, disposePeer, disposedOwn, disposedPeer, disposed}
-use Rattle.definition.specs.Shutdown.{shutEnd, shut}
+use Rattle.definition.specs.Effect.{WordChange, noChange, ownWord, peerWord, Effect, keepingWaits, withChange, signalChange, changed, changedByAll, prepared, applied}
+use Rattle.definition.specs.Threshold.{readThresholdEffect, writeThresholdEffect, readThresholdSet, writeThresholdSet}
+use Rattle.definition.specs.Disposition.{reading, disposeEffect, disposed}
+use Rattle.definition.specs.Shutdown.{shutReading, shutEffect, shut}
 
 pub record Kept (p p′ : Pair) : Type 0 where
   pub datagram : p′ .datagram ≡ p .datagram
@@ -43,12 +43,7 @@ kept-then a b =
       places = λ e. b .places (a .places e);
     }
 
-pub kept-pick : (b : Bool) {p q r : Pair} → Kept p q → Kept p r → Kept p (pick b q r)
-unfolding pick
-kept-pick true x y = x
-kept-pick false x y = y
-
--- ---- parts of calls
+-- ---- any effect
 
 signal-kept : (t : Bool) (clear set : ℕ) (p : Pair) → Kept p (signalChange t clear set p)
 unfolding signalChange withChange withPlaces withEnd withSignals
@@ -57,73 +52,70 @@ signal-kept true clear set p =
 signal-kept false clear set p =
     record { datagram = refl; capacity = refl; one = refl; two = refl; places = λ e. sound-change (p .places) e false (p .two .signals) clear set }
 
--- an end with its queue put back
-end-kept : (t : Bool) (e : Endpoint) (p : Pair) → e .queue ≡ own t (endsOf p) .queue → Kept p (withEnd t e p)
-unfolding withEnd
-end-kept true e p k = record { datagram = refl; capacity = refl; one = k; two = refl; places = λ s. s }
-end-kept false e p k = record { datagram = refl; capacity = refl; one = refl; two = k; places = λ s. s }
+change-kept : (t : Bool) (c : WordChange) (p : Pair) → Kept p (changed t c p)
+unfolding changed
+change-kept t noChange p = kept p
+change-kept t (ownWord clear set) p = signal-kept t clear set p
+change-kept t (peerWord clear set) p = signal-kept (not t) clear set p
 
-reading-kept : (t off : Bool) (p : Pair) → Kept p (switchReading t off p)
-unfolding switchReading withReadDisabled
-reading-kept t off p = end-kept t (withReadDisabled off (own t (endsOf p))) p refl
+changes-kept : (t : Bool) (cs : List WordChange) (p : Pair) → Kept p (changedByAll t cs p)
+unfolding changedByAll
+changes-kept t [] p = kept p
+changes-kept t (c ∷ cs) p = kept-then (change-kept t c p) (changes-kept t cs (changed t c p))
 
-bit-kept : (t b : Bool) (bit : ℕ) (p : Pair) → Kept p (putBit t b bit p)
-unfolding putBit
-bit-kept t b bit p = signal-kept t _ _ p
+-- the ends of an effect, which drops no wait
+ends-kept : (t : Bool) (e : Effect) (p : Pair) → e .own .queue ≡ own t (endsOf p) .queue → e .peer .queue ≡ peer t (endsOf p) .queue → e .drops ≡ false
+    → Kept p (prepared t e p)
+unfolding prepared withEnd withPlaces pick
+ends-kept true e p a b d = record { datagram = refl; capacity = refl; one = a; two = b; places = λ s. rw d s }
+ends-kept false e p a b d = record { datagram = refl; capacity = refl; one = b; two = a; places = λ s. rw d s }
+
+effect-kept : (t : Bool) (e : Effect) (p : Pair) → e .own .queue ≡ own t (endsOf p) .queue → e .peer .queue ≡ peer t (endsOf p) .queue → e .drops ≡ false
+    → Kept p (applied t e p)
+unfolding applied
+effect-kept t e p a b d = kept-then (ends-kept t e p a b d) (changes-kept t (e .changes) (prepared t e p))
 
 -- ---- thresholds
 
 pub read-threshold-kept : (t : Bool) (n : ℕ) (p : Pair) → Kept p (readThresholdSet t n p)
-unfolding readThresholdSet withThresholds
-read-threshold-kept t n p = kept-then (end-kept t _ p refl) (bit-kept t _ _ _)
+unfolding readThresholdSet readThresholdEffect keepingWaits withThresholds
+read-threshold-kept t n p = effect-kept t _ p refl refl refl
 
 pub write-threshold-kept : (t : Bool) (n : ℕ) (p : Pair) → Kept p (writeThresholdSet t n p)
-unfolding writeThresholdSet withThresholds
-write-threshold-kept t n p = kept-then (end-kept t _ p refl) (bit-kept t _ _ _)
+unfolding writeThresholdSet writeThresholdEffect keepingWaits withThresholds
+write-threshold-kept t n p = effect-kept t _ p refl refl refl
 
 -- ---- disposition and shutdown
 
-writing-kept : (t off : Bool) (p : Pair) → Kept p (switchWriting t off p)
-unfolding switchWriting
-writing-kept t off p = signal-kept t _ _ p
+reading-queue : (d : Disposition) (e : Endpoint) → reading d e .queue ≡ e .queue
+unfolding reading withReadDisabled
+reading-queue Unchanged e = refl
+reading-queue Disable e = refl
+reading-queue Enable e = refl
 
-own-kept : (t off : Bool) (p : Pair) → Kept p (disposeOwn t off p)
-unfolding disposeOwn
-own-kept t off p =
-    kept-pick (peer t (endsOf p) .closed) (writing-kept t off p)
-    (kept-then (kept-then (writing-kept t off p) (reading-kept (not t) off _)) (bit-kept (not t) off «PEER_WRITE_DISABLED» _))
+shut-queue : (b : Bool) (e : Endpoint) → shutReading b e .queue ≡ e .queue
+unfolding shutReading withReadDisabled pick
+shut-queue true e = refl
+shut-queue false e = refl
 
-peer-kept : (t off : Bool) (p : Pair) → Kept p (disposePeer t off p)
-unfolding disposePeer
-peer-kept t off p =
-    kept-pick (peer t (endsOf p) .closed) (reading-kept t off p)
-    (kept-then (kept-then (reading-kept t off p) (writing-kept (not t) off _)) (bit-kept t off «PEER_WRITE_DISABLED» _))
-
-own-disposed : (t : Bool) (d : Disposition) (p : Pair) → Kept p (disposedOwn t d p)
-unfolding disposedOwn
-own-disposed t Unchanged p = kept p
-own-disposed t Disable p = own-kept t true p
-own-disposed t Enable p = own-kept t false p
-
-peer-disposed : (t : Bool) (d : Disposition) (p : Pair) → Kept p (disposedPeer t d p)
-unfolding disposedPeer
-peer-disposed t Unchanged p = kept p
-peer-disposed t Disable p = peer-kept t true p
-peer-disposed t Enable p = peer-kept t false p
+-- whichever of two ends is chosen
+either-queue : (c : Bool) (e f : Endpoint) → f .queue ≡ e .queue → pick c e f .queue ≡ e .queue
+unfolding pick
+either-queue true e f k = refl
+either-queue false e f k = k
 
 pub disposed-kept : (t : Bool) (a b : Disposition) (p : Pair) → Kept p (disposed t a b p)
-unfolding disposed
-disposed-kept t a b p = kept-then (own-disposed t a p) (peer-disposed t b (disposedOwn t a p))
-
-end-shut : (t reading writing : Bool) (p : Pair) → Kept p (shutEnd t reading writing p)
-unfolding shutEnd
-end-shut t reading writing p = kept-then (kept-pick reading (reading-kept t true p) (kept p)) (signal-kept t _ _ _)
+unfolding disposed disposeEffect keepingWaits
+disposed-kept t a b p =
+    let q = peer t (endsOf p) in
+    effect-kept t (disposeEffect (own t (endsOf p)) q a b) p (reading-queue b (own t (endsOf p))) (either-queue (q .closed) q (reading a q) (reading-queue a q)) refl
 
 pub shut-kept : (t reading writing : Bool) (p : Pair) → Kept p (shut t reading writing p)
-unfolding shut
+unfolding shut shutEffect keepingWaits
 shut-kept t reading writing p =
-    kept-pick (peer t (endsOf p) .closed) (end-shut t reading writing p)
-    (kept-then (end-shut t reading writing p) (end-shut (not t) (not reading) (not writing) _))
+    let q = peer t (endsOf p) in
+    effect-kept t (shutEffect (own t (endsOf p)) q reading writing) p (shut-queue reading (own t (endsOf p)))
+    (either-queue (q .closed) q (shutReading (not reading) q) (shut-queue (not reading) q)) refl
 
 -- ---- waits
 
@@ -143,25 +135,21 @@ took-kept p any = places-kept _ p (λ s. rw (take-done (p .places) s any) at (so
 -- ---- what follows where bytes go in, where they leave, and where an end closes
 
 pub wrote-kept : (t : Bool) (m : ℕ) (p : Pair) → Kept (withEnd (not t) (withQueue (fedQueue (p .datagram) m (peer t (endsOf p) .queue)) (peer t (endsOf p))) p) (wrote t m p)
-unfolding wrote
-wrote-kept t m p = kept-then (signal-kept (not t) _ _ _) (signal-kept t _ _ _)
+unfolding wrote writeEffect keepingWaits applied prepared withEnd withPlaces pick
+wrote-kept true m p = changes-kept true _ _
+wrote-kept false m p = changes-kept false _ _
 
 pub consumed-kept : (t : Bool) (n : ℕ) (p : Pair)
     → Kept (withEnd t (withQueue (drainedQueue (p .datagram) (p .capacity) n (own t (endsOf p) .queue)) (own t (endsOf p))) p) (consumed t n p)
-unfolding consumed
-consumed-kept t n p = kept-pick (peer t (endsOf p) .closed) (signal-kept t _ _ _) (kept-then (signal-kept t _ _ _) (signal-kept (not t) _ _ _))
+unfolding consumed readEffect keepingWaits applied prepared withEnd withPlaces pick
+consumed-kept true n p = changes-kept true _ _
+consumed-kept false n p = changes-kept false _ _
 
 dropped-kept : (t : Bool) (ts : Places) (p : Pair) → p .places ≡ ts → Kept p (withPlaces (droppedOf t ts) p)
 unfolding done
 dropped-kept t ts p e = places-kept _ p (λ s. let k : sound ts ≡ true = rw (← e) s in rw (drop-done t ts k) at (sound-drop ts k t))
 
-same-places : (t : Bool) (e : Endpoint) (p : Pair) → withEnd t e p .places ≡ p .places
-unfolding withEnd
-same-places true e p = refl
-same-places false e p = refl
-
 pub closed-kept : (t : Bool) (p : Pair) → Kept (withEnd t (closedEnd (own t (endsOf p))) p) (closed t p)
-unfolding closed
-closed-kept t p =
-    let a = dropped-kept t (p .places) (withEnd t (closedEnd (own t (endsOf p))) p) (same-places t (closedEnd (own t (endsOf p))) p) in
-    kept-pick (peer t (endsOf p) .closed) a (kept-then a (signal-kept (not t) _ _ _))
+unfolding closed closeEffect applied prepared withEnd withPlaces pick
+closed-kept true p = kept-then (dropped-kept true (p .places) (withEnd true (closedEnd (p .one)) p) refl) (changes-kept true _ _)
+closed-kept false p = kept-then (dropped-kept false (p .places) (withEnd false (closedEnd (p .two)) p) refl) (changes-kept false _ _)

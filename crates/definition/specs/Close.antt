@@ -1,15 +1,14 @@
 -- Close. 01 "Delivered bytes", close.
 use Prim.Native.Nat.{ℕ}
-use mathlib.Core.Bool.{true, Bool, not}
+use mathlib.Core.Bool.{true, Bool}
+use mathlib.Core.List.{[], _∷_}
 use Rattle.definition.specs.declared.Endpoint.{Endpoint}
 use Rattle.definition.specs.declared.Answer.{Answer}
 use Rattle.definition.specs.declared.Pair.{Pair}
-use Rattle.definition.specs.Pair.{noQueue, endsOf, own, peer, withEnd, withPlaces, isOne}
+use Rattle.definition.specs.Pair.{noQueue, endsOf, own, peer, isOne}
 use Rattle.definition.specs.Tests.{openingTest, Steps}
-use Rattle.definition.specs.Status.{pick}
 use Rattle.definition.specs.Signal.{WRITABLE, «PEER_CLOSED»}
-use Rattle.definition.specs.Port.{droppedOf}
-use Rattle.definition.specs.Effect.{signalChange}
+use Rattle.definition.specs.Effect.{peerWord, ifOpen, Effect, applied}
 use Rattle.definition.specs.declared.Step.{Step}
 
 -- 01 "Delivered bytes", close: the queue is emptied and both its starts are 0; the rest of the record stays
@@ -21,12 +20,13 @@ closedEnd e =
 unfoldable pub closeAnswer : Pair → (h : ℕ) → Answer
 closeAnswer p h = openingTest (endsOf p) h
 
--- 01 "Delivered bytes", close: queue and waits of the end are removed, its packets kept; one change at a peer that is open clears WRITABLE and
--- sets PEER_CLOSED
+-- 01 "Delivered bytes", close: queue and waits of the end vanish, its packets stay; an open peer loses WRITABLE and gains PEER_CLOSED
+unfoldable pub closeEffect : (own peer : Endpoint) → Effect
+closeEffect own peer = record { own = closedEnd own; peer = peer; drops = true; changes = ifOpen peer (peerWord WRITABLE «PEER_CLOSED») ∷ [] }
+
+-- the pair after the close of end t
 unfoldable pub closed : Bool → Pair → Pair
-closed t p =
-    let p₁ = withPlaces (droppedOf t (p .places)) (withEnd t (closedEnd (own t (endsOf p))) p) in
-    pick (peer t (endsOf p) .closed) p₁ (signalChange (not t) WRITABLE «PEER_CLOSED» p₁)
+closed t p = applied t (closeEffect (own t (endsOf p)) (peer t (endsOf p))) p
 
 -- ---- the call
 

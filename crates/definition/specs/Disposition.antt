@@ -1,6 +1,7 @@
 -- Disposition. 01 "Delivered bytes", disposition; 01 "Calls over user memory", disposition.
 use Prim.Native.Nat.{ℕ}
-use mathlib.Core.Bool.{Bool, true, false, not}
+use mathlib.Core.Bool.{Bool, true, false}
+use mathlib.Core.List.{[], _∷_}
 use lib.Dec.{ltb, eqb}
 use Rattle.definition.specs.declared.Disposition.{Disposition}
 use Rattle.definition.specs.declared.Disposition.the-variants.{Unchanged, Disable, Enable}
@@ -11,9 +12,9 @@ use Rattle.definition.specs.declared.Ends.{Ends}
 use Rattle.definition.specs.declared.Pair.{Pair}
 use Rattle.definition.specs.Status.{_and_, pick, refuseIf, _then_}
 use Rattle.definition.specs.Signal.{«PEER_WRITE_DISABLED», meets, WRITABLE, «WRITE_DISABLED»}
-use Rattle.definition.specs.Pair.{isOne, own, peer, endsOf}
+use Rattle.definition.specs.Pair.{isOne, own, peer, endsOf, withReadDisabled}
 use Rattle.definition.specs.Tests.{openingTest, soundTest, Steps}
-use Rattle.definition.specs.Effect.{signalChange, putBit, switchReading}
+use Rattle.definition.specs.Effect.{WordChange, noChange, ownWord, peerWord, ifOpen, Effect, keepingWaits, applied}
 use Rattle.definition.specs.Memory.{RIGHT-MANAGE, lookup}
 use Rattle.definition.specs.declared.Step.{Step}
 
@@ -49,39 +50,41 @@ disposeChecks own peer a b =
 unfoldable pub disposeAnswer : Ends → (h : ℕ) → (disposition peerDisposition : Disposition) → Answer
 disposeAnswer e h a b = openingTest e h then disposeChecks (own (isOne h) e) (peer (isOne h) e) a b
 
--- ---- the next pair
+-- ---- the effect and the next pair
 
--- the writing of end t: disabled, it loses WRITABLE and gains WRITE_DISABLED; enabled, the reverse
-unfoldable pub switchWriting : Bool → (off : Bool) → Pair → Pair
-switchWriting t off p = signalChange t (pick off WRITABLE «WRITE_DISABLED») (pick off «WRITE_DISABLED» WRITABLE) p
+-- the writing of an end: disabled, it loses WRITABLE and gains WRITE_DISABLED; enabled, the reverse
+unfoldable pub writing : (ofEnd : (clear set : ℕ) → WordChange) → Disposition → WordChange
+writing ofEnd Unchanged = noChange
+writing ofEnd Disable = ofEnd WRITABLE «WRITE_DISABLED»
+writing ofEnd Enable = ofEnd «WRITE_DISABLED» WRITABLE
 
--- own: the writing of this end; an open peer's reading flag and PEER_WRITE_DISABLED follow
-unfoldable pub disposeOwn : Bool → (off : Bool) → Pair → Pair
-disposeOwn t off p =
-    let p₁ = switchWriting t off p in
-    pick (peer t (endsOf p) .closed) p₁ (putBit (not t) off «PEER_WRITE_DISABLED» (switchReading (not t) off p₁))
+-- PEER_WRITE_DISABLED of the other end is set or cleared
+unfoldable pub peerWriting : (ofEnd : (clear set : ℕ) → WordChange) → Disposition → WordChange
+peerWriting ofEnd Unchanged = noChange
+peerWriting ofEnd Disable = ofEnd 0 «PEER_WRITE_DISABLED»
+peerWriting ofEnd Enable = ofEnd «PEER_WRITE_DISABLED» 0
 
--- peer: the reading flag of this end, also with a closed peer; with an open peer the peer's writing, then this end's PEER_WRITE_DISABLED
-unfoldable pub disposePeer : Bool → (off : Bool) → Pair → Pair
-disposePeer t off p =
-    let p₁ = switchReading t off p in
-    pick (peer t (endsOf p) .closed) p₁ (putBit t off «PEER_WRITE_DISABLED» (switchWriting (not t) off p₁))
+-- and its reading flag follows
+unfoldable pub reading : Disposition → Endpoint → Endpoint
+reading Unchanged e = e
+reading Disable e = withReadDisabled true e
+reading Enable e = withReadDisabled false e
 
--- what a disposition does to this end
-unfoldable pub disposedOwn : Bool → Disposition → Pair → Pair
-disposedOwn t Unchanged p = p
-disposedOwn t Disable p = disposeOwn t true p
-disposedOwn t Enable p = disposeOwn t false p
+-- 01 "Delivered bytes", disposition, a for own, then b for peer. Own: this end's writing; an open peer's reading flag follows, and its
+-- PEER_WRITE_DISABLED. Peer: this end's reading flag follows, also with a closed peer; only with an open one the peer's writing changes, then this
+-- end's PEER_WRITE_DISABLED.
+unfoldable pub disposeEffect : (own peer : Endpoint) → (disposition peerDisposition : Disposition) → Effect
+disposeEffect own peer a b =
+    keepingWaits (reading b own) (pick (peer .closed) peer (reading a peer))
+    (writing ownWord a
+    ∷ ifOpen peer (peerWriting peerWord a)
+    ∷ ifOpen peer (writing peerWord b)
+    ∷ ifOpen peer (peerWriting ownWord b)
+    ∷ [])
 
--- what a disposition does to the peer
-unfoldable pub disposedPeer : Bool → Disposition → Pair → Pair
-disposedPeer t Unchanged p = p
-disposedPeer t Disable p = disposePeer t true p
-disposedPeer t Enable p = disposePeer t false p
-
--- own first, then peer
+-- the pair after a disposition by end t
 unfoldable pub disposed : Bool → (disposition peerDisposition : Disposition) → Pair → Pair
-disposed t a b p = disposedPeer t b (disposedOwn t a p)
+disposed t a b p = applied t (disposeEffect (own t (endsOf p)) (peer t (endsOf p)) a b) p
 
 -- ---- by numbers
 

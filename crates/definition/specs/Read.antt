@@ -1,7 +1,7 @@
--- Read and peek: their size, their answer, the next pair, the buffer, and over user memory. 01 "Delivered bytes", read; 01 "Calls over user memory", read.
+-- Read and peek: their size, their answer, their effect and the next pair, the buffer, and over user memory. 01 "Delivered bytes", read; 01 "Calls over user memory", read.
 use Prim.Native.Nat.{ℕ, min, _-_}
-use mathlib.Core.Bool.{Bool, not}
-use mathlib.Core.List.{List}
+use mathlib.Core.Bool.{Bool}
+use mathlib.Core.List.{List, [], _∷_}
 use mathlib.Core.Path.{_≡_}
 use lib.Dec.{eqb}
 use lib.Bits.{bitOr}
@@ -17,11 +17,11 @@ use Rattle.definition.specs.declared.Queue.{Queue}
 use Rattle.definition.specs.declared.Pair.{Pair}
 use Rattle.definition.specs.declared.Step.{Step}
 use Rattle.definition.specs.Status.{refuseIf, _then_, pick, _or_, countOf, refuseUnless, isDone}
-use Rattle.definition.specs.Pair.{isOne, own, peer, withQueue, withEnd, endsOf}
+use Rattle.definition.specs.Pair.{isOne, own, peer, withQueue, endsOf}
 use Rattle.definition.specs.Tests.{soundTest, Lent, slicesTest, handleTest, firstLength, lentOf}
 use Rattle.definition.specs.Ring.{place, front}
 use Rattle.definition.specs.Signal.{READABLE, «READ_THRESHOLD», missed, bitIf, WRITABLE, «WRITE_THRESHOLD», reached}
-use Rattle.definition.specs.Effect.{signalChange}
+use Rattle.definition.specs.Effect.{ownWord, peerWord, ifOpen, Effect, keepingWaits, applied}
 use Rattle.definition.specs.Memory.{fits, countFits, isNull, RIGHT-READ, lookup, countLanded}
 
 -- ---- the size
@@ -50,7 +50,7 @@ readAnswer e z h n =
     then handleTest e h
     then readSize (e .datagram) (own (isOne h) e) (peer (isOne h) e) (z .first) n
 
--- ---- the next pair
+-- ---- the effect and the next pair
 
 -- the bytes that leave the queue where k are delivered: on datagram pairs the whole first datagram, its tail with it
 unfoldable pub leaving : Bool → (first k : ℕ) → ℕ
@@ -77,15 +77,18 @@ unfoldable pub gainedByWriter : Endpoint → (space : ℕ) → (wasFull : Bool) 
 gainedByWriter peer space wasFull =
     bitOr (bitIf (reached (peer .thresholds .write) space) «WRITE_THRESHOLD») (bitIf wasFull WRITABLE)
 
--- the pair after n bytes, more than 0, left the queue of end t: the queue, then the reader's change, then an open peer's
+-- 01 "Delivered bytes", read, after consuming: the n bytes, more than 0, are gone from the reader's queue; the reader loses, then an open peer gains
+unfoldable pub readEffect : (datagram : Bool) → (C : ℕ) → (own peer : Endpoint) → (n : ℕ) → Effect
+readEffect datagram C own peer n =
+    let queued = own .queue .bytes .count - n in
+    keepingWaits (withQueue (drainedQueue datagram C n (own .queue)) own) peer
+    (ownWord (lostByReader own queued) 0
+    ∷ ifOpen peer (peerWord 0 (gainedByWriter peer (C - queued) (eqb (own .queue .bytes .count) C)))
+    ∷ [])
+
+-- the pair after n bytes, more than 0, left the queue of end t
 unfoldable pub consumed : Bool → (n : ℕ) → Pair → Pair
-consumed t n p =
-    let p₁ = withEnd t (withQueue (drainedQueue (p .datagram) (p .capacity) n (own t (endsOf p) .queue)) (own t (endsOf p))) p in
-    let p₂ = signalChange t (lostByReader (own t (endsOf p)) (own t (endsOf p) .queue .bytes .count - n)) 0 p₁ in
-    pick (peer t (endsOf p) .closed) p₂
-    (signalChange (not t) 0
-    (gainedByWriter (peer t (endsOf p)) (p .capacity - (own t (endsOf p) .queue .bytes .count - n)) (eqb (own t (endsOf p) .queue .bytes .count) (p .capacity)))
-    p₂)
+consumed t n p = applied t (readEffect (p .datagram) (p .capacity) (own t (endsOf p)) (peer t (endsOf p)) n) p
 
 -- the next pair, by the count of the answer: a peek, or a read that delivered nothing, changes nothing
 unfoldable pub pairRead : Pair → (h : ℕ) → (peek : Bool) → (first k : ℕ) → Pair

@@ -1,15 +1,17 @@
 -- Shutdown. 01 "Delivered bytes", shutdown; 01 "Calls over user memory", shutdown.
 use Prim.Native.Nat.{ℕ}
 use mathlib.Core.Bool.{Bool, true, not}
+use mathlib.Core.List.{[], _∷_}
 use lib.Bits.{bitOr}
 use Rattle.definition.specs.declared.Answer.{Answer}
+use Rattle.definition.specs.declared.Endpoint.{Endpoint}
 use Rattle.definition.specs.declared.Pair.{Pair}
 use Rattle.definition.specs.declared.Ends.{Ends}
 use Rattle.definition.specs.Tests.{openingTest, soundTest, Steps}
-use Rattle.definition.specs.Pair.{endsOf, peer, isOne}
+use Rattle.definition.specs.Pair.{endsOf, peer, isOne, own, withReadDisabled}
 use Rattle.definition.specs.Status.{pick, _then_}
 use Rattle.definition.specs.Signal.{WRITABLE, «WRITE_DISABLED», «PEER_WRITE_DISABLED», bitIf, meets}
-use Rattle.definition.specs.Effect.{signalChange, switchReading}
+use Rattle.definition.specs.Effect.{WordChange, ownWord, peerWord, ifOpen, Effect, keepingWaits, applied}
 use Rattle.definition.specs.Memory.{RIGHT-WRITE, lookup}
 use Rattle.definition.specs.declared.Step.{Step}
 
@@ -17,18 +19,23 @@ use Rattle.definition.specs.declared.Step.{Step}
 unfoldable pub shutdownAnswer : Pair → (h : ℕ) → Answer
 shutdownAnswer p h = openingTest (endsOf p) h
 
--- one end: with the flag read its reading is disabled and it gains PEER_WRITE_DISABLED, with the flag write it loses WRITABLE and gains
--- WRITE_DISABLED; one change
-unfoldable pub shutEnd : Bool → (read write : Bool) → Pair → Pair
-shutEnd t read write p =
-    signalChange t (bitIf write WRITABLE) (bitOr (bitIf read «PEER_WRITE_DISABLED») (bitIf write «WRITE_DISABLED»))
-    (pick read (switchReading t true p) p)
+-- with the flag read an end gains PEER_WRITE_DISABLED, with the flag write it loses WRITABLE and gains WRITE_DISABLED; one change
+unfoldable pub shutting : (ofEnd : (clear set : ℕ) → WordChange) → (read write : Bool) → WordChange
+shutting ofEnd read write = ofEnd (bitIf write WRITABLE) (bitOr (bitIf read «PEER_WRITE_DISABLED») (bitIf write «WRITE_DISABLED»))
 
--- after the caller, a peer that is open is shut by the opposite of each flag
+-- with the flag read its reading is disabled
+unfoldable pub shutReading : (read : Bool) → Endpoint → Endpoint
+shutReading read e = pick read (withReadDisabled true e) e
+
+-- 01 "Delivered bytes", shutdown: the caller's end by the flags, then an open peer by both flags negated
+unfoldable pub shutEffect : (own peer : Endpoint) → (read write : Bool) → Effect
+shutEffect own peer read write =
+    keepingWaits (shutReading read own) (pick (peer .closed) peer (shutReading (not read) peer))
+    (shutting ownWord read write ∷ ifOpen peer (shutting peerWord (not read) (not write)) ∷ [])
+
+-- the pair after a shutdown by end t
 unfoldable pub shut : Bool → (read write : Bool) → Pair → Pair
-shut t read write p =
-    let p₁ = shutEnd t read write p in
-    pick (peer t (endsOf p) .closed) p₁ (shutEnd (not t) (not read) (not write) p₁)
+shut t read write p = applied t (shutEffect (own t (endsOf p)) (peer t (endsOf p)) read write) p
 
 -- ---- over user memory
 

@@ -1,18 +1,20 @@
 -- The thresholds: set and asked. 01 "Delivered bytes", thresholds.
 use Prim.Native.Nat.{ℕ, _-_}
 use mathlib.Core.Bool.{Bool}
+use mathlib.Core.List.{[], _∷_}
 use lib.Dec.{ltb}
 use Rattle.definition.specs.declared.Status.the-variants.{InvalidArgs, PeerClosed}
 use Rattle.definition.specs.declared.Answer.{Answer}
+use Rattle.definition.specs.declared.Endpoint.{Endpoint}
 use Rattle.definition.specs.declared.Ends.{Ends}
 use Rattle.definition.specs.declared.Record.the-variants.{Limits}
 use Rattle.definition.specs.declared.Answer.the-variants.{Done}
 use Rattle.definition.specs.declared.Pair.{Pair}
 use Rattle.definition.specs.Status.{refuseIf, _then_}
 use Rattle.definition.specs.Tests.{openingTest, Steps}
-use Rattle.definition.specs.Pair.{isOne, peer, own, withThresholds, withEnd, endsOf}
+use Rattle.definition.specs.Pair.{isOne, peer, own, withThresholds, endsOf}
 use Rattle.definition.specs.Signal.{«READ_THRESHOLD», reached, «WRITE_THRESHOLD»}
-use Rattle.definition.specs.Effect.{putBit}
+use Rattle.definition.specs.Effect.{ownBit, Effect, keepingWaits, applied}
 use Rattle.definition.specs.declared.Step.{Step}
 
 -- ---- the answers
@@ -32,19 +34,27 @@ writeThresholdAnswer e h n =
 unfoldable pub thresholdsAnswer : Ends → (h : ℕ) → Answer
 thresholdsAnswer e h = openingTest e h then Done (Limits (own (isOne h) e .thresholds))
 
--- ---- the next pair
+-- ---- the effects and the next pairs
 
--- the bit is set if the threshold is above 0 and the queued bytes reach it, else cleared
+-- 01 "Delivered bytes", thresholds: the bit is set if the threshold is above 0 and the queued bytes reach it, else cleared
+unfoldable pub readThresholdEffect : (own peer : Endpoint) → (n : ℕ) → Effect
+readThresholdEffect own peer n =
+    keepingWaits (withThresholds (record { read = n; write = own .thresholds .write }) own) peer
+    (ownBit (reached n (own .queue .bytes .count)) «READ_THRESHOLD» ∷ [])
+
+-- 01 "Delivered bytes", thresholds: the bit is set if the threshold is above 0 and fits the space of the peer's queue, else cleared
+unfoldable pub writeThresholdEffect : (C : ℕ) → (own peer : Endpoint) → (n : ℕ) → Effect
+writeThresholdEffect C own peer n =
+    keepingWaits (withThresholds (record { read = own .thresholds .read; write = n }) own) peer
+    (ownBit (reached n (C - peer .queue .bytes .count)) «WRITE_THRESHOLD» ∷ [])
+
+-- the pair with another read threshold of end t
 unfoldable pub readThresholdSet : Bool → (n : ℕ) → Pair → Pair
-readThresholdSet t n p =
-    putBit t (reached n (own t (endsOf p) .queue .bytes .count)) «READ_THRESHOLD»
-    (withEnd t (withThresholds (record { read = n; write = own t (endsOf p) .thresholds .write }) (own t (endsOf p))) p)
+readThresholdSet t n p = applied t (readThresholdEffect (own t (endsOf p)) (peer t (endsOf p)) n) p
 
--- the bit is set if the threshold is above 0 and fits the space of the peer's queue, else cleared
+-- the pair with another write threshold of end t
 unfoldable pub writeThresholdSet : Bool → (n : ℕ) → Pair → Pair
-writeThresholdSet t n p =
-    putBit t (reached n (p .capacity - peer t (endsOf p) .queue .bytes .count)) «WRITE_THRESHOLD»
-    (withEnd t (withThresholds (record { read = own t (endsOf p) .thresholds .read; write = n }) (own t (endsOf p))) p)
+writeThresholdSet t n p = applied t (writeThresholdEffect (p .capacity) (own t (endsOf p)) (peer t (endsOf p)) n) p
 
 -- ---- the calls
 

@@ -1,7 +1,7 @@
--- Write: its size, its answer, the next pair, the ring, the table, and over user memory. 01 "Delivered bytes", write; 01 "Calls over user memory", write.
+-- Write: its size, its answer, its effect and the next pair, the ring, the table, and over user memory. 01 "Delivered bytes", write; 01 "Calls over user memory", write.
 use Prim.Native.Nat.{ℕ, _-_, min, _+_}
-use mathlib.Core.Bool.{Bool, not}
-use mathlib.Core.List.{List}
+use mathlib.Core.Bool.{Bool}
+use mathlib.Core.List.{List, [], _∷_}
 use mathlib.Core.Path.{_≡_}
 use lib.Dec.{ltb, eqb, leb}
 use lib.Bits.{bitOr}
@@ -17,9 +17,9 @@ use Rattle.definition.specs.declared.Pair.{Pair}
 use Rattle.definition.specs.declared.Step.{Step}
 use Rattle.definition.specs.Status.{refuseIf, _then_, pick, countOf, refuseUnless, isDone}
 use Rattle.definition.specs.Signal.{«WRITE_DISABLED», meets, READABLE, «READ_THRESHOLD», reached, bitIf, WRITABLE, «WRITE_THRESHOLD», missed}
-use Rattle.definition.specs.Pair.{isOne, own, peer, withQueue, withEnd, endsOf}
+use Rattle.definition.specs.Pair.{isOne, own, peer, withQueue, endsOf}
 use Rattle.definition.specs.Tests.{soundTest, Lent, slicesTest, handleTest, lentOf}
-use Rattle.definition.specs.Effect.{signalChange}
+use Rattle.definition.specs.Effect.{ownWord, peerWord, Effect, keepingWaits, applied}
 use Rattle.definition.specs.Ring.{place, put}
 use Rattle.definition.specs.Memory.{fits, countFits, isNull, RIGHT-WRITE, lookup, countLanded}
 
@@ -49,7 +49,7 @@ writeAnswer e z h n =
     then handleTest e h
     then writeSize (e .datagram) (e .capacity) (own (isOne h) e) (peer (isOne h) e) n
 
--- ---- the next pair
+-- ---- the effect and the next pair
 
 -- the queue that m bytes went into, on datagram pairs as one more length
 unfoldable pub fedQueue : Bool → (m : ℕ) → Queue → Queue
@@ -68,12 +68,16 @@ gainedByPeer peer q =
 unfoldable pub lostByWriter : Endpoint → (space : ℕ) → ℕ
 lostByWriter own space = bitOr (bitIf (eqb space 0) WRITABLE) (bitIf (missed (own .thresholds .write) space) «WRITE_THRESHOLD»)
 
--- the pair after m bytes, more than 0, went in from end t: the queue, then the peer's change, then the writer's
+-- 01 "Delivered bytes", write, if bytes went in: the m bytes, more than 0, are in the peer's queue; the peer gains, then the writer loses
+unfoldable pub writeEffect : (datagram : Bool) → (C : ℕ) → (own peer : Endpoint) → (m : ℕ) → Effect
+writeEffect datagram C own peer m =
+    let queued = peer .queue .bytes .count + m in
+    keepingWaits own (withQueue (fedQueue datagram m (peer .queue)) peer)
+    (peerWord 0 (gainedByPeer peer queued) ∷ ownWord (lostByWriter own (C - queued)) 0 ∷ [])
+
+-- the pair after m bytes, more than 0, went in from end t
 unfoldable pub wrote : Bool → (m : ℕ) → Pair → Pair
-wrote t m p =
-    signalChange t (lostByWriter (own t (endsOf p)) (p .capacity - (peer t (endsOf p) .queue .bytes .count + m))) 0
-    (signalChange (not t) 0 (gainedByPeer (peer t (endsOf p)) (peer t (endsOf p) .queue .bytes .count + m))
-    (withEnd (not t) (withQueue (fedQueue (p .datagram) m (peer t (endsOf p) .queue)) (peer t (endsOf p))) p))
+wrote t m p = applied t (writeEffect (p .datagram) (p .capacity) (own t (endsOf p)) (peer t (endsOf p)) m) p
 
 -- the next pair, by the count of the answer: a write that took nothing changes nothing
 unfoldable pub pairWritten : Pair → (h m : ℕ) → Pair

@@ -11,30 +11,30 @@ use Rattle.definition.specs.Status.{pick, isDone}
 use Rattle.endpoint.proofs.answer.Rules.{pick-on, pick-off}
 use Rattle.definition.specs.declared.Places.{Places}
 use Rattle.definition.specs.declared.Next.{Next}
-use Rattle.definition.specs.Signal.{WRITABLE, «PEER_CLOSED»}
 use Rattle.definition.specs.Port.{sound, done, droppedOf, dropOf}
 use Rattle.port.proofs.places.Lists.{either}
 use Rattle.port.proofs.waits.Operations.{drop-done}
 use Rattle.port.proofs.waits.Idle.{idle-drop}
 use Rattle.port.proofs.waits.Sound.{sound-drop}
-use Rattle.definition.specs.Pair.{withSignals, isOne, own, peer, endsOf, withEnd, withPlaces}
-use Rattle.definition.specs.Close.{closedEnd, closeAnswer, closed}
+use Rattle.definition.specs.Pair.{isOne, own, peer, endsOf, withPlaces}
+use Rattle.definition.specs.Close.{closeAnswer, closeEffect, closed}
 use Rattle.definition.specs.declared.Ends.{Ends}
 use Rattle.endpoint.specs.declared.ends.Moved.{Moved}
 use Rattle.endpoint.specs.declared.ends.Pending.{Pending}
 use Rattle.endpoint.specs.declared.ends.Visits.{Visits}
 use Rattle.endpoint.specs.declared.ends.Outcome.{Outcome}
 use Rattle.endpoint.specs.ends.Outcome.{noVisit, noVisits, outcomeOf, keptEnds, unchangedEnds}
+use Rattle.endpoint.specs.ends.AtOnce.{visitsOf, firstTwo, movedBy}
 use Rattle.answers.proofs.tests.Sound.{opening-passed}
-use Rattle.control.specs.ends.Changes.{changedEnd, firstOnly}
-use Rattle.control.specs.ends.CloseEnds.{closeVisit, closeMoved, closeOutcome, closeEnds}
+use Rattle.control.specs.ends.Changes.{firstOnly}
+use Rattle.control.specs.ends.CloseEnds.{closeMoved, closeOutcome, closeEnds}
 use Rattle.port.specs.visits.Visits.{visited}
 use Rattle.port.proofs.visits.Visiting.{visited-none, visited-idle}
 use Rattle.definition.specs.declared.Pair.{Pair}
-use Rattle.definition.specs.Effect.{signalChange}
 use Rattle.definition.specs.Tests.{Steps}
-use Rattle.socket.specs.Deferred.{visitedPair, visitedAll, withEnds, withOutcome, settledStep, withoutWaits, closedWaits, settledClose}
-use Rattle.socket.proofs.Visiting.{no-visits, signal-visited, settled-pair}
+use Rattle.socket.specs.Deferred.{visitedBy, visitedPair, visitedAll, withEnds, withOutcome, settledStep, withoutWaits, closedWaits, settledClose}
+use Rattle.socket.proofs.Visiting.{placed, at-once, no-visits, settled-pair}
+use Rattle.socket.proofs.Effects.{close-by}
 use Rattle.socket.proofs.Steps.{steps-refused, steps-done}
 
 -- the waits of end t dropped, then those of its peer visited
@@ -67,23 +67,13 @@ dropped t p s = ap (λ (n : Next). n .places) (drop-done t (p .places) s)
 abbrev closedPair : Bool → Moved → Pair → Pair
 closedPair t m p = droppedVisited t (m .visits) (withEnds (pick t (m .own) (m .peer)) (pick t (m .peer) (m .own)) p)
 
-by-closed : (c t : Bool) (m n : Moved) (p q r : Pair) → closedPair t m p ≡ q → closedPair t n p ≡ r → closedPair t (pick c m n) p ≡ pick c q r
-unfolding pick
-by-closed true t m n p q r e g = e
-by-closed false t m n p q r e g = g
-
+-- the one change of a close is visited in the table without its waits
 closed-visited : (t : Bool) (p : Pair) → sound (p .places) ≡ true → closedPair t (closeMoved t (own t (endsOf p)) (peer t (endsOf p))) p ≡ closed t p
-unfolding closeMoved closed droppedVisited closeVisit firstOnly keptEnds changedEnd visited withEnds withEnd withPlaces pick
-closed-visited true p s =
-    by-closed (p .two .closed) true _ _ p _ _
-    (ap (λ u. withPlaces u (withEnd true (closedEnd (p .one)) p)) (visited-none _ ∙ dropped true p s))
-    (sym (signal-visited false WRITABLE «PEER_CLOSED» (withPlaces (droppedOf true (p .places)) (withEnd true (closedEnd (p .one)) p)) (subst (λ u. sound u ≡ true) (dropped true p s) (sound-drop (p .places) s true))
-    ∙ rw (dropped true p s) refl))
-closed-visited false p s =
-    by-closed (p .one .closed) false _ _ p _ _
-    (ap (λ u. withPlaces u (withEnd false (closedEnd (p .two)) p)) (visited-none _ ∙ dropped false p s))
-    (sym (signal-visited true WRITABLE «PEER_CLOSED» (withPlaces (droppedOf false (p .places)) (withEnd false (closedEnd (p .two)) p)) (subst (λ u. sound u ≡ true) (dropped false p s) (sound-drop (p .places) s false))
-    ∙ rw (dropped false p s) refl))
+unfolding closed closeEffect droppedVisited movedBy visitsOf firstTwo visitedBy placed withEnds withPlaces pick
+closed-visited t p s =
+    let e = closeEffect (own t (endsOf p)) (peer t (endsOf p)) in
+    ap (λ (m : Moved). closedPair t m p) (close-by t (own t (endsOf p)) (peer t (endsOf p)))
+    ∙ sym (at-once t e p (dropOf t (p .places) .places) (sym (dropped t p s)) (sound-drop (p .places) s t))
 
 -- where there are no waits, nothing is to be done with them
 no-waits : (t : Bool) (v : Visits) (p : Pair) → length (p .places .table) ≡ 128 → p .places .waits ≡ 0 → droppedVisited t v p ≡ p

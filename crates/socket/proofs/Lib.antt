@@ -1,7 +1,7 @@
 pub mod Steps
 pub mod Visiting
 pub mod Needed
-pub mod Control
+pub mod Effects
 pub mod Settled
 pub mod Disposed
 pub mod Closed

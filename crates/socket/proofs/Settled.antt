@@ -29,22 +29,22 @@ use Rattle.control.specs.ends.ShutdownEnds.{shutEnds}
 use Rattle.control.specs.threshold.ThresholdEnds.{readThresholdEnds, writeThresholdEnds}
 use Rattle.control.proofs.ends.Outcomes.{refused, done}
 use Rattle.definition.specs.Shutdown.{shutdownAnswer, shut}
-use Rattle.socket.proofs.Control.{shut-visited, read-threshold-visited, write-threshold-visited}
+use Rattle.socket.proofs.Effects.{fed-visited, drained-visited, shut-visited, read-threshold-visited, write-threshold-visited}
 use Rattle.socket.specs.Deferred.{settledStep, withEnds}
 use Rattle.socket.proofs.Steps.{steps-refused, steps-done}
-use Rattle.socket.proofs.Visiting.{movedPair, kept-visited, fed-visited, drained-visited, settled-moved}
+use Rattle.socket.proofs.Visiting.{movedPair, kept-visited, settled-moved}
 
 moved-wrote : (b t : Bool) (m : ℕ) (p : Pair) → (b ≡ false → sound (p .places) ≡ true)
     → movedPair t (pick b (keptEnds (own t (endsOf p)) (peer t (endsOf p))) (fedEnds (p .datagram) (p .capacity) t (own t (endsOf p)) (peer t (endsOf p)) m)) p ≡ pick b p (wrote t m p)
 unfolding pick
 moved-wrote true t m p s = kept-visited t p
-moved-wrote false t m p s = fed-visited t m p (s refl)
+moved-wrote false t m p s = fed-visited t p (s refl) m
 
 moved-read : (b t : Bool) (n : ℕ) (p : Pair) → (b ≡ false → sound (p .places) ≡ true)
     → movedPair t (pick b (keptEnds (own t (endsOf p)) (peer t (endsOf p))) (drainedEnds (p .datagram) (p .capacity) t (own t (endsOf p)) (peer t (endsOf p)) n)) p ≡ pick b p (consumed t n p)
 unfolding pick
 moved-read true t n p s = kept-visited t p
-moved-read false t n p s = drained-visited t n p (s refl)
+moved-read false t n p s = drained-visited t p (s refl) n
 
 module _ (p : Pair) (h : ℕ) (a : Answer) (r : Outcome) (l : length (p .places .table) ≡ 128)
     (s : (countOf a ≡ 0 → ⊥) → sound (p .places) ≡ true) where
@@ -111,18 +111,18 @@ module _ (p : Pair) (h : ℕ) where
   unfolding shutEnds shutdownAnswer
   shutdown-whole read write e r l f g =
       moved-whole p h _ _ _ r l (g ∙ ap (λ (k : Ends). shutEnds k h read write) f)
-      (λ d. shut-visited (isOne h) read write p (opening-passed (endsOf p) h d .places))
+      (λ d. shut-visited (isOne h) p (opening-passed (endsOf p) h d .places) read write)
 
   pub read-threshold-whole : (n : ℕ) (e : Ends) (r : Outcome) → length (p .places .table) ≡ 128 → e ≡ endsOf p → r ≡ readThresholdEnds e h n
       → Steps p (readThresholdAnswer (endsOf p) h n) (readThresholdSet (isOne h) n p) (settledStep r p)
   unfolding readThresholdEnds readThresholdAnswer
   read-threshold-whole n e r l f g =
       moved-whole p h _ _ _ r l (g ∙ ap (λ (k : Ends). readThresholdEnds k h n) f)
-      (λ d. read-threshold-visited (isOne h) n p (opening-passed (endsOf p) h (then-both _ _ d .0) .places))
+      (λ d. read-threshold-visited (isOne h) p (opening-passed (endsOf p) h (then-both _ _ d .0) .places) n)
 
   pub write-threshold-whole : (n : ℕ) (e : Ends) (r : Outcome) → length (p .places .table) ≡ 128 → e ≡ endsOf p → r ≡ writeThresholdEnds e h n
       → Steps p (writeThresholdAnswer (endsOf p) h n) (writeThresholdSet (isOne h) n p) (settledStep r p)
   unfolding writeThresholdEnds writeThresholdAnswer
   write-threshold-whole n e r l f g =
       moved-whole p h _ _ _ r l (g ∙ ap (λ (k : Ends). writeThresholdEnds k h n) f)
-      (λ d. write-threshold-visited (isOne h) n p (opening-passed (endsOf p) h (then-both _ _ d .0) .places))
+      (λ d. write-threshold-visited (isOne h) p (opening-passed (endsOf p) h (then-both _ _ d .0) .places) n)

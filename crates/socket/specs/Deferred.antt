@@ -2,7 +2,9 @@
 -- a change of a word visits the end's waits. The laws of proofs/ say that the visits can wait until all words have changed.
 use Prim.Native.Nat.{ℕ}
 use mathlib.Core.Bool.{Bool}
+use mathlib.Core.List.{List, [], _∷_}
 use lib.Dec.{eqb}
+use Rattle.endpoint.specs.declared.ends.Pending.{Pending}
 use Rattle.endpoint.specs.declared.ends.Visits.{Visits}
 use Rattle.definition.specs.declared.Pair.{Pair}
 use Rattle.endpoint.specs.declared.ends.Outcome.{Outcome}
@@ -14,6 +16,11 @@ use Rattle.definition.specs.Pair.{withPlaces, own, endsOf}
 use Rattle.definition.specs.Status.{_and_, _or_, pick}
 use Rattle.port.specs.places.Table.{onlyWait}
 use Rattle.definition.specs.Port.{dropOf, registerOf, takeOf}
+
+-- the table after the waits of each change are visited, in the order of the changes
+unfoldable pub visitedBy : List Pending → Places → Places
+visitedBy [] u = u
+visitedBy (v ∷ vs) u = visitedBy vs (visited v u)
 
 -- the pair after the waits of two changes are visited
 unfoldable pub visitedPair : Visits → Pair → Pair

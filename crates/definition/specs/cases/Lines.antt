@@ -14,17 +14,17 @@ use Rattle.definition.specs.Status.{answerWord, statusNumber, recordCoun
 use Rattle.definition.specs.Ring.{place, front, put}
 use Rattle.definition.specs.Port.{filter, fires, firedOf, changeOf, fired, kept, takenOf, insertedOf, appendedOf, registeredOf, droppedOf, ofOther, others, packetsOf, waitsOf, unusedOf, tableOf, newPlaces, endNumber, waitOf, observe, packetOf, waitAnswer, waited, takeAnswer, took}
 use Rattle.definition.specs.Signal.{changedWord, meets, reached, missed, bitIf}
-use Rattle.definition.specs.Disposition.{enables, hasBacklog, hasOpenBacklog, enablesOver, disposeChecks, switchWriting, disposeOwn, disposePeer, disposedOwn, disposedPeer, disposed, dispositionOf, plainDisposeAnswer, userDisposeAnswer}
+use Rattle.definition.specs.Disposition.{enables, hasBacklog, hasOpenBacklog, enablesOver, disposeChecks, writing, peerWriting, reading, disposeEffect, disposed, dispositionOf, plainDisposeAnswer, userDisposeAnswer}
 use Rattle.definition.specs.Create.{newEnd, noEnd, numbersAnswer, createAnswer, newPair, noPair}
 use Rattle.definition.specs.Pair.{withQueue, withSignals, withReadDisabled, withThresholds, shown, noQueue, isHandle, withEnd, withPlaces}
-use Rattle.definition.specs.Close.{closedEnd, closeAnswer, closed}
+use Rattle.definition.specs.Close.{closedEnd, closeAnswer, closeEffect, closed}
 use Rattle.definition.specs.Info.{unlessClosed, infoOf, infoAnswer}
 use Rattle.definition.specs.Tests.{soundLengths, soundQueue, shortTable, shortSlices, hasLength, firstLength, badFirst, soundEnds, isOpen, soundTest, handleTest, openingTest, lentOf, slicesTest, tableTest}
-use Rattle.definition.specs.Read.{lostByReader, gainedByWriter, emptyAnswer, availableIn, readSize, readAnswer, leaving, drainedQueue, bufferRead, consumed, pairRead, userReadAnswer, bytesLanded}
-use Rattle.definition.specs.Write.{gainedByPeer, lostByWriter, datagramSize, writeSize, writeAnswer, fedQueue, ringFed, tableFed, ringWritten, tableWritten, wrote, pairWritten, writeRanges, userWriteAnswer}
-use Rattle.definition.specs.Threshold.{readThresholdAnswer, writeThresholdAnswer, thresholdsAnswer, readThresholdSet, writeThresholdSet}
-use Rattle.definition.specs.Shutdown.{shutdownAnswer, shutEnd, shut, userShutdownAnswer}
-use Rattle.definition.specs.Effect.{withChange, signalChange, putBit, switchReading}
+use Rattle.definition.specs.Read.{lostByReader, gainedByWriter, emptyAnswer, availableIn, readSize, readAnswer, leaving, drainedQueue, bufferRead, readEffect, consumed, pairRead, userReadAnswer, bytesLanded}
+use Rattle.definition.specs.Write.{gainedByPeer, lostByWriter, datagramSize, writeSize, writeAnswer, fedQueue, ringFed, tableFed, ringWritten, tableWritten, writeEffect, wrote, pairWritten, writeRanges, userWriteAnswer}
+use Rattle.definition.specs.Threshold.{readThresholdAnswer, writeThresholdAnswer, thresholdsAnswer, readThresholdEffect, writeThresholdEffect, readThresholdSet, writeThresholdSet}
+use Rattle.definition.specs.Shutdown.{shutdownAnswer, shutting, shutReading, shutEffect, shut, userShutdownAnswer}
+use Rattle.definition.specs.Effect.{ifOpen, ownBit, keepingWaits, withChange, signalChange, changed, changedByAll, prepared, applied}
 use Rattle.definition.specs.Memory.{fits, countFits, isNull, littleEndian, countLanded, lookup}
 
 -- the answer word, both signal words, the bytes delivered, and the record of a done call that has one beside its count
@@ -52,7 +52,7 @@ shownLines x os = lineOf x [] ∷ map (λ (o : Outcome). lineOf (o .seen) (o .de
 
 -- the lines of a run, computed. To unfold it is to unfold all that a call computes with.
 unfoldable pub linesOf : Create → (one two : Slices) → List Input → List Line
-unfolding recordOf statusNumber recordCount answerWord countOf isDone refuseIf refuseUnless _then_ pick _and_ _or_ place front put filter firedOf insertedOf appendedOf registeredOf takenOf droppedOf changeOf changedWord meets packetsOf waitsOf unusedOf tableOf newPlaces endNumber waitOf observe packetOf fires fired kept ofOther others enables hasBacklog hasOpenBacklog enablesOver disposeChecks newEnd noEnd withQueue withSignals withReadDisabled withThresholds closedEnd shown unlessClosed infoOf noQueue soundLengths soundQueue shortTable shortSlices hasLength firstLength badFirst emptyAnswer availableIn readSize lostByReader gainedByWriter datagramSize writeSize reached missed bitIf gainedByPeer lostByWriter numbersAnswer createAnswer switchWriting disposeOwn disposePeer disposedOwn disposedPeer disposed shutdownAnswer shutEnd shut infoAnswer isHandle withEnd withPlaces withChange signalChange putBit switchReading newPair noPair readAnswer leaving drainedQueue consumed pairRead bufferRead soundEnds soundTest lentOf slicesTest tableTest isOpen handleTest openingTest readThresholdAnswer writeThresholdAnswer readThresholdSet writeThresholdSet thresholdsAnswer waitAnswer waited takeAnswer took closeAnswer closed writeAnswer fedQueue wrote pairWritten ringFed ringWritten tableFed tableWritten dispositionOf plainDisposeAnswer userDisposeAnswer userShutdownAnswer fits countFits isNull lookup littleEndian countLanded userReadAnswer bytesLanded writeRanges userWriteAnswer controlAnswer answerTo controlled pairAfter written stateAfter landed memoryAfter deliveredIn after outcome outcomes pairCreated
+unfolding recordOf statusNumber recordCount answerWord countOf isDone refuseIf refuseUnless _then_ pick _and_ _or_ place front put filter firedOf insertedOf appendedOf registeredOf takenOf droppedOf changeOf changedWord meets packetsOf waitsOf unusedOf tableOf newPlaces endNumber waitOf observe packetOf fires fired kept ofOther others enables hasBacklog hasOpenBacklog enablesOver disposeChecks newEnd noEnd withQueue withSignals withReadDisabled withThresholds closedEnd shown unlessClosed infoOf noQueue soundLengths soundQueue shortTable shortSlices hasLength firstLength badFirst emptyAnswer availableIn readSize lostByReader gainedByWriter datagramSize writeSize reached missed bitIf gainedByPeer lostByWriter numbersAnswer createAnswer writing peerWriting reading disposeEffect disposed shutdownAnswer shutting shutReading shutEffect shut infoAnswer isHandle withEnd withPlaces ifOpen ownBit keepingWaits withChange signalChange changed changedByAll prepared applied newPair noPair readAnswer leaving drainedQueue readEffect consumed pairRead bufferRead soundEnds soundTest lentOf slicesTest tableTest isOpen handleTest openingTest readThresholdAnswer writeThresholdAnswer readThresholdEffect writeThresholdEffect readThresholdSet writeThresholdSet thresholdsAnswer waitAnswer waited takeAnswer took closeAnswer closeEffect closed writeAnswer fedQueue writeEffect wrote pairWritten ringFed ringWritten tableFed tableWritten dispositionOf plainDisposeAnswer userDisposeAnswer userShutdownAnswer fits countFits isNull lookup littleEndian countLanded userReadAnswer bytesLanded writeRanges userWriteAnswer controlAnswer answerTo controlled pairAfter written stateAfter landed memoryAfter deliveredIn after outcome outcomes pairCreated
 linesOf c one two is = shownLines (seenOf (createdBy c one two) (pairCreated c (createdBy c one two))) (outcomes (start c one two) is)
 
 -- the answer word of one call, computed
