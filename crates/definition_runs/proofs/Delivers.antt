@@ -16,12 +16,12 @@ use Rattle.definition.specs.declared.Queue.{Queue}
 use Rattle.definition.specs.Read.{bufferRead, bytesLanded}
 use Rattle.definition.specs.Pair.{isOne, own, endsOf}
 use Rattle.definition.specs.Calls.{Call, write, read, plainWrite, plainRead, close, control, Slices, State, ownSlices, view, ownLent, answerTo, landed, deliveredIn}
-use Rattle.claims.proofs.runs.Memory.{take-pasted}
+use Rattle.definition_runs.proofs.runs.Memory.{take-pasted}
 use Rattle.definition_runs.specs.TwoRuns.{Origin, Line, flat, Lines, ownLine, sourceOf}
-use Rattle.claims.proofs.Holds.{Size, Holds, firstOf, ring-long}
-use Rattle.claims.proofs.Moves.{Taken, front-line, taken-within}
-use Rattle.claims.proofs.Answers.{plain-taken, user-taken}
-use Rattle.claims.proofs.Invariant.{Inv, own-first}
+use Rattle.definition_runs.proofs.Holds.{Size, Holds, firstOf, ring-long}
+use Rattle.definition_runs.proofs.Moves.{Taken, front-line, taken-within}
+use Rattle.definition_runs.proofs.Answers.{plain-taken, user-taken}
+use Rattle.definition_runs.proofs.Invariant.{Inv, own-first}
 
 -- one end
 end-delivers : (f : Origin → Option ℕ) (dg : Bool) (C : ℕ) (z : Size) (q : Queue) (l : Slices) (g : Line) (memory : List ℕ) (off k : ℕ)

@@ -1,13 +1,13 @@
 -- Each claim by its proof. Assumes nothing.
 use Rattle.definition_runs.specs.Claims.{Claims}
-use Rattle.claims.proofs.runs.Match.{calls-match}
-use Rattle.claims.proofs.runs.Whole.{runs-match}
-use Rattle.claims.proofs.runs.Exists.{runs-exist}
-use Rattle.claims.proofs.TwoRuns.{two-runs}
-use Rattle.claims.proofs.Example.{examples}
-use Rattle.claims.proofs.Refused.{refused-changes-nothing, memory-at-exit}
-use Rattle.claims.proofs.RunsSound.{runs-are-sound}
-use Rattle.claims.proofs.cases.Lines.{lines-match}
+use Rattle.definition_runs.proofs.runs.Match.{calls-match}
+use Rattle.definition_runs.proofs.runs.Whole.{runs-match}
+use Rattle.definition_runs.proofs.runs.Exists.{runs-exist}
+use Rattle.definition_runs.proofs.TwoRuns.{two-runs}
+use Rattle.definition_runs.proofs.Example.{examples}
+use Rattle.definition_runs.proofs.Refused.{refused-changes-nothing, memory-at-exit}
+use Rattle.definition_runs.proofs.RunsSound.{runs-are-sound}
+use Rattle.definition_runs.proofs.cases.Lines.{lines-match}
 use Rattle.definition.proofs.cases.Edges.{at-the-edges, in-order, packets-in-order}
 use Rattle.definition.proofs.cases.Damaged.{damaged-records, lent-slices, first-lengths, create-arguments}
 

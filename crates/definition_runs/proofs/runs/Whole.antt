@@ -7,8 +7,8 @@ use Rattle.definition.specs.declared.Step.{Step}
 use Rattle.definition.specs.Create.{newPair, noPair}
 use Rattle.definition.specs.Tests.{Steps}
 use Rattle.definition.specs.Calls.{Create, Input, Slices, State, state, seenOf, Outcome, createdBy, outcomes, afterAll, pairCreated}
 use Rattle.definition_runs.specs.Run.{Chain, none, next, Does, run, RunsMatch}
-use Rattle.claims.proofs.runs.Match.{calls-match}
+use Rattle.definition_runs.proofs.runs.Match.{calls-match}
 
 pub record Computed (s : State) (is : List Input) (os : List Outcome) (s′ : State) : Type 0 where
   pub calls : os ≡ outcomes s is

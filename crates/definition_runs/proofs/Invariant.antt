@@ -23,13 +23,13 @@ use Rattle.definition.specs.Tests.{lentOf}
 use Rattle.definition.specs.Disposition.{dispositionOf}
 use Rattle.definition.specs.Shutdown.{shutsRead, shutsWrite}
 use Rattle.definition.specs.Calls.{Control, setDisposition, shutdown, plainDisposition, plainShutdown, setReadThreshold, setWriteThreshold, getThresholds, getInfo, wait, takePacket, Call, write, read, plainWrite, plainRead, close, control, Input, bytesOf, offsetOf, Slices, State, peerSlices, withPair, withPeer, view, ownLent, peerLent, controlAnswer, answerTo, controlled, pairAfter, written, stateAfter, answerOf, after}
 use Rattle.definition_runs.specs.TwoRuns.{Origin, origins, Line, Lines, ownLine, withOwn, fed, added, shrunk, removed, linesAfter}
-use Rattle.claims.proofs.Lists.{length-origins, origin-bytes}
-use Rattle.claims.proofs.Holds.{Size, Holds, firstOf, first-is}
-use Rattle.claims.proofs.Moves.{fed-holds, Taken, drained-holds, no-holds}
-use Rattle.claims.proofs.Kept
-use Rattle.claims.proofs.Kept.{Kept, kept}
-use Rattle.claims.proofs.Answers.{Room, plain-room, user-room, plain-taken, user-taken, wait-room, take-any}
+use Rattle.definition_runs.proofs.Lists.{length-origins, origin-bytes}
+use Rattle.definition_runs.proofs.Holds.{Size, Holds, firstOf, first-is}
+use Rattle.definition_runs.proofs.Moves.{fed-holds, Taken, drained-holds, no-holds}
+use Rattle.definition_runs.proofs.Kept
+use Rattle.definition_runs.proofs.Kept.{Kept, kept}
+use Rattle.definition_runs.proofs.Answers.{Room, plain-room, user-room, plain-taken, user-taken, wait-room, take-any}
 
 pub record Inv (f : Origin → Option ℕ) (dg : Bool) (z1 z2 : Size) (s : State) (ln : Lines) : Type 0 where
   pub kind : s .pair .datagram ≡ dg

@@ -15,8 +15,8 @@ use Rattle.ring.proofs.copy.Laws.{length-front, front-first}
 use Rattle.definition.specs.declared.Queue.{Queue}
 use Rattle.definition.specs.Tests.{soundLengths, soundQueue, shortTable, shortSlices, hasLength, firstLength, badFirst, lentOf}
 use Rattle.definition.specs.Calls.{Slices}
 use Rattle.definition_runs.specs.TwoRuns.{Origin, Line, flat}
-use Rattle.claims.proofs.Lists.{Full, full-length, full-more, headLength}
+use Rattle.definition_runs.proofs.Lists.{Full, full-length, full-more, headLength}
 
 -- the lengths of an end's ring and table
 pub record Size : Type 0 where

@@ -13,8 +13,8 @@ use Rattle.definition.specs.Write.{writeAnswer, pairWritten, ringWritten, table
 use Rattle.definition.specs.Read.{readAnswer, pairRead, bufferRead, isPeek, userReadAnswer, bytesLanded}
 use Rattle.definition.specs.Memory.{countLanded}
 use Rattle.definition.specs.Calls.{setDisposition, shutdown, plainDisposition, plainShutdown, setReadThreshold, setWriteThreshold, getThresholds, getInfo, wait, takePacket, Call, write, read, plainWrite, plainRead, close, control, Input, input, State, state, ownSlices, peerSlices, Outcome, createdBy, after, outcome, outcomes, afterAll, pairCreated, start}
 use Rattle.definition_runs.specs.Run.{Chain, none, next, Does, did-write, did-read, did-dispose, did-shutdown, did-plain-write, did-plain-read, did-plain-dispose, did-plain-shutdown, did-read-threshold, did-write-threshold, did-thresholds, did-info, did-wait, did-take, did-close, run, RunsExist}
-use Rattle.claims.proofs.runs.Match.{calls-match}
+use Rattle.definition_runs.proofs.runs.Match.{calls-match}
 
 record Some (s : State) (i : Input) : Type 0 where
   pub state : State

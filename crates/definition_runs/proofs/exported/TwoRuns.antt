@@ -5,11 +5,11 @@ use mathlib.Core.Option.{some}
 use Rattle.definition.specs.declared.Answer.{Answer}
 use Rattle.definition.specs.Status.{answerWord}
 use Rattle.definition.specs.declared.Pair.{Pair}
 use Rattle.definition_runs.specs.Exported.{signalNumber, inputs, arraysIn, pairsOf, arraysAfter, CreatesAlike, ExportedTwoRuns}
 use Rattle.definition.specs.Calls.{Call, Input, Public, public, Seen, seenOf, Outcome, createdBy, memoriesAfter}
 use Rattle.definition_runs.specs.TwoRuns.{seen, answers, calls}
-use Rattle.claims.proofs.Claims.{claims}
-use Rattle.host_claims.proofs.Runs.{created-word, runs-are-runs}
+use Rattle.definition_runs.proofs.Claims.{claims}
+use Rattle.definition_runs.proofs.exported.Runs.{created-word, runs-are-runs}
 
 pub creates-alike : CreatesAlike
 creates-alike c one two one′ two′ e k before before′ p p′ w w′ a b =

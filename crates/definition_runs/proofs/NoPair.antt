@@ -20,9 +20,9 @@ use Rattle.definition.specs.Shutdown.{shutdownAnswer, userShutdownAnswer}
 use Rattle.definition.specs.Close.{closeAnswer}
 use Rattle.definition.specs.Disposition.{plainDisposeAnswer, userDisposeAnswer}
 use Rattle.definition.specs.Calls.{Control, setDisposition, shutdown, plainDisposition, plainShutdown, setReadThreshold, setWriteThreshold, getThresholds, getInfo, wait, takePacket, Call, write, read, plainWrite, plainRead, close, control, Input, Public, public, Slices, State, state, seenOf, View, view, controlAnswer, answerTo, pairAfter, answerOf, outcome, outcomes}
 use Rattle.definition_runs.specs.TwoRuns.{Origin, Lines, noLines, linesAfter, sourceOf, sourcesFrom, seen, answers, delivered, calls}
-use Rattle.claims.proofs.Lists.{cons-path}
-use Rattle.claims.proofs.Refused.{pair-stays, lines-stay, no-source, refused-after, refused-delivers}
+use Rattle.definition_runs.proofs.Lists.{cons-path}
+use Rattle.definition_runs.proofs.Refused.{pair-stays, lines-stay, no-source, refused-after, refused-delivers}
 
 abbrev no-view : (z1 z2 : Lent) → View
 no-view z1 z2 = record { pair = noPair; one = z1; two = z2 }

@@ -12,9 +12,9 @@ use Rattle.definition.specs.declared.Pair.{Pair}
 use Rattle.definition.specs.Pair.{isOne}
 use Rattle.definition.specs.Read.{pairRead, isPeek}
 use Rattle.definition.specs.Calls.{Call, write, read, plainWrite, plainRead, close, control, Input, State, peerSlices, withPeer, Outcome, View, view, pairAfter, memoryAfter, written, stateAfter, landed, deliveredIn, answerOf, afterBy, deliveredBy, after, outcome}
 use Rattle.definition_runs.specs.TwoRuns.{Lines, added, removed, linesAfter, sourceOf}
 use Rattle.definition_runs.specs.Laws.{RefusedChangesNothing, MemoryAtExit}
-use Rattle.claims.proofs.runs.Match.{calls-match}
+use Rattle.definition_runs.proofs.runs.Match.{calls-match}
 
 none-written : (s : State) (h : ℕ) (src : List ℕ) → written s h 0 src ≡ s
 unfolding written pairWritten ringWritten tableWritten pick

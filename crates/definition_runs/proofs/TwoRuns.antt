@@ -17,14 +17,14 @@ use Rattle.definition.specs.declared.Pair.{Pair}
 use Rattle.definition.specs.Pair.{isOne}
 use Rattle.definition.specs.Tests.{Lent}
 use Rattle.definition.specs.Calls.{Create, Call, write, read, plainWrite, plainRead, close, control, Input, Public, public, Slices, State, state, withPeer, Seen, seenOf, Outcome, createdBy, View, view, answerTo, pairAfter, memoriesAfter, written, stateAfter, answerOf, after, outcome, outcomes, pairCreated, start}
 use Rattle.definition_runs.specs.TwoRuns.{Origin, Line, Lines, noLines, linesAfter, sourcesFrom, sources, byteAt, found, seen, answers, delivered, memoriesLeft, calls, Alike, SameLengths, TwoRuns}
-use Rattle.claims.proofs.Lists.{cons-path}
-use Rattle.claims.proofs.Holds.{Size, firstOf, lent-is}
-use Rattle.claims.proofs.Invariant.{Inv, after-inv}
-use Rattle.claims.proofs.Delivers.{delivers}
-use Rattle.claims.proofs.Start.{sizeOf, Fit, created-fits, new-inv}
-use Rattle.claims.proofs.NoPair.{seen-all, origins-all}
-use Rattle.claims.proofs.runs.Whole.{runs-match}
+use Rattle.definition_runs.proofs.Lists.{cons-path}
+use Rattle.definition_runs.proofs.Holds.{Size, firstOf, lent-is}
+use Rattle.definition_runs.proofs.Invariant.{Inv, after-inv}
+use Rattle.definition_runs.proofs.Delivers.{delivers}
+use Rattle.definition_runs.proofs.Start.{sizeOf, Fit, created-fits, new-inv}
+use Rattle.definition_runs.proofs.NoPair.{seen-all, origins-all}
+use Rattle.definition_runs.proofs.runs.Whole.{runs-match}
 
 -- ---- what is public of a state, from its pair and the lines
 

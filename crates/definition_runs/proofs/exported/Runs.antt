@@ -9,10 +9,10 @@ use Rattle.definition.specs.Status.{pick, answerWord, isDone}
 use Rattle.definition.specs.declared.Pair.{Pair}
 use Rattle.definition.specs.Create.{newPair, noPair}
 use Rattle.definition.specs.Calls.{Create, Slices, State, Outcome, createdBy}
 use Rattle.definition_runs.specs.Run.{Chain, none, next, Does, run as run-of}
 use Rattle.definition_runs.specs.Exported.{Creates, Passed, Returned, isCount, Exported, run, inputs, arraysAfter, Gives, RunsAreRuns, CreateStarts}
-use Rattle.host_claims.proofs.Words.{is-count}
-use Rattle.host_claims.proofs.Steps.{calls-are-steps}
+use Rattle.definition_runs.proofs.exported.Words.{is-count}
+use Rattle.definition_runs.proofs.exported.Steps.{calls-are-steps}
 
 -- ---- create
 

@@ -3,11 +3,11 @@ use Prim.Native.Nat.{ℕ}
 use mathlib.Core.Path.{refl}
 use mathlib.Core.List.{List}
 use Rattle.definition.specs.cases.Scripts.{stream, datagram, create}
 use Rattle.definition_runs.specs.Example.{salary, filler, streamSalary, streamFiller, empty, used, outcomesOf, lastOf, createOf, sourcesOf, OnDatagrams, OnStreams, Examples}
 use Rattle.definition.specs.Calls.{Input, Slices}
 use Rattle.definition_runs.specs.Run.{Run}
-use Rattle.claims.proofs.runs.Exists.{runs-exist}
-use Rattle.claims.proofs.TwoRuns.{two-runs}
+use Rattle.definition_runs.proofs.runs.Exists.{runs-exist}
+use Rattle.definition_runs.proofs.TwoRuns.{two-runs}
 
 run-of : (kind : ℕ) (l : Slices) (is : List Input) → Run (create kind 7) l l is (createOf kind l) (outcomesOf kind l is) (lastOf kind l is)
 unfolding createOf outcomesOf lastOf

@@ -1,8 +1,8 @@
 -- A run of the code shows the computed lines. Assumes nothing.
 use mathlib.Core.Path.{ap₂}
-use Rattle.claims.proofs.runs.Whole.{runs-match}
+use Rattle.definition_runs.proofs.runs.Whole.{runs-match}
 use Rattle.definition.specs.cases.Lines.{linesOf, shownLines}
 use Rattle.definition_runs.specs.Run.{LinesMatch}
 
 pub lines-match : LinesMatch
 unfolding linesOf

@@ -30,14 +30,14 @@ use Rattle.definition.specs.Shutdown.{shutdownAnswer, userShutdownAnswer}
 use Rattle.definition.specs.Close.{closeAnswer}
 use Rattle.definition.specs.Memory.{lookup}
 use Rattle.definition.specs.Calls.{Control, setDisposition, shutdown, plainDisposition, plainShutdown, setReadThreshold, setWriteThreshold, getThresholds, getInfo, wait, takePacket, Call, write, read, plainWrite, plainRead, close, control, Input, State, state, ownSlices, Outcome, createdBy, View, view, ownLent, peerLent, tableOnly, controlAnswer, answerTo, answerOf, outcome, pairCreated}
 use Rattle.definition_runs.specs.Run.{Chain, none, next, Does, run}
 use Rattle.definition_runs.specs.TwoRuns.{Origin, Lines, noLines, found, linesAfter}
 use Rattle.definition_runs.specs.Laws.{Sound, RunsAreSound}
-use Rattle.claims.proofs.Holds.{Size, first-is, sound-queue, slices-long, first-good}
-use Rattle.claims.proofs.Invariant.{Inv}
-use Rattle.claims.proofs.Start.{sizeOf, created-fits, new-inv}
-use Rattle.claims.proofs.runs.Match.{calls-match}
-use Rattle.claims.proofs.TwoRuns.{next-inv, here-in, after-in}
+use Rattle.definition_runs.proofs.Holds.{Size, first-is, sound-queue, slices-long, first-good}
+use Rattle.definition_runs.proofs.Invariant.{Inv}
+use Rattle.definition_runs.proofs.Start.{sizeOf, created-fits, new-inv}
+use Rattle.definition_runs.proofs.runs.Match.{calls-match}
+use Rattle.definition_runs.proofs.TwoRuns.{next-inv, here-in, after-in}
 
 -- ---- answers that are not INTERNAL
 

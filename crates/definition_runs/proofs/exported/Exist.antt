@@ -15,10 +15,10 @@ use Rattle.definition.specs.Create.{newPair, noPair}
 use Rattle.definition.specs.Write.{writeAnswer, pairWritten, ringWritten, tableWritten, userWriteAnswer}
 use Rattle.definition.specs.Read.{readAnswer, pairRead, bufferRead, isPeek, userReadAnswer, bytesLanded}
 use Rattle.definition.specs.Memory.{countLanded}
 use Rattle.definition_runs.specs.Exported.{Answered, arrayOf, Recorded, Passed, Returned, isCount, Exported, murgwethan-write, murgwethan-read, murgwethan-set-disposition, murgwethan-shutdown, murgwethan-set-read-threshold, murgwethan-set-write-threshold, murgwethan-thresholds, murgwethan-info, murgwethan-wait, murgwethan-take, murgwethan-close, murgwethan-user-write, murgwethan-user-read, murgwethan-user-set-disposition, murgwethan-user-shutdown, run, Passable, to-write, to-read, to-set-disposition, to-shutdown, to-set-read-threshold, to-set-write-threshold, to-thresholds, to-info, to-wait, to-take, to-close, to-user-write, to-user-read, to-user-set-disposition, to-user-shutdown, AllPassable, none, next, ExportedRunsExist}
 use Rattle.definition.specs.Calls.{State, state, ownSlices, peerSlices, createdBy}
 use Rattle.definition_runs.specs.Run.{Chain, none as no-calls, next as next-call}
-use Rattle.host_claims.proofs.Words.{is-count}
+use Rattle.definition_runs.proofs.exported.Words.{is-count}
 
 record Some (s : State) (x : Passed) : Type 0 where
   pub state : State

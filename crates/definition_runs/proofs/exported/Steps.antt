@@ -14,11 +14,11 @@ use Rattle.definition.specs.declared.Pair.{Pair}
 use Rattle.definition.specs.declared.Step.{Step}
 use Rattle.definition.specs.Pair.{isOne}
 use Rattle.definition.specs.Read.{bytesLanded}
 use Rattle.definition_runs.specs.Exported.{arrayOf, isCount, countIn, recordIn, arrayAfter, murgwethan-write, murgwethan-read, murgwethan-set-disposition, murgwethan-shutdown, murgwethan-set-read-threshold, murgwethan-set-write-threshold, murgwethan-thresholds, murgwethan-info, murgwethan-wait, murgwethan-take, murgwethan-close, murgwethan-user-write, murgwethan-user-read, murgwethan-user-set-disposition, murgwethan-user-shutdown, IsStep, CallsAreSteps, ExportedRefusedChangesNothing}
 use Rattle.definition.specs.Calls.{Control, setDisposition, shutdown, plainDisposition, plainShutdown, setReadThreshold, setWriteThreshold, getThresholds, getInfo, wait, takePacket, Call, write, read, plainWrite, plainRead, close, control, Input, State, ownSlices, gives}
 use Rattle.definition_runs.specs.Run.{Does, did-write, did-read, did-dispose, did-shutdown, did-plain-write, did-plain-read, did-plain-dispose, did-plain-shutdown, did-read-threshold, did-write-threshold, did-thresholds, did-info, did-wait, did-take, did-close}
-use Rattle.claims.proofs.Claims.{claims}
-use Rattle.host_claims.proofs.Words.{count-in, is-count}
+use Rattle.definition_runs.proofs.Claims.{claims}
+use Rattle.definition_runs.proofs.exported.Words.{count-in, is-count}
 
 -- the answer and the pair at exit, as a by-value call would return them
 abbrev stepped : Pair → Answer → Step

@@ -15,8 +15,8 @@ use Rattle.definition.specs.Write.{writeAnswer, pairWritten, ringWritten, table
 use Rattle.definition.specs.Read.{readAnswer, pairRead, isPeek, userReadAnswer}
 use Rattle.definition.specs.Memory.{countLanded}
 use Rattle.definition.specs.Calls.{Input, Slices, State, state, ownSlices, peerSlices, withPair, withPeer, seenOf, gives, view, ownLent, peerLent, controlAnswer, answerTo, controlled, pairAfter, memoryAfter, written, stateAfter, landed, deliveredIn, answerOf, afterBy, deliveredBy, outcomeBy, after, outcome}
 use Rattle.definition_runs.specs.Run.{did-write, did-read, did-dispose, did-shutdown, did-plain-write, did-plain-read, did-plain-dispose, did-plain-shutdown, did-read-threshold, did-write-threshold, did-thresholds, did-info, did-wait, did-take, did-close, Matches, CallsMatch}
-use Rattle.claims.proofs.runs.Memory.{buffer-back, landed-back}
+use Rattle.definition_runs.proofs.runs.Memory.{buffer-back, landed-back}
 
 -- ---- what is lent
 

@@ -14,3 +14,4 @@ pub mod Example
 pub mod Claims
 pub mod runs
 pub mod cases
+pub mod exported

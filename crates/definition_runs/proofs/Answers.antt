@@ -19,7 +19,7 @@ use Rattle.definition.specs.declared.Pair.{Pair}
 use Rattle.definition.specs.Pair.{isOne, own, peer, endsOf}
 use Rattle.definition.specs.Tests.{Lent}
 use Rattle.definition.specs.Memory.{fits}
-use Rattle.claims.proofs.Moves.{Taken}
+use Rattle.definition_runs.proofs.Moves.{Taken}
 
 -- ---- tests that were passed
 

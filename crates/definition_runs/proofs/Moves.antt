@@ -15,9 +15,9 @@ use Rattle.definition.specs.Pair.{noQueue}
 use Rattle.definition.specs.Read.{leaving, drainedQueue}
 use Rattle.definition.specs.Write.{fedQueue, ringFed, tableFed}
 use Rattle.definition.specs.Calls.{Slices}
 use Rattle.definition_runs.specs.TwoRuns.{Origin, Line, flat, shrunk}
-use Rattle.claims.proofs.Lists.{map-append, map-drop, map-take, flat-snoc, full-snoc, full-drop, full-none, headLength}
-use Rattle.claims.proofs.Holds.{Size, Holds, absurd-bool, firstOf, count-flat, few, ring-long, table-long}
+use Rattle.definition_runs.proofs.Lists.{map-append, map-drop, map-take, flat-snoc, full-snoc, full-drop, full-none, headLength}
+use Rattle.definition_runs.proofs.Holds.{Size, Holds, absurd-bool, firstOf, count-flat, few, ring-long, table-long}
 
 -- ---- bytes go in
 

@@ -12,11 +12,11 @@ use Rattle.port.proofs.waits.Sound.{sound-new}
 use Rattle.definition.specs.Create.{newEnd, numbersAnswer, createAnswer, newPair}
 use Rattle.definition.specs.Tests.{shortTable, shortSlices}
 use Rattle.definition.specs.Calls.{Create, Slices, state, createdBy}
 use Rattle.definition_runs.specs.TwoRuns.{Origin, noLines}
-use Rattle.claims.proofs.Answers.{then-done, if-off}
-use Rattle.claims.proofs.Holds.{Size}
-use Rattle.claims.proofs.Moves.{no-holds}
-use Rattle.claims.proofs.Invariant.{Inv}
+use Rattle.definition_runs.proofs.Answers.{then-done, if-off}
+use Rattle.definition_runs.proofs.Holds.{Size}
+use Rattle.definition_runs.proofs.Moves.{no-holds}
+use Rattle.definition_runs.proofs.Invariant.{Inv}
 
 abbrev pub sizeOf : Slices → Size
 sizeOf l = record { ring = length (l .ring); table = length (l .table) }
