@@ -15,5 +15,6 @@ pub mod LentCalls
 pub mod Lines
 pub mod Orders
 pub mod Packets
+pub mod Promises
 pub mod Scripts
 pub mod States

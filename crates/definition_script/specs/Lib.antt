@@ -7,3 +7,4 @@ pub mod Record
 pub mod Call
 pub mod Line
 pub mod Listing
+pub mod cases

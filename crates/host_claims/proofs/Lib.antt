@@ -1,7 +1,1 @@
-pub mod Words
-pub mod Steps
-pub mod Runs
-pub mod Exist
-pub mod TwoRuns
-pub mod Claims
 pub mod Contracts

@@ -1,6 +1,6 @@
 use Rattle.claims.proofs.hold.Statement.{statement}
 use Rattle.claims.proofs.hold.Tie as tie
-use Rattle.claims.proofs.Claims.{claims}
+use Rattle.definition_runs.proofs.Claims.{claims}
 
 returns : tie.Need-returns
 returns c = claims

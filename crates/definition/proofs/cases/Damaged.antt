@@ -2,14 +2,14 @@
 use mathlib.Core.Path.{refl}
 use Rattle.definition.specs.cases.States.{rowWord}
 use Rattle.definition.specs.cases.EveryCall.{everyCall, internal}
-use Rattle.definition.specs.cases.Damaged.{edges, unlisted, backlogRows, DamagedRecords}
+use Rattle.definition.specs.cases.Damaged.{edges, unlisted, backlogRows, byCases, closedRows, DamagedRecords}
 use Rattle.definition.specs.cases.Lends.{shortRows, untestedRows, LentSlices}
 use Rattle.definition.specs.cases.FirstLengths.{firstRows, untestedFirsts, FirstLengths}
 use Rattle.definition.specs.cases.Creates.{doneWords, refusedWords, CreateArguments}
 
 pub damaged-records : DamagedRecords
-unfolding edges unlisted everyCall internal rowWord backlogRows
-damaged-records = record { fine = refl; damaged = refl; others = refl; backlogs = refl }
+unfolding edges unlisted everyCall internal rowWord backlogRows byCases closedRows
+damaged-records = record { fine = refl; damaged = refl; others = refl; backlogs = refl; cases = refl; closedPeers = refl }
 
 pub lent-slices : LentSlices
 unfolding shortRows untestedRows rowWord

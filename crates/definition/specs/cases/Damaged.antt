@@ -6,10 +6,15 @@ use mathlib.Core.Bool.{Bool, false, true}
 use mathlib.Core.List.{List, [], _∷_, _++_, map}
 use mathlib.Core.Path.{_≡_}
 use lib.ListN.{length, replicate}
+use lib.IntN.{ℤ, pos, negℤ}
 use Rattle.definition.specs.declared.Queue.{Queue}
 use Rattle.definition.specs.declared.Endpoint.{Endpoint}
-use Rattle.definition.specs.Calls.{State, state, plainDisposition, control}
-use Rattle.definition.specs.cases.States.{datagram, empty, opened, pair, long, queued, eight, closed, stream, queue, end, slices, Row, is, no, rowWord}
+use Rattle.definition.specs.declared.Disposition.the-variants.{Unchanged, Disable, Enable}
+use Rattle.definition.specs.Status.{answerWord}
+use Rattle.definition.specs.Pair.{endsOf}
+use Rattle.definition.specs.Disposition.{disposeAnswer}
+use Rattle.definition.specs.Calls.{State, state, setDisposition, plainDisposition, plainWrite, write, control}
+use Rattle.definition.specs.cases.States.{datagram, empty, opened, pair, long, queued, eight, closed, stream, queue, end, slices, first, Row, is, no, rowWord}
 use Rattle.definition.specs.cases.EveryCall.{everyCall, internal}
 
 -- ---- the edges
@@ -97,10 +102,40 @@ unlisted =
 abbrev backlog : (closed : Bool) → State
 backlog closed = state (eight stream (opened empty) (end closed 16 (queue 0 1 0 0))) (slices 8 []) (slices 8 [])
 
+-- the same by a caller that is closed: the handle comes before the checks
+abbrev backlogOfClosed : State
+backlogOfClosed = state (eight stream (closed empty) (end false 16 (queue 0 1 0 0))) (slices 8 []) (slices 8 [])
+
 unfoldable pub backlogRows : List Row
 backlogRows =
     no (backlog false) (control (plainDisposition 1 2 0)) 20
     ∷ is (backlog true) (control (plainDisposition 1 2 0)) 0
+    ∷ no backlogOfClosed (control (plainDisposition 1 2 0)) 11
+    ∷ no backlogOfClosed (control (setDisposition 1 2 0)) 11
+    ∷ []
+
+-- the answer to a disposition by its cases, of which no call by numbers is made
+unfoldable pub byCases : List ℤ
+unfolding rowWord disposeAnswer
+byCases =
+    map answerWord
+    (disposeAnswer (endsOf (backlog false .pair)) 1 Enable Unchanged
+    ∷ disposeAnswer (endsOf (backlog true .pair)) 1 Enable Unchanged
+    ∷ disposeAnswer (endsOf (backlogOfClosed .pair)) 1 Enable Unchanged
+    ∷ disposeAnswer (endsOf (backlog false .pair)) 3 Disable Enable
+    ∷ [])
+
+-- ---- write
+
+-- a closed end whose queue is full, as no run leaves one: a closed peer comes before a full queue
+abbrev closedFull : (datagram : Bool) → Queue → State
+closedFull dg q = state (eight dg (opened empty) (closed q)) (slices 8 (first 8)) (slices 8 (first 8))
+
+unfoldable pub closedRows : List Row
+closedRows =
+    no (closedFull stream (queue 7 8 7 0)) (plainWrite 1) 24
+    ∷ no (closedFull datagram (queue 7 8 7 1)) (plainWrite 1) 24
+    ∷ no (closedFull stream (queue 7 8 7 0)) (write 1 0 4096 3 0) 24
     ∷ []
 
 -- ---- the claim
@@ -110,3 +145,5 @@ pub record DamagedRecords : Type 0 where
   pub damaged : map (λ (e : Edge). internal (e .damaged)) edges ≡ map (λ (e : Edge). replicate (length everyCall) true) edges
   pub others : map internal unlisted ≡ map (λ (s : State). replicate (length everyCall) false) unlisted
   pub backlogs : map rowWord backlogRows ≡ map (λ (r : Row). r .word) backlogRows
+  pub cases : byCases ≡ negℤ (pos 20) ∷ pos 0 ∷ negℤ (pos 11) ∷ negℤ (pos 11) ∷ []
+  pub closedPeers : map rowWord closedRows ≡ map (λ (r : Row). r .word) closedRows

@@ -1,10 +1,11 @@
 -- Cases beside P1 to P14, each for a sentence of 01 that is easily read past: orders of tests, rights, thresholds, info, memory at exit.
 -- 01 "Status and answer word", "Delivered bytes", "Info record", "Calls over user memory".
 use Prim.Native.Nat.{ℕ}
-use mathlib.Core.List.{[], List, _∷_, map}
+use mathlib.Core.List.{[], List, _∷_, _++_, map}
 use mathlib.Core.Option.{some}
 use mathlib.Core.Path.{_≡_}
 use lib.IntN.{pos}
+use lib.ListN.{replicate}
 use Rattle.definition.specs.declared.Record.the-variants.{Limits, Info}
 use Rattle.definition.specs.declared.SignalWord.the-variants.{Word, Closed}
 use Rattle.definition.specs.Calls.{write, read, setDisposition, shutdown, plainDisposition, setReadThreshold, setWriteThreshold, getThresholds, getInfo, close, Outcome, outcomes, start}
@@ -84,22 +85,52 @@ orderScripts =
     -- the writer becomes WRITABLE where the queue had been full, not otherwise; the tail of a datagram leaves with it
     ∷ script stream 7 (w 1 4096 2 ∷ c (setDisposition 1 1 0) ∷ r 2 1 ∷ []) (ok 2 0x2 0x3 ∷ ok 0 0x20 0x13 ∷ got 1 0x20 0x13 (97 ∷ []) ∷ [])
     ∷ script datagram 7 (w 1 4096 8 ∷ r 2 2 ∷ r 2 2 ∷ []) (ok 8 0x0 0x3 ∷ got 2 0x2 0x2 (97 ∷ 98 ∷ []) ∷ no 22 0x2 0x2 ∷ [])
+    -- the lookup of a write comes before its size: an unknown handle with too many bytes, no right with a full queue
+    ∷ script stream 7 (w 3 4096 4294967296 ∷ []) (no 11 0x2 0x2 ∷ [])
+    ∷ script stream 1 (wp 1 letters ∷ w 1 4096 1 ∷ []) (ok 8 0x0 0x3 ∷ no 30 0x0 0x3 ∷ [])
+    -- a closed handle comes before the size of a plain write and of a plain read: an empty datagram, an empty queue
+    ∷ script datagram 7 (on (close 2) ∷ wp 2 [] ∷ rp 2 1 ∷ []) (ok1 0 0x4 ∷ no1 11 0x4 ∷ no1 11 0x4 ∷ [])
+    -- the ranges of a read come after its lookup and before the queue, which is empty here
+    ∷ script stream 6 (r 1 17 ∷ []) (no 30 0x2 0x2 ∷ [])
+    ∷ script stream 7 (on (read 3 0 4096 17 0) ∷ r 2 17 ∷ on (read 2 0 4096 1 4105) ∷ r 2 1 ∷ [])
+    (no 11 0x2 0x2 ∷ no 10 0x2 0x2 ∷ no 10 0x2 0x2 ∷ no 22 0x2 0x2 ∷ [])
+    -- either number of a disposition comes before the lookup
+    ∷ script stream 3 (c (setDisposition 1 3 0) ∷ c (setDisposition 1 0 3) ∷ c (setDisposition 1 0 0) ∷ []) (no 10 0x2 0x2 ∷ no 10 0x2 0x2 ∷ no 30 0x2 0x2 ∷ [])
+    -- a disabled writer comes before a closed peer
+    ∷ script stream 7 (c (setDisposition 1 1 0) ∷ on (close 2) ∷ w 1 4096 1 ∷ wp 1 letters ∷ []) (ok 0 0x20 0x12 ∷ ok1 0 0x24 ∷ no1 20 0x24 ∷ no1 20 0x24 ∷ [])
+    -- a full queue comes before an empty datagram
+    ∷ script datagram 7 (w 1 4096 8 ∷ w 1 4096 0 ∷ wp 1 [] ∷ []) (ok 8 0x0 0x3 ∷ no 22 0x0 0x3 ∷ no 22 0x0 0x3 ∷ [])
+    -- bytes that run past the ring's end continue at its start
+    ∷ script stream 7 (w 1 4096 6 ∷ r 2 4 ∷ w 1 4096 5 ∷ r 2 8 ∷ [])
+    (ok 6 0x2 0x3 ∷ got 4 0x2 0x3 (97 ∷ 98 ∷ 99 ∷ 100 ∷ []) ∷ ok 5 0x2 0x3 ∷ got 7 0x2 0x2 (101 ∷ 102 ∷ 97 ∷ 98 ∷ 99 ∷ 100 ∷ 101 ∷ []) ∷ [])
+    -- and so do lengths in the table: the length of `ab` stands at its end, that of `cde` at its start
+    ∷ script datagram 7
+    (replicate 7 (w 1 4096 1) ++ (replicate 7 (r 2 1) ++ (w 1 4096 2 ∷ w 1 4098 3 ∷ c (getInfo 2) ∷ r 2 8 ∷ r 2 8 ∷ [])))
+    (replicate 7 (ok 1 0x2 0x3)
+    ++ (replicate 6 (got 1 0x2 0x3 (97 ∷ []))
+    ++ (got 1 0x2 0x2 (97 ∷ []) ∷ ok 2 0x2 0x3 ∷ ok 3 0x2 0x3 ∷ info 1 8 5 2 8 0 0x2 0x3 ∷ got 2 0x2 0x3 (97 ∷ 98 ∷ []) ∷ got 3 0x2 0x2 (99 ∷ 100 ∷ 101 ∷ []) ∷ [])))
     -- delivered bytes are those before the count, which lands over them
     ∷ script stream 7 (w 1 4096 8 ∷ on (read 2 8 4096 4 4098) ∷ on (read 2 0 4096 4 4098) ∷ [])
     (ok 8 0x0 0x3 ∷ got 4 0x0 0x3 (97 ∷ 98 ∷ 99 ∷ 100 ∷ []) ∷ got 4 0x2 0x3 (97 ∷ 98 ∷ 99 ∷ 100 ∷ []) ∷ [])
     ∷ []
 
--- memory at exit: a write's count, a read's bytes and over them its count; of a refused call what it found; a plain read's buffer
+-- memory at exit: a write's count, a read's bytes and over them its count; of a refused call what it found; a plain read's buffer; and no count
+-- where its address is 0
 unfoldable pub memories : List (List ℕ)
 unfolding linesOf
 memories =
     map (λ (o : Outcome). o .memory)
     (outcomes (start (create stream 7) slices slices)
-    (on (write 1 0 4096 3 4104) ∷ on (read 2 0 4106 3 4104) ∷ on (read 2 0 4106 3 4104) ∷ wp 1 (1 ∷ 2 ∷ []) ∷ rp 2 4 ∷ []))
+    (on (write 1 0 4096 3 4104) ∷ on (read 2 0 4106 3 4104) ∷ on (read 2 0 4106 3 4104) ∷ wp 1 (1 ∷ 2 ∷ []) ∷ rp 2 4
+    ∷ w 1 4098 3 ∷ r 2 2 ∷ []))
 
 abbrev counted3 : List ℕ
 counted3 = 97 ∷ 98 ∷ 99 ∷ 100 ∷ 101 ∷ 102 ∷ 103 ∷ 104 ∷ 3 ∷ 0 ∷ 0 ∷ 0 ∷ 0 ∷ 0 ∷ 0 ∷ 0 ∷ []
 
+-- `cd` landed at the start
+abbrev landed2 : List ℕ
+landed2 = 99 ∷ 100 ∷ 99 ∷ 100 ∷ 101 ∷ 102 ∷ 103 ∷ 104 ∷ 105 ∷ 106 ∷ 107 ∷ 108 ∷ 109 ∷ 110 ∷ 111 ∷ 112 ∷ []
+
 pub record Orders : Type 0 where
   pub lines : Show orderScripts
-  pub memory : memories ≡ counted3 ∷ counted3 ∷ letters ∷ (1 ∷ 2 ∷ []) ∷ (1 ∷ 2 ∷ 0 ∷ 0 ∷ []) ∷ []
+  pub memory : memories ≡ counted3 ∷ counted3 ∷ letters ∷ (1 ∷ 2 ∷ []) ∷ (1 ∷ 2 ∷ 0 ∷ 0 ∷ []) ∷ letters ∷ landed2 ∷ []

@@ -1,6 +1,6 @@
 use Rattle.host_claims.proofs.hold.Statement.{statement}
 use Rattle.host_claims.proofs.hold.Tie as tie
-use Rattle.host_claims.proofs.Claims.{claims}
+use Rattle.definition_runs.proofs.exported.Claims.{claims}
 
 returns : tie.Need-returns
 returns c = claims

@@ -1,0 +1,47 @@
+-- The runs with two memories, by the claim and by computation. Assumes nothing.
+use Prim.Native.Nat.{ℕ}
+use mathlib.Core.Path.{refl}
+use mathlib.Core.List.{List}
+use Rattle.definition.specs.cases.Scripts.{stream, datagram, create}
+use Rattle.definition_runs.specs.Example.{salary, filler, streamSalary, streamFiller, empty, used, outcomesOf, lastOf, createOf, sourcesOf, OnDatagrams, OnStreams, Examples}
+use Rattle.definition.specs.Calls.{Input, Slices}
+use Rattle.definition_runs.specs.Run.{Run}
+use Rattle.definition_runs.proofs.runs.Exists.{runs-exist}
+use Rattle.definition_runs.proofs.TwoRuns.{two-runs}
+
+run-of : (kind : ℕ) (l : Slices) (is : List Input) → Run (create kind 7) l l is (createOf kind l) (outcomesOf kind l is) (lastOf kind l is)
+unfolding createOf outcomesOf lastOf
+run-of kind l is = runs-exist (create kind 7) l l is
+
+on-datagrams : OnDatagrams
+unfolding outcomesOf sourcesOf
+on-datagrams =
+    record {
+      run1 = run-of datagram empty salary;
+      run2 = run-of datagram used filler;
+      alike =
+          two-runs (create datagram 7) empty empty used used (record { ring = refl; table = refl }) (record { ring = refl; table = refl }) salary filler refl
+          _ _ _ _ _ _ (run-of datagram empty salary) (run-of datagram used filler);
+      first = refl;
+      second = refl;
+      sources = refl;
+    }
+
+on-streams : OnStreams
+unfolding outcomesOf sourcesOf
+on-streams =
+    record {
+      run1 = run-of stream empty streamSalary;
+      run2 = run-of stream used streamFiller;
+      alike =
+          two-runs (create stream 7) empty empty used used (record { ring = refl; table = refl }) (record { ring = refl; table = refl })
+          streamSalary streamFiller refl
+          _ _ _ _ _ _ (run-of stream empty streamSalary) (run-of stream used streamFiller);
+      first = refl;
+      second = refl;
+      sources = refl;
+    }
+
+pub examples : Examples
+unfolding outcomesOf
+examples = record { datagrams = on-datagrams; streams = on-streams; rings = refl }

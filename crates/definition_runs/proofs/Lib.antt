@@ -1,0 +1,17 @@
+pub mod Lists
+pub mod Holds
+pub mod Moves
+pub mod Kept
+pub mod Answers
+pub mod Invariant
+pub mod Delivers
+pub mod Refused
+pub mod NoPair
+pub mod Start
+pub mod TwoRuns
+pub mod RunsSound
+pub mod Example
+pub mod Claims
+pub mod runs
+pub mod cases
+pub mod exported
