@@ -1,14 +1,16 @@
 -- What the records of a write and a read say, on one state: the 3 bytes `abc` queued at both ends, from place 7 of 8 on and then from the ring's
--- start. 01 "Delivered bytes", "Calls over user memory".
+-- start; and one change of a word. 01 "Delivered bytes", "Calls over user memory", "Signal word and packets".
 use Prim.Native.Nat.{ℕ}
 use mathlib.Core.Bool.{false}
 use mathlib.Core.List.{List, [], _∷_}
+use mathlib.Core.Path.{_≡_}
 use Rattle.definition.specs.declared.Answer.{Answer}
 use Rattle.definition.specs.declared.Answer.the-variants.{Done, Refused}
 use Rattle.definition.specs.declared.Record.the-variants.{Count}
 use Rattle.definition.specs.declared.Status.the-variants.{InvalidArgs}
 use Rattle.definition.specs.declared.Pair.{Pair}
 use Rattle.definition.specs.declared.Step.{Step}
+use Rattle.definition.specs.Signal.{changedWord}
 use Rattle.definition.specs.Write.{Wrote, UserWrote, pairWritten}
 use Rattle.definition.specs.Read.{Read, BytesRead, UserRead, pairRead}
 use Rattle.definition.specs.cases.States.{datagram, queued, opened, eight}
@@ -55,3 +57,5 @@ pub record Promises : Type 0 where
   pub userRead : UserRead three 2 4096 0 4106 3 4104 ring table letters counted (step (pairRead three 2 false 3 3) (Done (Count 3)))
   -- refused, it changes nothing
   pub userUnread : UserRead three 2 4096 0 4106 3 4105 ring table letters letters (step three (Refused InvalidArgs))
+  -- a change clears, then sets: a bit that is in both is set. No call makes such a change.
+  pub changed : changedWord 0x3 0x1 0x6 ≡ 0x5
