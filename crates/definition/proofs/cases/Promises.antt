@@ -14,4 +14,5 @@ promises =
       bytesRead = record { answer = refl; pair = refl; user = refl };
       userRead = record { answer = refl; pair = refl; user = refl };
       userUnread = record { answer = refl; pair = refl; user = refl };
+      changed = refl;
     }

@@ -1,14 +1,16 @@
 -- What the records of a write and a read say, on one state: the 3 bytes `abc` queued at both ends, from place 7 of 8 on and then from the ring's
--- start. 01 "Delivered bytes", "Calls over user memory".
+-- start; and one change of a word. 01 "Delivered bytes", "Calls over user memory", "Signal word and packets".
 use Prim.Native.Nat.{ℕ}
 use mathlib.Core.Bool.{false}
 use mathlib.Core.List.{List, [], _∷_}
+use mathlib.Core.Path.{_≡_}
 use Rattle.definition.specs.declared.Answer.{Answer}
 use Rattle.definition.specs.declared.Answer.the-variants.{Done, Refused}
 use Rattle.definition.specs.declared.Record.the-variants.{Count}
 use Rattle.definition.specs.declared.Status.the-variants.{InvalidArgs}
 use Rattle.definition.specs.declared.Pair.{Pair}
 use Rattle.definition.specs.declared.Step.{Step}
+use Rattle.definition.specs.Signal.{changedWord}
 use Rattle.definition.specs.Write.{Wrote, UserWrote, pairWritten}
 use Rattle.definition.specs.Read.{Read, BytesRead, UserRead, pairRead}
 use Rattle.definition.specs.cases.States.{datagram, queued, opened, eight}
@@ -18,40 +20,42 @@ abbrev pub three : Pair
 three = eight datagram (opened (queued datagram)) (opened (queued datagram))
 
 -- `abc` in the ring, and its length in the table
-abbrev ring : List ℕ
-ring = 98 ∷ 99 ∷ 0 ∷ 0 ∷ 0 ∷ 0 ∷ 0 ∷ 97 ∷ []
+abbrev ringAbc : List ℕ
+ringAbc = 98 ∷ 99 ∷ 0 ∷ 0 ∷ 0 ∷ 0 ∷ 0 ∷ 97 ∷ []
 
-abbrev table : List ℕ
-table = 5 ∷ 5 ∷ 5 ∷ 5 ∷ 5 ∷ 5 ∷ 5 ∷ 3 ∷ []
+abbrev tableAbc : List ℕ
+tableAbc = 5 ∷ 5 ∷ 5 ∷ 5 ∷ 5 ∷ 5 ∷ 5 ∷ 3 ∷ []
 
 -- after a write of `cde` they hold it too
-abbrev ring′ : List ℕ
-ring′ = 98 ∷ 99 ∷ 99 ∷ 100 ∷ 101 ∷ 0 ∷ 0 ∷ 97 ∷ []
+abbrev ringBoth : List ℕ
+ringBoth = 98 ∷ 99 ∷ 99 ∷ 100 ∷ 101 ∷ 0 ∷ 0 ∷ 97 ∷ []
 
-abbrev table′ : List ℕ
-table′ = 3 ∷ 5 ∷ 5 ∷ 5 ∷ 5 ∷ 5 ∷ 5 ∷ 3 ∷ []
+abbrev tableBoth : List ℕ
+tableBoth = 3 ∷ 5 ∷ 5 ∷ 5 ∷ 5 ∷ 5 ∷ 5 ∷ 3 ∷ []
 
 -- memory of 16 letters with the count 3 at 4104, and with `abc` at 4106 and no count
 abbrev counted : List ℕ
 counted = 97 ∷ 98 ∷ 99 ∷ 100 ∷ 101 ∷ 102 ∷ 103 ∷ 104 ∷ 3 ∷ 0 ∷ 0 ∷ 0 ∷ 0 ∷ 0 ∷ 0 ∷ 0 ∷ []
 
-abbrev landed : List ℕ
-landed = 97 ∷ 98 ∷ 99 ∷ 100 ∷ 101 ∷ 102 ∷ 103 ∷ 104 ∷ 105 ∷ 106 ∷ 97 ∷ 98 ∷ 99 ∷ 110 ∷ 111 ∷ 112 ∷ []
+abbrev landedAbc : List ℕ
+landedAbc = 97 ∷ 98 ∷ 99 ∷ 100 ∷ 101 ∷ 102 ∷ 103 ∷ 104 ∷ 105 ∷ 106 ∷ 97 ∷ 98 ∷ 99 ∷ 110 ∷ 111 ∷ 112 ∷ []
 
 abbrev pub step : Pair → Answer → Step
 step p a = record { pair = p; answer = a }
 
 pub record Promises : Type 0 where
   -- a write of `cde` puts its bytes and its length behind those queued
-  pub written : Wrote three 1 (99 ∷ 100 ∷ 101 ∷ []) ring ring′ table table′ (step (pairWritten three 1 3) (Done (Count 3)))
+  pub written : Wrote three 1 (99 ∷ 100 ∷ 101 ∷ []) ringAbc ringBoth tableAbc tableBoth (step (pairWritten three 1 3) (Done (Count 3)))
   -- over user memory it takes them from its address, and its count lands
-  pub userWritten : UserWrote three 1 4096 0 4098 3 4104 letters counted ring ring′ table table′ (step (pairWritten three 1 3) (Done (Count 3)))
+  pub userWritten : UserWrote three 1 4096 0 4098 3 4104 letters counted ringAbc ringBoth tableAbc tableBoth (step (pairWritten three 1 3) (Done (Count 3)))
   -- refused, it changes nothing
-  pub userRefused : UserWrote three 1 4096 0 4098 3 4105 letters letters ring ring table table (step three (Refused InvalidArgs))
+  pub userRefused : UserWrote three 1 4096 0 4098 3 4105 letters letters ringAbc ringAbc tableAbc tableAbc (step three (Refused InvalidArgs))
   -- a read into 2 bytes delivers the first 2, and the whole datagram leaves
-  pub read : Read three 2 false ring table (0 ∷ 0 ∷ []) (97 ∷ 98 ∷ []) (step (pairRead three 2 false 3 2) (Done (Count 2)))
+  pub read : Read three 2 false ringAbc tableAbc (0 ∷ 0 ∷ []) (97 ∷ 98 ∷ []) (step (pairRead three 2 false 3 2) (Done (Count 2)))
   -- over user memory its bytes land first, the count over them
-  pub bytesRead : BytesRead three 2 4096 0 4106 3 4104 ring table letters landed (step (pairRead three 2 false 3 3) (Done (Count 3)))
-  pub userRead : UserRead three 2 4096 0 4106 3 4104 ring table letters counted (step (pairRead three 2 false 3 3) (Done (Count 3)))
+  pub bytesRead : BytesRead three 2 4096 0 4106 3 4104 ringAbc tableAbc letters landedAbc (step (pairRead three 2 false 3 3) (Done (Count 3)))
+  pub userRead : UserRead three 2 4096 0 4106 3 4104 ringAbc tableAbc letters counted (step (pairRead three 2 false 3 3) (Done (Count 3)))
   -- refused, it changes nothing
-  pub userUnread : UserRead three 2 4096 0 4106 3 4105 ring table letters letters (step three (Refused InvalidArgs))
+  pub userUnread : UserRead three 2 4096 0 4106 3 4105 ringAbc tableAbc letters letters (step three (Refused InvalidArgs))
+  -- a change clears, then sets: a bit that is in both is set. No call makes such a change.
+  pub changed : changedWord 0x3 0x1 0x6 ≡ 0x5

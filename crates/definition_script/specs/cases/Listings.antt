@@ -19,8 +19,8 @@ abbrev pub entry : (tag : ℕ) → (body : List ℕ) → List ℕ
 entry tag b = tag ∷ (littleEndian 2 (length b) ++ b)
 
 -- create with C = 8 and all rights; 13 bytes
-abbrev create : (kind : ℕ) → List ℕ
-create kind = entry 0 (n4 kind ++ (n4 8 ++ (7 ∷ 7 ∷ [])))
+abbrev creates : (kind : ℕ) → List ℕ
+creates kind = entry 0 (n4 kind ++ (n4 8 ++ (7 ∷ 7 ∷ [])))
 
 abbrev moves : (tag handle options address count countAt : ℕ) → List ℕ
 moves tag h o a n at = entry tag (n4 h ++ (n4 o ++ (n8 a ++ (n8 n ++ n8 at))))
@@ -44,13 +44,13 @@ pub record Case : Type 0 where
   pub script : List ℕ
   pub text : List ℕ
 
-abbrev case : (script text : List ℕ) → Case
-case s t = record { script = s; text = t }
+abbrev lists : (script text : List ℕ) → Case
+lists s t = record { script = s; text = t }
 
 -- the worked example
 abbrev example : List ℕ
 example =
-    create 0
+    creates 0
     ++ (entry 9 (n4 2 ++ (n8 5 ++ (n4 1 ++ (0 ∷ []))))
     ++ (fill 65536 abc
     ++ (write 1 3
@@ -108,8 +108,8 @@ abbrev stop20 : List ℕ
 stop20 = 115 ∷ 116 ∷ 111 ∷ 112 ∷ 32 ∷ 50 ∷ 48 ∷ 10 ∷ []
 
 -- 1 3 00000002 00000002
-abbrev filled : List ℕ
-filled = 49 ∷ 32 ∷ 51 ∷ 32 ∷ 48 ∷ 48 ∷ 48 ∷ 48 ∷ 48 ∷ 48 ∷ 48 ∷ 50 ∷ 32 ∷ 48 ∷ 48 ∷ 48 ∷ 48 ∷ 48 ∷ 48 ∷ 48 ∷ 50 ∷ 10 ∷ []
+abbrev filledLine : List ℕ
+filledLine = 49 ∷ 32 ∷ 51 ∷ 32 ∷ 48 ∷ 48 ∷ 48 ∷ 48 ∷ 48 ∷ 48 ∷ 48 ∷ 50 ∷ 32 ∷ 48 ∷ 48 ∷ 48 ∷ 48 ∷ 48 ∷ 48 ∷ 48 ∷ 50 ∷ 10 ∷ []
 
 -- 1 -10 00000002 00000002
 abbrev notFilled : List ℕ
@@ -141,23 +141,23 @@ closed2 = 49 ∷ 32 ∷ 48 ∷ 32 ∷ 48 ∷ 48 ∷ 48 ∷ 48 ∷ 48 ∷ 48 ∷ 
 
 unfoldable pub cases : List Case
 cases =
-    case example (line0 ++ (line1 ++ (line2 ++ (line3 ++ (line4 ++ (line5 ++ (line6 ++ line7)))))))
+    lists example (line0 ++ (line1 ++ (line2 ++ (line3 ++ (line4 ++ (line5 ++ (line6 ++ line7)))))))
     -- empty input
-    ∷ case [] []
+    ∷ lists [] []
     -- a refused create ends the script, whatever follows
-    ∷ case (create 2 ++ take) refusedCreate
+    ∷ lists (creates 2 ++ take) refusedCreate
     -- a first record that is not create, a second create, a tag of 12, a wrong length, a cut record: the offset of its tag
-    ∷ case (take ++ create 0) stop0
-    ∷ case (create 0 ++ (create 0 ++ take)) (line0 ++ stop13)
-    ∷ case (create 0 ++ (entry 12 (n8 65536 ++ abc) ++ take)) (line0 ++ stop13)
-    ∷ case (create 0 ++ (entry 8 (2 ∷ []) ++ take)) (line0 ++ stop13)
-    ∷ case (create 0 ++ (entry 8 (n4 2) ++ (1 ∷ 32 ∷ []))) (line0 ++ (closed2 ++ stop20))
+    ∷ lists (take ++ creates 0) stop0
+    ∷ lists (creates 0 ++ (creates 0 ++ take)) (line0 ++ stop13)
+    ∷ lists (creates 0 ++ (entry 12 (n8 65536 ++ abc) ++ take)) (line0 ++ stop13)
+    ∷ lists (creates 0 ++ (entry 8 (2 ∷ []) ++ take)) (line0 ++ stop13)
+    ∷ lists (creates 0 ++ (entry 8 (n4 2) ++ (1 ∷ 32 ∷ []))) (line0 ++ (closed2 ++ stop20))
     -- a fill below memory; a fill, a write, and info of the end that it went to
-    ∷ case (create 0 ++ fill 65535 abc) (line0 ++ notFilled)
-    ∷ case (create 1 ++ (fill 65536 abc ++ (write 1 3 ++ entry 7 (n4 2)))) (line0 ++ (filled ++ (wrote3 ++ datagramInfo)))
+    ∷ lists (creates 0 ++ fill 65535 abc) (line0 ++ notFilled)
+    ∷ lists (creates 1 ++ (fill 65536 abc ++ (write 1 3 ++ entry 7 (n4 2)))) (line0 ++ (filledLine ++ (wrote3 ++ datagramInfo)))
     -- a peek, and a read whose count lands over its bytes; then nothing is queued
-    ∷ case (create 0 ++ (fill 65536 abc ++ (write 1 3 ++ (moves 2 2 8 65600 3 0 ++ (moves 2 2 0 65600 8 65601 ++ moves 2 2 0 65600 8 0)))))
-    (line0 ++ (filled ++ (wrote3 ++ (peeked ++ (readAll ++ readAgain)))))
+    ∷ lists (creates 0 ++ (fill 65536 abc ++ (write 1 3 ++ (moves 2 2 8 65600 3 0 ++ (moves 2 2 0 65600 8 65601 ++ moves 2 2 0 65600 8 0)))))
+    (line0 ++ (filledLine ++ (wrote3 ++ (peeked ++ (readAll ++ readAgain)))))
     ∷ []
 
 pub record Listings : Type 0 where
