@@ -14,6 +14,8 @@
 #[cfg(feature = "std")]
 extern crate std;
 
+#[cfg(doctest)]
+mod borrows;
 mod flags;
 #[cfg(feature = "std")]
 mod io;

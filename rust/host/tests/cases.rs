@@ -6,10 +6,10 @@ use murgwethan::Status::{
     AccessDenied, BadHandle, BadState, InvalidArgs, NoResources, OutOfRange, PeerClosed, ShouldWait,
 };
 use murgwethan::{
-    Disposition, Dispositions, End, Record, Rights, Shutdown, Signals, SocketPair, Status, Transfer,
+    Disposition, Dispositions, End, Info, Record, Rights, Shutdown, Signals, SocketPair, Status, Transfer,
     UserMemory, WaitMode, MOST_CAPACITY,
 };
-use support::pairs::{datagram, stream, stream_with};
+use support::pairs::{datagram, stream, stream_with, C};
 
 fn words(pair: &SocketPair<'_>) -> [Option<u32>; 2] {
     [End::One, End::Two].map(|end| pair.signals(end).map(Signals::bits))
@@ -100,8 +100,12 @@ fn p12_newest_wait_first() {
             assert_eq!(pair.wait(End::Two, key, Signals::READABLE, WaitMode::Level), Ok(()));
         }
         assert_eq!(pair.write(End::One, b"a"), Ok(1));
-        let keys = [pair.take(), pair.take(), pair.take()].map(|taken| taken.map(|packet| packet.key));
-        assert_eq!(keys, [Ok(2), Ok(1), Err(ShouldWait)]);
+        let newest = pair.take().expect("a packet");
+        assert_eq!((newest.key, newest.trigger), (2, Signals::READABLE));
+        assert_eq!(newest.observed, Signals::READABLE | Signals::WRITABLE);
+        assert_eq!((newest.count, newest.timestamp), (1, 0));
+        let keys = [pair.take(), pair.take()].map(|taken| taken.map(|packet| packet.key));
+        assert_eq!(keys, [Ok(1), Err(ShouldWait)]);
     });
 }
 
@@ -150,6 +154,20 @@ fn user_memory_gets_bytes_and_then_their_count() {
         assert_eq!(bytes, b"ab\x04\0\0\0\0\0\0\0\x09\x09\x09\x09\x09\x09");
         let info = pair.info(End::Two).expect("an open end");
         assert_eq!((info.queued, info.available, info.peer_queued), (4, 4, 0));
+    });
+}
+
+#[test]
+fn info_tells_the_sizes_of_both_queues() {
+    datagram(|pair| {
+        assert_eq!((pair.write(End::One, b"abc"), pair.write(End::One, b"de")), (Ok(3), Ok(2)));
+        assert_eq!(pair.write(End::Two, b"f"), Ok(1));
+        let expected =
+            Info { options: 1, capacity: C, queued: 5, available: 3, peer_capacity: C, peer_queued: 1 };
+        assert_eq!(pair.info(End::Two), Ok(expected));
+        assert_eq!(pair.close(End::One), Ok(()));
+        assert_eq!(pair.info(End::Two), Ok(Info { peer_capacity: 0, peer_queued: 0, ..expected }));
+        assert_eq!(pair.info(End::One), Err(BadHandle));
     });
 }
 

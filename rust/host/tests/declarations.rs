@@ -65,12 +65,6 @@ fn records_are_those_of_the_library() {
     }
 }
 
-/// What docs/HOST.md tells a kernel to set aside.
-#[test]
-fn a_pair_has_the_size_that_is_told() {
-    assert_eq!((size_of::<raw::Pair>(), align_of::<raw::Pair>()), (3192, 8));
-}
-
 #[test]
 fn functions_are_those_of_the_library() {
     let exported = source::functions(&source::rattle_source(Some("host")), &[EXPORTED]);

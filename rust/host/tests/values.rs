@@ -3,9 +3,10 @@
 mod support;
 
 use murgwethan::{
-    Disposition, Dispositions, End, Rights, Shutdown, Signals, SocketPair, Status, UnknownStatus, WaitMode,
+    Disposition, Dispositions, End, Parts, Record, Rights, Shutdown, Signals, SocketPair, Status,
+    UnknownStatus, WaitMode,
 };
-use support::pairs::stream;
+use support::pairs::{datagram, stream};
 
 #[test]
 fn statuses_have_numbers_and_names() {
@@ -86,4 +87,22 @@ fn a_wait_for_an_edge_does_not_count_what_is_there() {
             assert_eq!(pair.take().map(|packet| packet.key), packet, "{mode:?}");
         });
     }
+}
+
+#[test]
+fn what_is_shown_of_a_pair_has_no_bytes() {
+    datagram(|pair| {
+        assert_eq!(pair.write(End::One, &[217; 3]), Ok(3));
+        assert_eq!(pair.close(End::One), Ok(()));
+        let shown = format!("{pair:?}");
+        assert!(
+            shown.contains("one: None") && shown.contains("PEER_CLOSED") && shown.contains("queued: 3"),
+            "{shown}"
+        );
+        assert!(!shown.contains("217"), "{shown}");
+    });
+    let (mut record, mut ring) = (Record::UNMADE, [217; 4]);
+    let (rings, tables) = ([&mut ring[..], &mut []], [&mut [][..], &mut []]);
+    let shown = format!("{:?}", Parts { record: &mut record, rings, tables });
+    assert_eq!(shown, "Parts { rings: [4, 0], tables: [0, 0], .. }");
 }
