@@ -1,6 +1,7 @@
 //! What the tests share: a model written from document 01, calls, slices with guards around them, and new pairs.
 #![allow(dead_code)] // No test uses all of it.
 
+pub mod answers;
 pub mod calls;
 pub mod guarded;
 pub mod model;
