@@ -24,8 +24,8 @@ fn shape_of(number: u64, numbers: &mut Numbers) -> Shape {
 }
 
 const USAGE: &str = "usage: same_calls [SEED]
-Makes a fixed list of calls over bytes that are drawn from the seed, a number, 1 if none is given, and prints a sum
-of the answers. SEQUENCES asks for fewer sequences of calls than 200.";
+Makes a fixed list of calls over bytes that are drawn from the seed, a number, 1 if none is given, and prints
+a sum of the answers. SEQUENCES asks for fewer sequences of calls than 200.";
 
 fn main() -> ExitCode {
     let words: Vec<String> = std::env::args().skip(1).collect();

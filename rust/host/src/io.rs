@@ -5,17 +5,20 @@ use std::io::{Error, ErrorKind, Read, Result, Write};
 
 /// A view of one end of a stream pair that is a reader and a writer. Nothing blocks.
 ///
-/// | Call | [`Status`] | Answer |
+/// | Call | Status | Answer |
 /// |---|---|---|
-/// | `read` | [`PeerClosed`](Status::PeerClosed): nothing is queued and the peer is closed | `Ok(0)`, the end of the file |
-/// | `read` | [`BadState`](Status::BadState): nothing is queued and reading is disabled | `Ok(0)`; more can follow if the peer's writing is enabled again |
-/// | `write` | [`PeerClosed`](Status::PeerClosed), or [`BadState`](Status::BadState): writing is disabled | `BrokenPipe` |
-/// | both | [`ShouldWait`](Status::ShouldWait): nothing is queued, or no space | `WouldBlock` |
-/// | both | [`BadHandle`](Status::BadHandle): the end itself is closed | `NotConnected` |
-/// | `write` | [`InvalidArgs`](Status::InvalidArgs): more than 4294967295 bytes | `InvalidInput` |
+/// | `read` | `PeerClosed`: nothing is queued, and the peer is closed | `Ok(0)`, the end of the file |
+/// | `read` | `BadState`: nothing is queued, and reading is disabled | `Ok(0)`, the end of the file |
+/// | `read` | `ShouldWait`: nothing is queued | `WouldBlock` |
+/// | `write` | `PeerClosed`: the peer is closed | `BrokenPipe` |
+/// | `write` | `BadState`: writing is disabled | `BrokenPipe` |
+/// | `write` | `ShouldWait`: there is no space | `WouldBlock` |
+/// | `write` | `InvalidArgs`: more than 4294967295 bytes | `InvalidInput` |
+/// | both | `BadHandle`: the end itself is closed | `NotConnected` |
 ///
-/// An empty buffer gets `WouldBlock` where nothing is queued, or no space. `flush` does nothing, since nothing
-/// is held back. The status is the source of each error: [`Error::get_ref`] has it.
+/// After a `BadState` more can follow: a disposition can enable the peer's writing again. An empty buffer
+/// gets `WouldBlock` where nothing is queued, or no space. `flush` does nothing, since nothing is held back.
+/// The [`Status`] is the source of each error: [`Error::get_ref`] has it.
 ///
 /// ```
 /// use murgwethan::{End, Record, Rights, SocketPair};

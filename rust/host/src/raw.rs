@@ -2,7 +2,8 @@
 //!
 //! A kernel that keeps a pair and its rings in a way of its own calls these; [`SocketPair`] is easier to
 //! use. All of them are safe with any record, handle, number and slice: the library demands nothing of
-//! its caller. Each answers one word: a count, 0 for a call without one, or a [`Status`] as a negative number.
+//! its caller. Each answers one word: a count, 0 for a call without one, or a [`Status`] as a negative
+//! number.
 //!
 //! A call is refused with the first status of its list that applies, and then changes nothing. Where a list
 //! has "the record", it is one that no run leaves: a capacity of 0 or above 262144, more than 128 places

@@ -1,6 +1,6 @@
-//! The declarations in `src/raw.rs` and `src/raw/exports.rs` are those of the library: the records in Rattle's source, the
-//! functions that the crate `host` exports, and what the archive defines and needs. So are those in
-//! `include/murgwethan.h`, as a C compiler sees them.
+//! The declarations in `src/raw.rs` and `src/raw/exports.rs` are those of the library: the records in
+//! Rattle's source, the functions that the crate `host` exports, and what the archive defines and needs. So
+//! are those in `include/murgwethan.h`, as a C compiler sees them.
 
 #[path = "support/header.rs"]
 mod header;

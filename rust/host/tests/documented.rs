@@ -1,5 +1,5 @@
-//! The documentation of each call of `raw` names the statuses that it can have: those that the random sequences
-//! see, and INTERNAL for a damaged record. Create and signal test no record.
+//! The documentation of each call of `raw` names the statuses that it can have: those that the random
+//! sequences see, and INTERNAL for a damaged record. Create and signal test no record.
 
 mod support;
 

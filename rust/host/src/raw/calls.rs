@@ -81,10 +81,11 @@ pub fn write(pair: &mut Pair, handle: u32, ring: &mut [u8], table: &mut [u32], b
     }
 }
 
-/// Reads from the end's own queue, or with `peek` leaves the bytes queued. The ring and the table are its own.
+/// Reads from the end's own queue; with `peek` the bytes stay queued. The ring and the table are its own.
 ///
-/// Answers how many bytes were delivered: of a stream as many as the buffer holds, of a datagram pair those of
-/// the first datagram, of which what the buffer does not hold is dropped. An empty buffer consumes nothing.
+/// Answers how many bytes were delivered: of a stream as many as the buffer holds, of a datagram pair those
+/// of the first datagram, of which what the buffer does not hold is dropped. An empty buffer consumes
+/// nothing.
 ///
 /// # Errors
 ///
@@ -273,7 +274,8 @@ pub fn signal(pair: &mut Pair, handle: u32) -> i64 {
 ///    datagram pair the table has.
 /// 3. [`Internal`](crate::Status::Internal): the first length queued in the table is 0 or above the bytes
 ///    queued there. With a handle that is neither 1 nor 2, 2 and 3 are not tested.
-/// 4. [`InvalidArgs`](crate::Status::InvalidArgs): options other than 0, or the address 0 with a count above 0.
+/// 4. [`InvalidArgs`](crate::Status::InvalidArgs): options other than 0, or the address 0 with a count above
+///    0.
 /// 5. [`BadHandle`](crate::Status::BadHandle): the handle is neither 1 nor 2, or its end is closed.
 /// 6. [`AccessDenied`](crate::Status::AccessDenied): the end lacks the right to write.
 /// 7. [`InvalidArgs`](crate::Status::InvalidArgs): a count above 4294967295.

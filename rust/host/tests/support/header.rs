@@ -107,14 +107,14 @@ fn in_rust(kind: &str) -> String {
     found.unwrap_or_else(|| panic!("an unknown type `{kind}`")).1.to_string()
 }
 
-/// Compiles a program over the header, links it with the archive and runs it: what it prints. The options name
-/// the language.
+/// Compiles a program over the header, links it with the archive and runs it: what it prints. The options
+/// name the language.
 pub fn run(compiler: &str, options: &[&str], source: &Path, program: &str) -> String {
     let program: PathBuf = Path::new(env!("CARGO_TARGET_TMPDIR")).join(program);
     let include = concat!("-I", env!("CARGO_MANIFEST_DIR"), "/include");
     let mut compile = Command::new(compiler);
     compile.args(options).args(["-Wall", "-Wextra", "-Werror", "-pedantic", include, "-o"]).arg(&program);
-    // What follows the archive is no text of that language.
+    // The archive is no text of that language.
     compile.arg(source).args(["-x", "none", env!("MURGWETHAN_ARCHIVE")]);
     let output = compile.output().unwrap_or_else(|error| panic!("{compiler}: {error}"));
     let said = String::from_utf8_lossy(&output.stderr);

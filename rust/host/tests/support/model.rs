@@ -192,14 +192,14 @@ fn end_from(end: &raw::Endpoint) -> End {
 
 fn record_of(end: &End) -> raw::Endpoint {
     let span = |line: Line| raw::Span { start: line.start as u32, count: line.len as u32 };
-    raw::Endpoint {
-        closed: !end.open,
-        read_disabled: end.reading_disabled,
-        rights: end.rights,
-        signals: end.word,
-        thresholds: raw::Thresholds { read: end.read_threshold, write: end.write_threshold },
-        queue: raw::Queue { bytes: span(end.bytes), lengths: span(end.lengths) },
-    }
+    let mut record = raw::Pair::UNMADE.one;
+    record.closed = !end.open;
+    record.read_disabled = end.reading_disabled;
+    record.rights = end.rights;
+    record.signals = end.word;
+    record.thresholds = raw::Thresholds { read: end.read_threshold, write: end.write_threshold };
+    record.queue = raw::Queue { bytes: span(end.bytes), lengths: span(end.lengths) };
+    record
 }
 
 // "Status and answer word": create, and the tests that come before all others.
