@@ -13,8 +13,8 @@
  * - Each end keeps its own ring and table from create on, and nobody else writes them. A write is lent those of the
  *   peer; a read and an info those of the end itself.
  *
- * Statuses stand in the order of their tests. Every call but create and signal begins with these, which are not said
- * again: INTERNAL for a record that no run leaves; where a ring or a table is lent to it and the handle is 1 or 2,
+ * Statuses stand in the order of their tests. Every call but create begins with these, which are not said again:
+ * INTERNAL for a record that no run leaves; where a ring or a table is lent to it and the handle is 1 or 2,
  * INVALID_ARGS if one that is used has fewer entries than the capacity, and INTERNAL if the first length in the table
  * is 0 or above the bytes queued there. Tables are used on datagram pairs only. BAD_HANDLE: the handle is neither 1 nor
  * 2, or its end is closed.
@@ -160,7 +160,7 @@ int64_t murgwethan_read(struct murgwethan_pair *p, uint32_t handle, bool peek, c
                         const uint32_t *table, size_t table_len, uint8_t *buffer, size_t buffer_len);
 
 /*
- * Disables or enables the writing of an end and of its peer; any other number leaves it as it is. BAD_HANDLE;
+ * Disables, enables or leaves the writing of an end and of its peer. BAD_HANDLE; INVALID_ARGS: a number above 2;
  * BAD_STATE: writing would be enabled while bytes are queued that were sent before it was disabled.
  */
 int64_t murgwethan_set_disposition(struct murgwethan_pair *p, uint32_t handle, uint32_t disposition,
@@ -202,7 +202,7 @@ int64_t murgwethan_take(struct murgwethan_pair *p, uint64_t out[5]);
 /* Closes an end: its queue and its waits are gone, and an open peer is told by its signal word. BAD_HANDLE. */
 int64_t murgwethan_close(struct murgwethan_pair *p, uint32_t handle);
 
-/* Answers the signal word of an end. The record is not tested. BAD_HANDLE. */
+/* Answers the signal word of an end. BAD_HANDLE. */
 int64_t murgwethan_signal(struct murgwethan_pair *p, uint32_t handle);
 
 /*

@@ -1,5 +1,5 @@
 //! The documentation of each call of `raw` names the statuses that it can have: those that the random
-//! sequences see, and INTERNAL for a damaged record. Create and signal test no record.
+//! sequences see, and INTERNAL for a damaged record. Create tests no record; signal is no call of a sequence.
 
 mod support;
 
@@ -38,8 +38,11 @@ fn expected() -> BTreeMap<&'static str, BTreeSet<i64>> {
         let statuses = answers.iter().copied().filter(|answer| *answer < 0);
         (*name, statuses.chain([Status::Internal.number()]).collect())
     });
-    let others = [("create", Status::InvalidArgs), ("signal", Status::BadHandle)];
-    of_runs.chain(others.map(|(name, status)| (name, BTreeSet::from([status.number()])))).collect()
+    let others = [
+        ("create", BTreeSet::from([Status::InvalidArgs.number()])),
+        ("signal", BTreeSet::from([Status::Internal, Status::BadHandle].map(Status::number))),
+    ];
+    of_runs.chain(others).collect()
 }
 
 #[test]

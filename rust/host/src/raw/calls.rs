@@ -118,8 +118,7 @@ pub fn read(pair: &mut Pair, handle: u32, peek: bool, ring: &[u8], table: &[u32]
     }
 }
 
-/// Disables (1) or enables (2) the writing of an end and of its peer; any other number leaves it as it is. No
-/// right is asked for.
+/// Disables (1), enables (2) or leaves (0) the writing of an end and of its peer. No right is asked for.
 ///
 /// Answers 0.
 ///
@@ -127,7 +126,8 @@ pub fn read(pair: &mut Pair, handle: u32, peek: bool, ring: &[u8], table: &[u32]
 ///
 /// 1. [`Internal`](crate::Status::Internal): the record.
 /// 2. [`BadHandle`](crate::Status::BadHandle): the handle is neither 1 nor 2, or its end is closed.
-/// 3. [`BadState`](crate::Status::BadState): writing would be enabled while bytes are queued that were sent
+/// 3. [`InvalidArgs`](crate::Status::InvalidArgs): a number above 2.
+/// 4. [`BadState`](crate::Status::BadState): writing would be enabled while bytes are queued that were sent
 ///    before it was disabled.
 #[inline]
 pub fn set_disposition(pair: &mut Pair, handle: u32, own: u32, peer: u32) -> i64 {
@@ -255,8 +255,8 @@ pub fn close(pair: &mut Pair, handle: u32) -> i64 {
 ///
 /// # Errors
 ///
-/// [`BadHandle`](crate::Status::BadHandle): the handle is neither 1 nor 2, or its end is closed. The record
-/// is not tested: of one that no run leaves, the word that stands there is answered.
+/// 1. [`Internal`](crate::Status::Internal): the record.
+/// 2. [`BadHandle`](crate::Status::BadHandle): the handle is neither 1 nor 2, or its end is closed.
 #[inline]
 pub fn signal(pair: &mut Pair, handle: u32) -> i64 {
     exports::murgwethan_signal(pair, handle)
@@ -379,7 +379,7 @@ pub fn user_read(
 /// 2. [`InvalidArgs`](crate::Status::InvalidArgs): a number above 2.
 /// 3. [`BadHandle`](crate::Status::BadHandle): the handle is neither 1 nor 2, or its end is closed.
 /// 4. [`AccessDenied`](crate::Status::AccessDenied): the end lacks the right to manage.
-/// 5. [`BadState`](crate::Status::BadState): as 3 of [`set_disposition`].
+/// 5. [`BadState`](crate::Status::BadState): as 4 of [`set_disposition`].
 #[inline]
 pub fn user_set_disposition(pair: &mut Pair, handle: u32, own: u32, peer: u32) -> i64 {
     exports::murgwethan_user_set_disposition(pair, handle, own, peer)

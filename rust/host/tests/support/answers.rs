@@ -5,7 +5,7 @@ pub const ANSWERS: [(&str, &[i64]); 16] = [
     ("write", &[1, 0, -10, -11, -14, -20, -22, -24]),
     ("read", &[1, 0, -10, -11, -20, -22, -24]),
     ("peek", &[1, 0, -10, -11, -20, -22, -24]),
-    ("set_disposition", &[0, -11, -20]),
+    ("set_disposition", &[0, -10, -11, -20]),
     ("shutdown", &[0, -11]),
     ("set_read_threshold", &[0, -10, -11]),
     ("set_write_threshold", &[0, -10, -11, -24]),

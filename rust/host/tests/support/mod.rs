@@ -4,6 +4,7 @@
 pub mod answers;
 pub mod calls;
 pub mod guarded;
+pub mod host;
 pub mod model;
 pub mod numbers;
 pub mod pairs;

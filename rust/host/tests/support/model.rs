@@ -311,9 +311,9 @@ impl Model {
         Ok(0)
     }
 
-    /// The signal word, -11 for a closed end and for a handle that is none.
+    /// The signal word; -1 for a damaged record, -11 for a closed end and for a handle that is none.
     pub fn signal(&self, handle: u32) -> i64 {
-        self.open_end(handle).map_or(-11, |end| self.ends[end].word.into())
+        word(self.opening(handle).map(|end| self.ends[end].word.into()))
     }
 }
 
@@ -486,11 +486,11 @@ impl Model {
         }
     }
 
-    /// The plain call has no refused number: those above 2 leave the writing as it is.
+    /// The plain call looks at the numbers after the handle, the one over user memory before it.
     pub fn set_disposition(&mut self, handle: u32, own: u32, peer: u32) -> Answer {
         let end = self.opening(handle)?;
-        let asked = |number| if number > 2 { 0 } else { number };
-        self.dispose(end, asked(own), asked(peer))
+        refuse_if(own > 2 || peer > 2, -10)?;
+        self.dispose(end, own, peer)
     }
 
     fn shut(&mut self, end: usize, read: bool, write: bool) {
