@@ -4,15 +4,7 @@
 mod kept;
 mod leak;
 mod marks;
-#[allow(dead_code)]
-mod support {
-    #[path = "../../../tests/support/calls.rs"]
-    pub mod calls;
-    #[path = "../../../tests/support/host.rs"]
-    pub mod host;
-    #[path = "../../../tests/support/numbers.rs"]
-    pub mod numbers;
-}
+mod support;
 
 use kept::Kept;
 use leak::Leak;
