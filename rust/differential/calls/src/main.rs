@@ -38,7 +38,9 @@ fn asked(words: &[String]) -> Option<(Source, u64)> {
 fn main() -> ExitCode {
     run(USAGE, |words| {
         let asked = asked(&words);
-        let (source, count) = asked.ok_or_else(|| Stop::Words("two or three numbers are expected behind plain or memory".to_string()))?;
+        let (source, count) = asked.ok_or_else(|| {
+            Stop::Words("two or three numbers are expected behind plain or memory".to_string())
+        })?;
         Ok(compare_lists(source, count))
     })
 }
