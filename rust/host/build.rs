@@ -19,13 +19,21 @@ fn main() {
     };
     println!("cargo:rerun-if-changed={}", archive.display());
     println!("cargo:rustc-env={VARIABLE}={}", archive.display());
+    // Where nothing is linked (cargo check, cargo doc) there need be no archive.
+    if !archive.exists() {
+        println!(
+            "cargo:warning=no archive at {}: to link, run rt staticlib host, or set {VARIABLE} to one",
+            archive.display()
+        );
+    }
     if let Some(folder) = archive.parent() {
         println!("cargo:rustc-link-search=native={}", folder.display());
     }
-    println!("cargo:rustc-link-lib=static:-bundle=host");
+    // The archive becomes a part of this crate's library, and so of a kernel that is a `staticlib`.
+    println!("cargo:rustc-link-lib=static=host");
 }
 
-/// The whole path of the archive, or why there is none to link.
+/// The whole path of the archive, whether it is there or not. It has the name that the linker looks for.
 fn archive() -> Result<PathBuf, String> {
     let given = env::var(VARIABLE).ok().filter(|path| !path.is_empty());
     let path = match given {
@@ -35,7 +43,5 @@ fn archive() -> Result<PathBuf, String> {
     if path.file_name().is_none_or(|name| name != "libhost.a") {
         return Err(format!("{VARIABLE} must name a file libhost.a, not {}", path.display()));
     }
-    path.canonicalize().map_err(|error| {
-        format!("{}: {error}: run rt staticlib host, or set {VARIABLE} to the archive", path.display())
-    })
+    std::path::absolute(&path).map_err(|error| format!("{}: {error}", path.display()))
 }

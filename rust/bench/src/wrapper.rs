@@ -3,7 +3,7 @@
 use crate::best::Cell;
 use crate::work::elapsed;
 use murgwethan::raw::{self, Pair};
-use murgwethan::{End, Rights, SocketPair};
+use murgwethan::{End, Record, Rights, SocketPair};
 use std::hint::black_box;
 
 const CAPACITY: u32 = 4096;
@@ -15,9 +15,9 @@ fn rings() -> Rings {
     [(); 2].map(|()| vec![0; CAPACITY as usize])
 }
 
-/// Makes a pair over the rings and lends it. Nothing else here knows how one is made.
-fn with_pair<T>([one, two]: &mut Rings, call: impl FnOnce(&mut SocketPair) -> T) -> T {
-    let pair = SocketPair::stream(CAPACITY, [Rights::ALL; 2], [one, two]);
+/// Makes a pair in the record, over the rings, and lends it. Nothing else here knows how one is made.
+fn with_pair<T>(record: &mut Record, [one, two]: &mut Rings, call: impl FnOnce(&mut SocketPair) -> T) -> T {
+    let pair = SocketPair::stream(record, CAPACITY as usize, [Rights::ALL; 2], [one, two]);
     call(&mut pair.expect("a good create"))
 }
 
@@ -55,9 +55,9 @@ fn raw_passes() -> Cell {
 
 fn creates() -> Cell {
     Box::new(|passes| {
-        let mut rings = rings();
+        let (mut record, mut rings) = (Record::UNMADE, rings());
         elapsed(passes, || {
-            with_pair(&mut rings, |pair| {
+            with_pair(&mut record, &mut rings, |pair| {
                 black_box(pair);
             })
         })
@@ -66,8 +66,8 @@ fn creates() -> Cell {
 
 fn passes() -> Cell {
     Box::new(|passes| {
-        let (mut rings, mut bytes) = (rings(), [7; SMALL]);
-        with_pair(&mut rings, |pair| elapsed(passes, || pass(pair, &mut bytes)))
+        let (mut record, mut rings, mut bytes) = (Record::UNMADE, rings(), [7; SMALL]);
+        with_pair(&mut record, &mut rings, |pair| elapsed(passes, || pass(pair, &mut bytes)))
     })
 }
 

@@ -3,6 +3,7 @@
 
 pub mod branches;
 pub mod cases;
+pub mod command;
 pub mod compare;
 pub mod draw;
 pub mod endings;

@@ -1,7 +1,9 @@
 //! A writer passes rows to a reader, each as one datagram. The reader waits for them; the writer waits
 //! for space. Nothing blocks: a wait leaves a packet, and a loop takes packets.
 
-use murgwethan::{Disposition, End, Packet, Rights, Signals, SocketPair, Status};
+use murgwethan::{
+    Disposition, Dispositions, End, Packet, Record, Rights, Signals, SocketPair, Status, WaitMode,
+};
 use std::io::{self, Write};
 
 const CAPACITY: usize = 32;
@@ -53,7 +55,7 @@ fn receive(pair: &mut SocketPair<'_>, out: &mut impl Write) -> io::Result<Status
 /// Takes packets until there is none, and lets writer and reader act on them.
 fn serve(pair: &mut SocketPair<'_>, sent: &mut usize, out: &mut impl Write) -> io::Result<()> {
     while let Ok(Packet { key, observed, .. }) = pair.take() {
-        writeln!(out, "packet {key}, observed {:#x}", observed.bits())?;
+        writeln!(out, "packet {key}, observed {observed:?}")?;
         if key == SPACE {
             *sent = send(pair, *sent, out)?;
             continue;
@@ -61,8 +63,8 @@ fn serve(pair: &mut SocketPair<'_>, sent: &mut usize, out: &mut impl Write) -> i
         let status = receive(pair, out)?;
         writeln!(out, "nothing more to read: {status}")?;
         if *sent < LIST.len() {
-            report(out, pair.wait(READER, ROWS, Signals::READABLE, false))?;
-            report(out, pair.wait(WRITER, SPACE, Signals::WRITE_THRESHOLD, false))?;
+            report(out, pair.wait(READER, ROWS, Signals::READABLE, WaitMode::Level))?;
+            report(out, pair.wait(WRITER, SPACE, Signals::WRITE_THRESHOLD, WaitMode::Level))?;
         }
     }
     Ok(())
@@ -75,10 +77,10 @@ fn report(out: &mut impl Write, done: Result<(), Status>) -> io::Result<()> {
     }
 }
 
-fn show(pair: &mut SocketPair<'_>, out: &mut impl Write) -> io::Result<()> {
+fn show(pair: &SocketPair<'_>, out: &mut impl Write) -> io::Result<()> {
     for (name, end) in [("writer", WRITER), ("reader", READER)] {
         match pair.signals(end) {
-            Some(signals) => writeln!(out, "{name} shows {:#x}", signals.bits())?,
+            Some(signals) => writeln!(out, "{name} shows {signals:?}")?,
             None => writeln!(out, "{name} is closed")?,
         }
     }
@@ -90,27 +92,28 @@ fn show(pair: &mut SocketPair<'_>, out: &mut impl Write) -> io::Result<()> {
 
 /// Passes the list through a pair and says what happened.
 pub fn run(out: &mut impl Write) -> io::Result<()> {
-    let (mut ring_one, mut ring_two) = ([0; CAPACITY], [0; CAPACITY]);
+    let (mut record, mut ring_one, mut ring_two) = (Record::UNMADE, [0; CAPACITY], [0; CAPACITY]);
     let (mut table_one, mut table_two) = ([0; CAPACITY], [0; CAPACITY]);
     let (rings, tables) = ([&mut ring_one[..], &mut ring_two], [&mut table_one[..], &mut table_two]);
     let rights = [Rights::WRITE | Rights::MANAGE, Rights::READ];
-    let mut pair = match SocketPair::datagram(CAPACITY as u32, rights, rings, tables) {
+    let mut pair = match SocketPair::datagram(&mut record, CAPACITY, rights, rings, tables) {
         Ok(pair) => pair,
-        Err(status) => return writeln!(out, "no pair: {status}"),
+        Err(refused) => return writeln!(out, "{refused}"),
     };
-    report(out, pair.set_write_threshold(WRITER, CAPACITY as u64 / 2))?;
-    report(out, pair.wait(READER, ROWS, Signals::READABLE, false))?;
+    report(out, pair.set_write_threshold(WRITER, CAPACITY / 2))?;
+    report(out, pair.wait(READER, ROWS, Signals::READABLE, WaitMode::Level))?;
     let mut sent = send(&mut pair, 0, out)?;
     serve(&mut pair, &mut sent, out)?;
-    show(&mut pair, out)?;
-    report(out, pair.set_disposition(WRITER, Disposition::Disable, Disposition::Unchanged))?;
+    show(&pair, out)?;
+    let disabled = Dispositions { own: Disposition::Disable, peer: Disposition::Unchanged };
+    report(out, pair.set_disposition(WRITER, disabled))?;
     writeln!(out, "a write now: {:?}", pair.write(WRITER, b"8 silver"))?;
     let status = receive(&mut pair, out)?;
     writeln!(out, "a read now: {status}")?;
     report(out, pair.close(WRITER))?;
     let status = receive(&mut pair, out)?;
     writeln!(out, "a read after the writer closed: {status}")?;
-    show(&mut pair, out)
+    show(&pair, out)
 }
 
 fn main() -> io::Result<()> {

@@ -4,6 +4,7 @@
 #[path = "../tests/support/mod.rs"]
 mod support;
 
+use std::process::ExitCode;
 use support::calls::{Call, Most, Shape};
 use support::numbers::Numbers;
 use support::sides::Sides;
@@ -22,9 +23,33 @@ fn shape_of(number: u64, numbers: &mut Numbers) -> Shape {
     Shape { capacity: 9000, base: 65_536, memory: 10_000, ..shape }
 }
 
-fn main() {
-    let seed = std::env::args().nth(1).and_then(|text| text.parse().ok()).unwrap_or(1);
-    let (mut sum, mut calls) = (0, 0u64);
+const USAGE: &str = "usage: same_calls [SEED]
+Makes a fixed list of calls over bytes that are drawn from the seed, a number, 1 if none is given, and prints
+a sum of the answers. SEQUENCES asks for fewer sequences of calls than 200.";
+
+fn main() -> ExitCode {
+    let words: Vec<String> = std::env::args().skip(1).collect();
+    let seed = match words.as_slice() {
+        [] => Some(1),
+        [word] if word == "--help" => {
+            println!("{USAGE}");
+            return ExitCode::SUCCESS;
+        }
+        [word] => word.parse().ok(),
+        _ => None,
+    };
+    let Some(seed) = seed else {
+        eprintln!("{USAGE}");
+        return ExitCode::from(2);
+    };
+    let (calls, sum) = make_calls(seed);
+    println!("{calls} calls, sum of answers, signals and records {sum:016x}");
+    ExitCode::SUCCESS
+}
+
+/// How many calls were made over the bytes of a seed, and the sum of their answers.
+fn make_calls(seed: u64) -> (u64, u64) {
+    let (mut sum, mut calls) = (0, 0);
     for number in 0..support::sequences(200) {
         let mut numbers = Numbers::new(number);
         let shape = shape_of(number, &mut numbers);
@@ -36,5 +61,5 @@ fn main() {
             calls += 1;
         }
     }
-    println!("{calls} calls, sum of answers, signals and records {sum:016x}");
+    (calls, sum)
 }

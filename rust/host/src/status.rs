@@ -3,6 +3,14 @@
 use core::fmt;
 
 /// Why a call is refused. A refused call changes nothing. The numbers are Zircon's.
+///
+/// ```
+/// use murgwethan::Status;
+///
+/// assert_eq!(i64::from(Status::ShouldWait), -22);
+/// assert_eq!(Status::try_from(-22), Ok(Status::ShouldWait));
+/// assert_eq!(Status::ShouldWait.to_string(), "SHOULD_WAIT (-22)");
+/// ```
 #[derive(Clone, Copy, Debug, Eq, Hash, PartialEq)]
 #[repr(i64)]
 pub enum Status {
@@ -40,9 +48,9 @@ impl Status {
         Status::AccessDenied,
     ];
 
-    /// The status of an answer's word, if it is one.
-    pub fn from_word(word: i64) -> Option<Status> {
-        Status::ALL.into_iter().find(|status| status.number() == word)
+    /// The status of a number, if it is one's. An answer's word is a status if it is negative.
+    pub fn from_number(number: i64) -> Option<Status> {
+        Status::ALL.into_iter().find(|status| status.number() == number)
     }
 
     /// The status as a negative number.
@@ -74,12 +82,38 @@ impl fmt::Display for Status {
 
 impl core::error::Error for Status {}
 
+impl From<Status> for i64 {
+    fn from(status: Status) -> i64 {
+        status.number()
+    }
+}
+
+/// A number that is no status.
+#[derive(Clone, Copy, Debug, Eq, Hash, PartialEq)]
+pub struct UnknownStatus(pub i64);
+
+impl fmt::Display for UnknownStatus {
+    fn fmt(&self, formatter: &mut fmt::Formatter<'_>) -> fmt::Result {
+        write!(formatter, "{} is no status", self.0)
+    }
+}
+
+impl core::error::Error for UnknownStatus {}
+
+impl TryFrom<i64> for Status {
+    type Error = UnknownStatus;
+
+    fn try_from(number: i64) -> Result<Status, UnknownStatus> {
+        Status::from_number(number).ok_or(UnknownStatus(number))
+    }
+}
+
 /// The count of an answer's word, or its status. The library answers no other negative number than a
 /// status; one would be taken for `Internal`.
 pub(crate) fn answer(word: i64) -> Result<usize, Status> {
     match usize::try_from(word) {
         Ok(count) => Ok(count),
-        Err(_) => Err(Status::from_word(word).unwrap_or(Status::Internal)),
+        Err(_) => Err(Status::from_number(word).unwrap_or(Status::Internal)),
     }
 }
 

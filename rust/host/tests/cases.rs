@@ -1,34 +1,23 @@
 //! Document 01's cases at the edges, through the types of this crate. C is 8.
 
+mod support;
+
 use murgwethan::Status::{
     AccessDenied, BadHandle, BadState, InvalidArgs, NoResources, OutOfRange, PeerClosed, ShouldWait,
 };
 use murgwethan::{
-    Disposition, End, Rights, Signals, SocketPair, Status, Transfer, UserMemory, MOST_CAPACITY,
+    Disposition, Dispositions, End, Info, Record, Rights, Shutdown, Signals, SocketPair, Status, Transfer,
+    UserMemory, WaitMode, MOST_CAPACITY,
 };
+use support::pairs::{datagram, stream, stream_with, C};
 
-const C: usize = 8;
-
-/// Runs a case on a new pair.
-fn stream_with(rights: Rights, case: impl FnOnce(&mut SocketPair<'_>)) {
-    let (mut one, mut two) = ([0; C], [0; C]);
-    let pair = SocketPair::stream(C as u32, [rights; 2], [&mut one, &mut two]);
-    case(&mut pair.expect("a new pair"));
-}
-
-fn stream(case: impl FnOnce(&mut SocketPair<'_>)) {
-    stream_with(Rights::ALL, case);
-}
-
-fn datagram(case: impl FnOnce(&mut SocketPair<'_>)) {
-    let (mut ring_one, mut ring_two) = ([0; C], [0; C]);
-    let (mut table_one, mut table_two) = ([0; C], [0; C]);
-    let (rings, tables) = ([&mut ring_one[..], &mut ring_two], [&mut table_one[..], &mut table_two]);
-    case(&mut SocketPair::datagram(C as u32, [Rights::ALL; 2], rings, tables).expect("a new pair"));
-}
-
-fn words(pair: &mut SocketPair<'_>) -> [Option<u32>; 2] {
+fn words(pair: &SocketPair<'_>) -> [Option<u32>; 2] {
     [End::One, End::Two].map(|end| pair.signals(end).map(Signals::bits))
+}
+
+/// What is done to the writing of the end of the call alone.
+fn own(own: Disposition) -> Dispositions {
+    Dispositions { own, ..Dispositions::default() }
 }
 
 fn read(pair: &mut SocketPair<'_>, end: End, n: usize) -> Result<Vec<u8>, Status> {
@@ -68,7 +57,7 @@ fn p4_to_p7_datagrams() {
 #[test]
 fn p8_and_p9_empty_queue_and_threshold() {
     stream(|pair| {
-        assert_eq!(pair.shutdown(End::Two, true, false), Ok(()));
+        assert_eq!(pair.shutdown(End::Two, Shutdown::Read), Ok(()));
         assert_eq!(read(pair, End::Two, 1), Err(BadState));
         assert_eq!(pair.close(End::One), Ok(()));
         assert_eq!(read(pair, End::Two, 1), Err(PeerClosed));
@@ -98,11 +87,8 @@ fn p10_shutdown_of_both() {
 fn p11_enable_over_queued_bytes() {
     stream(|pair| {
         assert_eq!(pair.write(End::One, b"a"), Ok(1));
-        assert_eq!(pair.set_disposition(End::One, Disposition::Disable, Disposition::Unchanged), Ok(()));
-        assert_eq!(
-            pair.set_disposition(End::One, Disposition::Enable, Disposition::Unchanged),
-            Err(BadState)
-        );
+        assert_eq!(pair.set_disposition(End::One, own(Disposition::Disable)), Ok(()));
+        assert_eq!(pair.set_disposition(End::One, own(Disposition::Enable)), Err(BadState));
         assert_eq!(pair.user_set_disposition(1, 3, 0), Err(InvalidArgs));
     });
 }
@@ -111,11 +97,15 @@ fn p11_enable_over_queued_bytes() {
 fn p12_newest_wait_first() {
     stream(|pair| {
         for key in [1, 2] {
-            assert_eq!(pair.wait(End::Two, key, Signals::READABLE, false), Ok(()));
+            assert_eq!(pair.wait(End::Two, key, Signals::READABLE, WaitMode::Level), Ok(()));
         }
         assert_eq!(pair.write(End::One, b"a"), Ok(1));
-        let keys = [pair.take(), pair.take(), pair.take()].map(|taken| taken.map(|packet| packet.key));
-        assert_eq!(keys, [Ok(2), Ok(1), Err(ShouldWait)]);
+        let newest = pair.take().expect("a packet");
+        assert_eq!((newest.key, newest.trigger), (2, Signals::READABLE));
+        assert_eq!(newest.observed, Signals::READABLE | Signals::WRITABLE);
+        assert_eq!((newest.count, newest.timestamp), (1, 0));
+        let keys = [pair.take(), pair.take()].map(|taken| taken.map(|packet| packet.key));
+        assert_eq!(keys, [Ok(1), Err(ShouldWait)]);
     });
 }
 
@@ -123,7 +113,7 @@ fn p12_newest_wait_first() {
 fn p13_disabled_writer_of_a_full_queue() {
     stream(|pair| {
         assert_eq!(pair.write(End::One, &[1; 8]), Ok(8));
-        assert_eq!(pair.set_disposition(End::One, Disposition::Disable, Disposition::Unchanged), Ok(()));
+        assert_eq!(pair.set_disposition(End::One, own(Disposition::Disable)), Ok(()));
         assert_eq!(read(pair, End::Two, 1), Ok(vec![1]));
         assert_eq!(words(pair)[0], Some(0x22));
     });
@@ -168,38 +158,54 @@ fn user_memory_gets_bytes_and_then_their_count() {
 }
 
 #[test]
+fn info_tells_the_sizes_of_both_queues() {
+    datagram(|pair| {
+        assert_eq!((pair.write(End::One, b"abc"), pair.write(End::One, b"de")), (Ok(3), Ok(2)));
+        assert_eq!(pair.write(End::Two, b"f"), Ok(1));
+        let expected =
+            Info { options: 1, capacity: C, queued: 5, available: 3, peer_capacity: C, peer_queued: 1 };
+        assert_eq!(pair.info(End::Two), Ok(expected));
+        assert_eq!(pair.close(End::One), Ok(()));
+        assert_eq!(pair.info(End::Two), Ok(Info { peer_capacity: 0, peer_queued: 0, ..expected }));
+        assert_eq!(pair.info(End::One), Err(BadHandle));
+    });
+}
+
+#[test]
 fn all_places_used() {
     stream(|pair| {
         for key in 0..128 {
-            assert_eq!(pair.wait(End::One, key, Signals::PEER_CLOSED, false), Ok(()));
+            assert_eq!(pair.wait(End::One, key, Signals::PEER_CLOSED, WaitMode::Level), Ok(()));
         }
-        assert_eq!(pair.wait(End::One, 0, Signals::PEER_CLOSED, false), Err(NoResources));
+        assert_eq!(pair.wait(End::One, 0, Signals::PEER_CLOSED, WaitMode::Level), Err(NoResources));
         assert_eq!(pair.close(End::Two), Ok(()));
         let packet = pair.take().expect("a packet");
         assert_eq!((packet.key, packet.observed, packet.count), (127, Signals::PEER_CLOSED, 1));
-        assert_eq!(pair.wait(End::One, 0, Signals::PEER_CLOSED, true), Ok(()));
+        assert_eq!(pair.wait(End::One, 0, Signals::PEER_CLOSED, WaitMode::Edge), Ok(()));
     });
 }
 
 /// Creates a stream pair over rings of these lengths.
-fn create_stream(capacity: u32, rings: [usize; 2]) -> Result<(), Status> {
-    let [mut one, mut two] = rings.map(|len| vec![0; len]);
-    SocketPair::stream(capacity, [Rights::ALL; 2], [&mut one, &mut two]).map(|_| ())
+fn create_stream(capacity: usize, rings: [usize; 2]) -> Result<(), Status> {
+    let (mut record, [mut one, mut two]) = (Record::UNMADE, rings.map(|len| vec![0; len]));
+    SocketPair::stream(&mut record, capacity, [Rights::ALL; 2], [&mut one, &mut two])?;
+    Ok(())
 }
 
 /// Creates a datagram pair over rings and tables of these lengths.
-fn create_datagram(capacity: u32, rings: [usize; 2], tables: [usize; 2]) -> Result<(), Status> {
-    let [mut ring_one, mut ring_two] = rings.map(|len| vec![0; len]);
+fn create_datagram(capacity: usize, rings: [usize; 2], tables: [usize; 2]) -> Result<(), Status> {
+    let (mut record, [mut ring_one, mut ring_two]) = (Record::UNMADE, rings.map(|len| vec![0; len]));
     let [mut table_one, mut table_two] = tables.map(|len| vec![0; len]);
     let (rings, tables) = ([&mut ring_one[..], &mut ring_two], [&mut table_one[..], &mut table_two]);
-    SocketPair::datagram(capacity, [Rights::ALL; 2], rings, tables).map(|_| ())
+    SocketPair::datagram(&mut record, capacity, [Rights::ALL; 2], rings, tables)?;
+    Ok(())
 }
 
 #[test]
 fn create_refuses_what_it_cannot_keep() {
     assert_eq!(create_stream(8, [8, 9]), Ok(()));
     assert_eq!(create_datagram(8, [8, 9], [9, 8]), Ok(()));
-    for capacity in [0, MOST_CAPACITY + 1, u32::MAX] {
+    for capacity in [0, MOST_CAPACITY + 1, u32::MAX as usize, (1 << 32) + 8] {
         assert_eq!(create_stream(capacity, [8, 8]), Err(InvalidArgs));
         assert_eq!(create_datagram(capacity, [8, 8], [8, 8]), Err(InvalidArgs));
     }
@@ -208,14 +214,4 @@ fn create_refuses_what_it_cannot_keep() {
         assert_eq!(create_datagram(8, short, [8, 8]), Err(InvalidArgs));
         assert_eq!(create_datagram(8, [8, 8], short), Err(InvalidArgs));
     }
-}
-
-#[test]
-fn statuses_have_numbers_and_names() {
-    for status in Status::ALL {
-        assert_eq!(Status::from_word(status.number()), Some(status));
-    }
-    assert_eq!((Status::from_word(0), Status::from_word(-2)), (None, None));
-    assert_eq!(PeerClosed.to_string(), "PEER_CLOSED (-24)");
-    assert_eq!((Rights::from_bits(7), Rights::from_bits(8)), (Some(Rights::ALL), None));
 }

@@ -167,7 +167,7 @@ fn make_strange(record: &mut Pair, numbers: &mut Numbers) {
     for end in [&mut record.one, &mut record.two] {
         end.closed = numbers.one_in(5);
         end.read_disabled = numbers.one_in(3);
-        end.rights = numbers.next() as u32;
+        end.rights = numbers.next() as u16;
         end.signals = numbers.next() as u32;
         end.thresholds.read = numbers.pick(&[0, 1, capacity, capacity + 1, u64::MAX]);
         end.thresholds.write = numbers.pick(&[0, 1, capacity, capacity + 1, u64::MAX]);
@@ -179,6 +179,7 @@ fn make_strange(record: &mut Pair, numbers: &mut Numbers) {
             _ => numbers.next() as u32,
         };
     }
+    (record.spare1, record.spare2) = (numbers.next() as u8, numbers.next() as u16);
     let packets = numbers.below(129) as usize;
     record.places.packets = packets;
     record.places.waits = numbers.below(129 - packets as u64) as usize;

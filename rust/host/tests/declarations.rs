@@ -1,15 +1,21 @@
-//! The declarations in `src/raw.rs` are those of the library: the records in Rattle's source, the
-//! functions that the crate `host` exports, and what the archive defines and needs.
+//! The declarations in `src/raw.rs` and `src/raw/exports.rs` are those of the library: the records in
+//! Rattle's source, the functions that the crate `host` exports, and what the archive defines and needs. So
+//! are those in `include/murgwethan.h`, as a C compiler sees them.
 
+#[path = "support/header.rs"]
+mod header;
 mod support;
 
-use murgwethan::raw;
-use std::collections::BTreeSet;
+use murgwethan::{raw, Disposition, Rights, Shutdown, Signals, Status, MOST_CAPACITY, PLACES};
+use std::collections::{BTreeMap, BTreeSet};
+use std::fs;
 use std::mem::{align_of, offset_of, size_of};
+use std::path::Path;
 use std::process::Command;
 use support::source::{self, Record};
 
-const RAW: &str = include_str!("../src/raw.rs");
+const RECORDS: &str = include_str!("../src/raw.rs");
+const EXPORTS: &str = include_str!("../src/raw/exports.rs");
 /// How the declaration of an exported function begins.
 const EXPORTED: &str = "pub extern \"C\" fn ";
 
@@ -49,8 +55,8 @@ fn record_named<'r>(records: &'r [Record], name: &str) -> &'r Record {
 
 #[test]
 fn records_are_those_of_the_library() {
-    let theirs = source::records(&source::rattle_source(None));
-    let ours = source::records(RAW);
+    let theirs = source::records(&source::rattle_source("definition"));
+    let ours = source::records(RECORDS);
     for (name, offsets, size, alignment) in laid_records() {
         let record = record_named(&theirs, name);
         assert_eq!(record_named(&ours, name).fields, record.fields, "fields of {name}");
@@ -59,19 +65,11 @@ fn records_are_those_of_the_library() {
     }
 }
 
-/// What docs/HOST.md tells a kernel to set aside.
-#[test]
-fn a_pair_has_the_size_that_is_told() {
-    assert_eq!((size_of::<raw::Pair>(), align_of::<raw::Pair>()), (3176, 8));
-}
-
 #[test]
 fn functions_are_those_of_the_library() {
-    let exported = source::functions(&source::rattle_source(Some("host")), &[EXPORTED]);
+    let exported = source::functions(&source::rattle_source("host"), &[EXPORTED]);
     let expected: Vec<_> = exported.iter().map(source::as_c_sees).collect();
-    let mut declared = source::functions(RAW, &["        pub fn ", "        pub safe fn "]);
-    declared.retain(|function| function.name.starts_with("murgwethan_"));
-    assert_eq!(declared, expected);
+    assert_eq!(source::functions(EXPORTS, &["pub fn ", "pub safe fn "]), expected);
 }
 
 /// The symbols that `nm` lists for the archive with these options.
@@ -94,7 +92,103 @@ fn the_archive_needs_memory_functions_only() {
 
 #[test]
 fn the_archive_defines_the_exported_calls_only() {
-    let exported = source::functions(&source::rattle_source(Some("host")), &[EXPORTED]);
+    let exported = source::functions(&source::rattle_source("host"), &[EXPORTED]);
     let names: BTreeSet<_> = exported.into_iter().map(|function| function.name).collect();
     assert_eq!(symbols(&["-g", "--defined-only"]), names);
+}
+
+#[test]
+fn the_header_declares_the_functions_of_the_library() {
+    let exported = source::functions(&source::rattle_source("host"), &[EXPORTED]);
+    let expected: Vec<_> = exported.iter().map(source::as_c_sees).collect();
+    assert_eq!(header::functions(), expected);
+}
+
+/// A program that prints a line for each of the numbers that the header settles.
+fn program_of(lines: &[(String, String)]) -> String {
+    let prints = lines
+        .iter()
+        .map(|(name, number)| format!("    printf(\"{name} %lld\\n\", (long long)({number}));\n"));
+    let prints: String = prints.collect();
+    format!("#include \"murgwethan.h\"\n#include <stdio.h>\nint main(void) {{\n{prints}    return 0;\n}}\n")
+}
+
+/// The numbers that a C compiler has for names, each by what it is computed from.
+fn in_c(lines: &[(String, String)], name: &str) -> BTreeMap<String, i64> {
+    let source = Path::new(env!("CARGO_TARGET_TMPDIR")).join(format!("{name}.c"));
+    fs::write(&source, program_of(lines)).expect("a folder for the program");
+    let said = header::run("cc", &["-std=c99"], &source, name);
+    let numbers = said.lines().filter_map(|line| line.split_once(' '));
+    numbers.map(|(name, number)| (name.to_string(), number.parse().expect("a number"))).collect()
+}
+
+#[test]
+fn the_header_has_the_records_of_the_library() {
+    let theirs = source::records(&source::rattle_source("definition"));
+    let (mut asked, mut expected) = (Vec::new(), BTreeMap::new());
+    let records = header::records();
+    assert_eq!(records.len(), laid_records().len());
+    for (name, ..) in laid_records() {
+        let record = record_named(&theirs, name);
+        assert_eq!(record_named(&records, name).fields, record.fields, "fields of {name}");
+        let (offsets, size, _) = source::layout(record, &theirs);
+        let in_c = format!("struct murgwethan_{}", name.to_lowercase());
+        asked.push((name.to_string(), format!("sizeof({in_c})")));
+        expected.insert(name.to_string(), size as i64);
+        for ((field, _), offset) in record.fields.iter().zip(offsets) {
+            asked.push((format!("{name}.{field}"), format!("offsetof({in_c}, {field})")));
+            expected.insert(format!("{name}.{field}"), offset as i64);
+        }
+    }
+    assert_eq!(in_c(&asked, "records"), expected);
+}
+
+/// The names of a word's bits, with their numbers.
+fn bits(prefix: &str, shown: impl Fn(u32) -> Option<String>) -> Vec<(String, i64)> {
+    let bits = (0..u32::BITS).map(|at| 1 << at);
+    let named =
+        bits.filter_map(|bit| Some((shown(bit)?.split_once('(')?.1.trim_end_matches(')').to_string(), bit)));
+    let named = named.filter(|(name, _)| !name.starts_with("0x"));
+    named.map(|(name, bit)| (format!("{prefix}{name}"), i64::from(bit))).collect()
+}
+
+/// The constants that the header has to have.
+fn expected_constants() -> BTreeMap<String, i64> {
+    let statuses = Status::ALL.map(|status| (format!("ERR_{}", status.name()), status.number()));
+    let signals = bits("SIGNAL_", |bit| Some(format!("{:?}", Signals::from_bits(bit))));
+    let rights = bits("RIGHT_", |bit| Rights::from_bits(bit).map(|rights| format!("{rights:?}")));
+    let others = [
+        ("STREAM", 0),
+        ("DATAGRAM", 1),
+        ("UNCHANGED", Disposition::Unchanged as i64),
+        ("DISABLE", Disposition::Disable as i64),
+        ("ENABLE", Disposition::Enable as i64),
+        ("SHUTDOWN_WRITE", Shutdown::Write as i64),
+        ("SHUTDOWN_READ", Shutdown::Read as i64),
+        ("PEEK", 8),
+        ("PLACES", PLACES as i64),
+        ("MOST_CAPACITY", MOST_CAPACITY as i64),
+    ];
+    let others = others.map(|(name, number)| (name.to_string(), number));
+    let all = statuses.into_iter().chain(signals).chain(rights).chain(others);
+    all.map(|(name, number)| (format!("MURGWETHAN_{name}"), number)).collect()
+}
+
+#[test]
+fn the_header_has_the_constants_of_this_crate() {
+    let asked: Vec<_> = header::constants().into_iter().map(|name| (name.clone(), name)).collect();
+    assert_eq!(in_c(&asked, "constants"), expected_constants());
+}
+
+#[test]
+fn programs_in_c_make_calls() {
+    let source = Path::new(env!("CARGO_MANIFEST_DIR")).join("tests/support/calls.c");
+    for language in ["-std=c99", "-std=c11", "-std=c17"] {
+        assert_eq!(header::run("cc", &[language], &source, &format!("calls{language}")), "");
+    }
+    if Command::new("c++").arg("--version").output().is_err() {
+        println!("c++ is missing: the header was compiled as C only");
+        return;
+    }
+    assert_eq!(header::run("c++", &["-std=c++17", "-x", "c++"], &source, "calls-c++"), "");
 }

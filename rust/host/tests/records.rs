@@ -2,20 +2,19 @@
 //! the bytes moved, on what the rings, the tables, the stack or the record itself held before.
 #![allow(unsafe_code)] // A record is seen as its bytes.
 
-#[allow(dead_code)]
-#[path = "support/calls.rs"]
-mod calls;
-#[allow(dead_code)]
-#[path = "support/numbers.rs"]
-mod numbers;
+mod support;
 
-use calls::{Call, Lend, Most, Shape, What};
 use murgwethan::raw::{self, Endpoint, Pair, Place, Places, Queue, Span, Thresholds};
-use numbers::Numbers;
 use std::hint::black_box;
 use std::mem::{offset_of, size_of};
+use support::calls::{Call, Most, Shape};
+use support::host::{lent_end, lent_lengths, Host};
+use support::numbers::Numbers;
+use support::sequences;
 
 const SIZE: usize = size_of::<Pair>();
+/// Sequences of calls that each test runs.
+const SEQUENCES: u64 = 1000;
 /// More than any call needs of the stack.
 const STACK: usize = 65_536;
 /// Where a record has its flags, which are bytes of 0 or 1 at all times.
@@ -102,41 +101,20 @@ impl Run {
     fn call(&mut self, call: &Call) -> i64 {
         self.contents.bytes(&mut self.memory);
         self.contents.bytes(&mut self.plain);
+        let end = lent_end(call);
+        let (ring, table) = lent_lengths(call.lend, &self.shape);
         let stack = self.contents.next() as u8;
-        let own = usize::from(call.handle == 2);
-        let end = if matches!(call.what, What::Write { .. } | What::UserWrite(_)) { 1 - own } else { own };
-        let (ring, table) = lent(call.lend, &mut self.rings[end], &mut self.tables[end]);
-        let (pair, base, memory) = (self.kept.pair(), self.shape.base, &mut self.memory[..]);
-        let (handle, plain) = (call.handle, &mut self.plain[..]);
-        let mut out = ([0; 2], [0; 5], [0; 6]);
+        let host = Host {
+            pair: self.kept.pair(),
+            ring: &mut self.rings[end][..ring],
+            table: &mut self.tables[end][..table],
+            base: self.shape.base,
+            memory: &mut self.memory,
+            plain: &mut self.plain,
+            out: &mut [0; 6],
+        };
         fill_stack(stack);
-        match call.what {
-            What::Write { n } => raw::write(pair, handle, ring, table, &plain[..n]),
-            What::Read { peek, n } => raw::read(pair, handle, peek, ring, table, &mut plain[..n]),
-            What::UserWrite(transfer) => raw::user_write(pair, handle, base, memory, transfer, ring, table),
-            What::UserRead(transfer) => raw::user_read(pair, handle, base, memory, transfer, ring, table),
-            What::SetDisposition { own, peer } => raw::set_disposition(pair, handle, own, peer),
-            What::UserSetDisposition { own, peer } => raw::user_set_disposition(pair, handle, own, peer),
-            What::Shutdown { read, write } => raw::shutdown(pair, handle, read, write),
-            What::UserShutdown { options } => raw::user_shutdown(pair, handle, options),
-            What::SetReadThreshold { threshold } => raw::set_read_threshold(pair, handle, threshold),
-            What::SetWriteThreshold { threshold } => raw::set_write_threshold(pair, handle, threshold),
-            What::Wait { key, mask, edge } => raw::wait(pair, handle, key, mask, edge),
-            What::Close => raw::close(pair, handle),
-            What::Thresholds => raw::thresholds(pair, handle, &mut out.0),
-            What::Take => raw::take(pair, &mut out.1),
-            What::Info => raw::info(pair, handle, table, &mut out.2),
-        }
-    }
-}
-
-/// What a call is lent of a ring and its table.
-fn lent<'a>(lend: Lend, ring: &'a mut [u8], table: &'a mut [u32]) -> (&'a mut [u8], &'a mut [u32]) {
-    match lend {
-        Lend::Whole => (ring, table),
-        Lend::ShortRing => (&mut [], table),
-        Lend::ShortTable => (ring, &mut []),
-        Lend::Nothing => (&mut [], &mut []),
+        host.call(call)
     }
 }
 
@@ -149,10 +127,6 @@ fn assert_same(one: &Kept, two: &Kept, context: &str) {
             one[at], two[at]
         );
     }
-}
-
-fn sequences() -> u64 {
-    std::env::var("SEQUENCES").ok().and_then(|text| text.parse().ok()).unwrap_or(1000).min(1000)
 }
 
 /// The bytes of a record's fields, one after the other.
@@ -197,7 +171,7 @@ fn every_byte_is_one_of_a_field() {
 
 #[test]
 fn create_leaves_nothing_of_what_the_record_held() {
-    for number in 0..sequences() {
+    for number in 0..sequences(SEQUENCES) {
         let shape = Shape::random(&mut Numbers::new(number));
         let mut runs = [1, 2].map(|seed| Run::new(shape, 2 * number + seed));
         assert_eq!(runs.each_mut().map(Run::create), [0; 2], "{shape:?}");
@@ -207,7 +181,7 @@ fn create_leaves_nothing_of_what_the_record_held() {
 
 #[test]
 fn a_refused_create_leaves_the_record_as_it_is() {
-    for number in 0..sequences() {
+    for number in 0..sequences(SEQUENCES) {
         let mut shape = Shape::random(&mut Numbers::new(number));
         match number % 4 {
             0 => shape.kind = 2,
@@ -227,7 +201,7 @@ fn a_refused_create_leaves_the_record_as_it_is() {
 
 #[test]
 fn two_runs_leave_the_same_record() {
-    for number in 0..sequences() {
+    for number in 0..sequences(SEQUENCES) {
         let mut numbers = Numbers::new(number);
         let shape = Shape::random(&mut numbers);
         let mut runs = [1, 2].map(|seed| Run::new(shape, 2 * number + seed));
@@ -248,7 +222,7 @@ fn two_runs_leave_the_same_record() {
 /// Create sets the spare fields to 0; a call finds any number there and leaves it.
 #[test]
 fn spare_fields_are_kept() {
-    for number in 0..sequences() {
+    for number in 0..sequences(SEQUENCES) {
         let mut numbers = Numbers::new(number);
         let shape = Shape::random(&mut numbers);
         let mut runs = [1, 2].map(|seed| Run::new(shape, 2 * number + seed));

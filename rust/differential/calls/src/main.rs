@@ -6,10 +6,16 @@
 use calls::compare::compare;
 use calls::exported::exported;
 use calls::generate::Source;
+use differential::command::{run, Stop};
 use std::process::ExitCode;
 use std::time::Instant;
 
 const WORKERS: usize = 2;
+const USAGE: &str = "usage: calls plain|memory SEED COUNT [C]
+
+Makes COUNT random lists of calls through the exported calls and through the original, compares after
+every call, and ends with 1 at a difference. plain: without user memory; memory: with it. C, from 1 to
+262144, is the capacity of every pair; else it is drawn.";
 
 /// The source of lists and their number.
 fn asked(words: &[String]) -> Option<(Source, u64)> {
@@ -30,11 +36,16 @@ fn asked(words: &[String]) -> Option<(Source, u64)> {
 }
 
 fn main() -> ExitCode {
-    let words: Vec<String> = std::env::args().skip(1).collect();
-    let Some((source, count)) = asked(&words) else {
-        eprintln!("usage: calls plain|memory SEED COUNT [C], with C from 1 to 262144");
-        return ExitCode::from(2);
-    };
+    run(USAGE, |words| {
+        let asked = asked(&words);
+        let (source, count) = asked.ok_or_else(|| {
+            Stop::Words("two or three numbers are expected behind plain or memory".to_string())
+        })?;
+        Ok(compare_lists(source, count))
+    })
+}
+
+fn compare_lists(source: Source, count: u64) -> ExitCode {
     let start = Instant::now();
     let (tally, difference) = compare(source, count, &exported, WORKERS);
     print!("{tally}");

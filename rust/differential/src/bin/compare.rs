@@ -1,6 +1,7 @@
 //! Compares the oracle with a program on many scripts. Prints the first
 //! difference with a small script that shows it, and counts.
 
+use differential::command::{self, Stop};
 use differential::compare::{compare, Difference, Program};
 use differential::source::{Source, USAGE};
 use script::text::decode;
@@ -11,20 +12,20 @@ use std::time::Instant;
 const PROGRAM: &str = "../../target/bin/socket_script";
 
 fn main() -> ExitCode {
-    let words: Vec<String> = std::env::args().skip(1).collect();
-    match run(words) {
-        Ok(code) => code,
-        Err(what) => {
-            eprintln!("{what}");
-            eprintln!("usage: compare [--workers N] SCRIPTS [-- PROGRAM [ARGUMENT...]]");
-            eprintln!("scripts: {USAGE}");
-            eprintln!("program: {PROGRAM} unless given");
-            ExitCode::from(2)
-        }
-    }
+    let usage = format!(
+        "usage: compare [--workers N] SCRIPTS [-- PROGRAM [ARGUMENT...]]
+
+Runs scripts through the original and through PROGRAM, prints what was covered and the first
+difference, cut down, and ends with 1 where there is one.
+
+SCRIPTS  {USAGE}
+PROGRAM  takes a script on standard input (default: {PROGRAM})
+N        scripts at a time (default 2)"
+    );
+    command::run(&usage, run)
 }
 
-fn run(mut words: Vec<String>) -> Result<ExitCode, String> {
+fn run(mut words: Vec<String>) -> Result<ExitCode, Stop> {
     let mut program = vec![PROGRAM.to_string()];
     if let Some(place) = words.iter().position(|word| word == "--") {
         program = words.split_off(place).split_off(1);
@@ -32,11 +33,11 @@ fn run(mut words: Vec<String>) -> Result<ExitCode, String> {
     let mut workers = 2;
     if words.first().is_some_and(|word| word == "--workers") {
         let number = words.get(1).and_then(|word| word.parse().ok());
-        workers = number.ok_or("--workers takes a number")?;
+        workers = number.ok_or("--workers takes a number".to_string())?;
         words.drain(..2);
     }
     if program.is_empty() {
-        return Err("no program after --".to_string());
+        return Err(Stop::Words("no program after --".to_string()));
     }
     let source = Source::parse(&words)?;
     let start = Instant::now();

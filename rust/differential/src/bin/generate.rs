@@ -2,24 +2,34 @@
 //! files of a folder: `generate random SEED COUNT --into FOLDER`,
 //! `generate enumerate DEPTH C KIND [START]`.
 
+use differential::command::{run, Stop};
 use differential::source::{Source, USAGE};
 use differential::stream;
 use std::io::{self, Write};
 use std::path::Path;
 use std::process::ExitCode;
 
-fn main() -> io::Result<ExitCode> {
-    let mut words: Vec<String> = std::env::args().skip(1).collect();
-    let folder = match words.iter().position(|word| word == "--into") {
-        Some(place) => words.split_off(place).get(1).cloned(),
-        None => None,
-    };
-    match Source::parse(&words) {
-        Ok(source) => write(&source, folder.as_deref().map(Path::new)).map(|()| ExitCode::SUCCESS),
-        Err(what) => {
-            eprintln!("{what}\nusage: generate SCRIPTS [--into FOLDER]\nscripts: {USAGE}");
-            Ok(ExitCode::from(2))
-        }
+fn main() -> ExitCode {
+    let usage = format!(
+        "usage: generate SCRIPTS [--into FOLDER]
+
+Writes scripts to standard output, each after its four-byte length, or one to a file of FOLDER.
+
+SCRIPTS  {USAGE}"
+    );
+    run(&usage, |mut words| {
+        let folder = folder(&mut words)?;
+        write(&Source::parse(&words)?, folder.as_deref().map(Path::new))?;
+        Ok(ExitCode::SUCCESS)
+    })
+}
+
+/// Takes the folder off the words, if one is given behind them.
+fn folder(words: &mut Vec<String>) -> Result<Option<String>, Stop> {
+    let Some(place) = words.iter().position(|word| word == "--into") else { return Ok(None) };
+    match &words.split_off(place)[..] {
+        [_, folder] => Ok(Some(folder.clone())),
+        _ => Err(Stop::Words("--into takes one folder".to_string())),
     }
 }
 

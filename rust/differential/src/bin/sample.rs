@@ -2,18 +2,25 @@
 //! which name, script and listing stand in turn, each after its four-byte
 //! little-endian length.
 
+use differential::command::{run, Stop};
 use differential::sample;
+use std::fs;
 use std::process::ExitCode;
-use std::{env, fs, io};
 
-fn main() -> io::Result<ExitCode> {
-    let Some(file) = env::args().nth(1) else {
-        eprintln!("usage: sample FILE");
-        return Ok(ExitCode::from(2));
-    };
-    let scripts = sample::scripts();
-    let stored = sample::stored(&scripts);
-    fs::write(&file, &stored)?;
-    println!("{} scripts, {} bytes", scripts.len(), stored.len());
-    Ok(ExitCode::SUCCESS)
+const USAGE: &str = "usage: sample FILE
+
+Writes the stored scripts with their names and listings to FILE.";
+
+fn main() -> ExitCode {
+    run(USAGE, |words| {
+        let file = match &words[..] {
+            [file] if !file.starts_with('-') => file,
+            _ => return Err(Stop::Words("one file is expected".to_string())),
+        };
+        let scripts = sample::scripts();
+        let stored = sample::stored(&scripts);
+        fs::write(file, &stored).map_err(|error| Stop::Failed(format!("{file}: {error}")))?;
+        println!("{} scripts, {} bytes", scripts.len(), stored.len());
+        Ok(ExitCode::SUCCESS)
+    })
 }

@@ -1,7 +1,8 @@
 //! A pair with all that its calls are lent: rings, user memory and plain slices hold undefined bytes.
 
-use crate::calls::{Call, Lend, Shape, What};
 use crate::marks;
+use crate::support::calls::{Call, Shape, What};
+use crate::support::host::{lent_end, lent_lengths, Host};
 use murgwethan::raw;
 
 pub struct Kept {
@@ -12,20 +13,6 @@ pub struct Kept {
     memory: Vec<u8>,
     plain: Vec<u8>,
     out: [u64; 6],
-}
-
-/// How many entries are lent of a slice that a call may be lent short.
-fn lent_length(shape: &Shape, lend: Lend, short: Lend) -> usize {
-    let capacity = shape.capacity as usize;
-    match lend {
-        Lend::Nothing => 0,
-        _ if lend == short => capacity - 1,
-        _ => capacity + shape.beyond,
-    }
-}
-
-fn array<const N: usize>(out: &mut [u64; 6]) -> &mut [u64; N] {
-    out.first_chunk_mut().expect("at most six numbers")
 }
 
 impl Kept {
@@ -66,29 +53,18 @@ impl Kept {
     pub fn call(&mut self, call: &Call) -> i64 {
         marks::make_undefined(&mut self.memory);
         marks::make_undefined(&mut self.plain);
-        let own = usize::from(call.handle == 2);
-        let end = if matches!(call.what, What::Write { .. } | What::UserWrite(_)) { 1 - own } else { own };
-        let ring = &mut self.rings[end][..lent_length(&self.shape, call.lend, Lend::ShortRing)];
-        let table = &mut self.tables[end][..lent_length(&self.shape, call.lend, Lend::ShortTable)];
-        let (pair, handle, base) = (&mut self.pair, call.handle, self.shape.base);
-        let (memory, plain, out) = (&mut self.memory, &mut self.plain, &mut self.out);
-        match call.what {
-            What::Write { n } => raw::write(pair, handle, ring, table, &plain[..n]),
-            What::Read { peek, n } => raw::read(pair, handle, peek, ring, table, &mut plain[..n]),
-            What::UserWrite(transfer) => raw::user_write(pair, handle, base, memory, transfer, ring, table),
-            What::UserRead(transfer) => raw::user_read(pair, handle, base, memory, transfer, ring, table),
-            What::Info => raw::info(pair, handle, table, array(out)),
-            What::Thresholds => raw::thresholds(pair, handle, array(out)),
-            What::Take => raw::take(pair, array(out)),
-            What::SetDisposition { own, peer } => raw::set_disposition(pair, handle, own, peer),
-            What::UserSetDisposition { own, peer } => raw::user_set_disposition(pair, handle, own, peer),
-            What::Shutdown { read, write } => raw::shutdown(pair, handle, read, write),
-            What::UserShutdown { options } => raw::user_shutdown(pair, handle, options),
-            What::SetReadThreshold { threshold } => raw::set_read_threshold(pair, handle, threshold),
-            What::SetWriteThreshold { threshold } => raw::set_write_threshold(pair, handle, threshold),
-            What::Wait { key, mask, edge } => raw::wait(pair, handle, key, mask, edge),
-            What::Close => raw::close(pair, handle),
-        }
+        let end = lent_end(call);
+        let (ring, table) = lent_lengths(call.lend, &self.shape);
+        let host = Host {
+            pair: &mut self.pair,
+            ring: &mut self.rings[end][..ring],
+            table: &mut self.tables[end][..table],
+            base: self.shape.base,
+            memory: &mut self.memory,
+            plain: &mut self.plain,
+            out: &mut self.out,
+        };
+        host.call(call)
     }
 
     /// The bytes that a call delivered, where no count landed over them.
@@ -104,22 +80,8 @@ impl Kept {
         }
     }
 
-    /// Every number that the calls leave: the record and what was last put out.
-    pub fn numbers(&self) -> Vec<u64> {
-        let raw::Places { packets, waits, table } = &self.pair.places;
-        let mut numbers = vec![self.pair.datagram.into(), self.pair.capacity.into()];
-        numbers.extend([*packets as u64, *waits as u64]);
-        numbers.extend(self.out);
-        for end in [&self.pair.one, &self.pair.two] {
-            numbers.extend([end.closed, end.read_disabled].map(u64::from));
-            numbers.extend([end.rights, end.signals].map(u64::from));
-            numbers.extend([end.thresholds.read, end.thresholds.write]);
-            let spans = [end.queue.bytes, end.queue.lengths];
-            numbers.extend(spans.iter().flat_map(|span| [span.start, span.count]).map(u64::from));
-        }
-        numbers.extend(
-            table.iter().flat_map(|place| [place.key, place.mask.into(), place.observed.into(), place.end]),
-        );
-        numbers
+    /// Whether each byte of the record, which has no padding, and of what was last put out is defined.
+    pub fn is_defined(&self) -> bool {
+        marks::is_defined(&[self.out]) && marks::is_defined(std::slice::from_ref(&self.pair))
     }
 }

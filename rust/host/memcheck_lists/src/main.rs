@@ -1,22 +1,17 @@
 //! Runs random lists of the exported calls while memcheck takes every byte of rings, user memory and plain slices
 //! for undefined. The script `memcheck` starts it under valgrind and says what is shown.
 
-#[path = "../../tests/support/calls.rs"]
-#[allow(dead_code)]
-mod calls;
 mod kept;
 mod leak;
 mod marks;
-#[path = "../../tests/support/numbers.rs"]
-#[allow(dead_code)]
-mod numbers;
+mod support;
 
-use calls::{Call, Most, Shape, What};
 use kept::Kept;
 use leak::Leak;
-use numbers::Numbers;
 use std::collections::BTreeMap;
 use std::process::ExitCode;
+use support::calls::{Call, Most, Shape, What};
+use support::numbers::Numbers;
 
 const USAGE: &str = "usage: memcheck_lists [--leak jump|address|answer] LISTS
 
@@ -75,7 +70,7 @@ fn run_call(kept: &mut Kept, call: &Call, leak: Option<Leak>, tally: &mut Tally)
     let name = exported(&call.what);
     let word = kept.call(call);
     count(tally, name, word)?;
-    if !marks::is_defined(&kept.numbers()) {
+    if !kept.is_defined() {
         return Err(format!("what {name} left in the record or put out depends on a byte"));
     }
     let delivered = kept.delivered(call, word);

@@ -1,10 +1,13 @@
-//! What the tests share: a model written from document 01, calls, and slices with guards around them.
+//! What the tests share: a model written from document 01, calls, slices with guards around them, new pairs.
 #![allow(dead_code)] // No test uses all of it.
 
+pub mod answers;
 pub mod calls;
 pub mod guarded;
+pub mod host;
 pub mod model;
 pub mod numbers;
+pub mod pairs;
 pub mod sides;
 pub mod source;
 

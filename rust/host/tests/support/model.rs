@@ -96,6 +96,8 @@ impl Memory<'_> {
 
 pub struct Model {
     datagram: bool,
+    /// What the record has in its spare fields, which stays.
+    spare: (u8, u16),
     capacity: u64,
     ends: [End; 2],
     packets: Vec<Wait>,
@@ -144,6 +146,7 @@ impl Model {
         let list = |places: &[raw::Place]| places.iter().map(wait_of).collect();
         Model {
             datagram: record.datagram,
+            spare: (record.spare1, record.spare2),
             capacity: record.capacity.into(),
             ends: [end_from(&record.one), end_from(&record.two)],
             packets: list(fired),
@@ -159,6 +162,7 @@ impl Model {
         }
         let mut record = raw::Pair::UNMADE;
         record.datagram = self.datagram;
+        (record.spare1, record.spare2) = self.spare;
         record.capacity = self.capacity as u32;
         record.one = record_of(&self.ends[0]);
         record.two = record_of(&self.ends[1]);
@@ -181,7 +185,7 @@ fn end_from(end: &raw::Endpoint) -> End {
     End {
         open: !end.closed,
         reading_disabled: end.read_disabled,
-        rights: end.rights,
+        rights: end.rights.into(),
         word: end.signals,
         read_threshold: end.thresholds.read,
         write_threshold: end.thresholds.write,
@@ -195,7 +199,7 @@ fn record_of(end: &End) -> raw::Endpoint {
     raw::Endpoint {
         closed: !end.open,
         read_disabled: end.reading_disabled,
-        rights: end.rights,
+        rights: end.rights as u16,
         signals: end.word,
         thresholds: raw::Thresholds { read: end.read_threshold, write: end.write_threshold },
         queue: raw::Queue { bytes: span(end.bytes), lengths: span(end.lengths) },
@@ -220,7 +224,7 @@ impl Model {
         record.capacity = capacity;
         for (end, word) in [&mut record.one, &mut record.two].into_iter().zip(rights) {
             end.closed = false;
-            end.rights = word;
+            end.rights = word as u16;
             end.signals = WRITABLE;
         }
         Ok(Model::of(&record))
@@ -307,9 +311,9 @@ impl Model {
         Ok(0)
     }
 
-    /// The signal word, -11 for a closed end and for a handle that is none.
+    /// The signal word; -1 for a damaged record, -11 for a closed end and for a handle that is none.
     pub fn signal(&self, handle: u32) -> i64 {
-        self.open_end(handle).map_or(-11, |end| self.ends[end].word.into())
+        word(self.opening(handle).map(|end| self.ends[end].word.into()))
     }
 }
 
@@ -482,11 +486,11 @@ impl Model {
         }
     }
 
-    /// The plain call has no refused number: those above 2 leave the writing as it is.
+    /// The plain call looks at the numbers after the handle, the one over user memory before it.
     pub fn set_disposition(&mut self, handle: u32, own: u32, peer: u32) -> Answer {
         let end = self.opening(handle)?;
-        let asked = |number| if number > 2 { 0 } else { number };
-        self.dispose(end, asked(own), asked(peer))
+        refuse_if(own > 2 || peer > 2, -10)?;
+        self.dispose(end, own, peer)
     }
 
     fn shut(&mut self, end: usize, read: bool, write: bool) {

@@ -1,8 +1,9 @@
 //! One pair kept twice: by the host's calls over guarded slices, and by the model over copies of them.
 //! Every call is made on both sides, and all that it may have changed is compared.
 
-use super::calls::{Call, Lend, Shape, What};
+use super::calls::{Call, Shape, What};
 use super::guarded::Guarded;
+use super::host::{array, lent_end, lent_lengths, Host};
 use super::model::{self, Lent, Memory, Model};
 use super::numbers::Numbers;
 use murgwethan::raw;
@@ -75,29 +76,8 @@ pub struct Sides {
     contents: Numbers,
 }
 
-/// The end whose ring and table a call is lent; end 1's with a handle that is none.
-fn lent_end(call: &Call) -> usize {
-    let own = usize::from(call.handle == 2);
-    match call.what {
-        What::Write { .. } | What::UserWrite(_) => 1 - own,
-        _ => own,
-    }
-}
-
-/// How many entries of a ring and of a table are lent.
-fn lent_lengths(lend: Lend, shape: &Shape) -> (usize, usize) {
-    let whole = shape.capacity as usize + shape.beyond;
-    let short = shape.capacity as usize - 1;
-    match lend {
-        Lend::Whole => (whole, whole),
-        Lend::ShortRing => (short, whole),
-        Lend::ShortTable => (whole, short),
-        Lend::Nothing => (0, 0),
-    }
-}
-
-fn array<const N: usize>(out: &mut [u64]) -> &mut [u64; N] {
-    out.first_chunk_mut().expect("six numbers")
+fn six(out: &mut [u64]) -> &mut [u64; 6] {
+    out.try_into().expect("six numbers")
 }
 
 impl Sides {
@@ -189,21 +169,16 @@ impl Sides {
     fn on_host(&mut self, call: &Call) -> i64 {
         let end = lent_end(call);
         let (ring, table) = lent_lengths(call.lend, &self.shape);
-        let ring = &mut self.ours.rings[end].slice_mut()[..ring];
-        let table = &mut self.ours.tables[end].slice_mut()[..table];
-        let (pair, handle, base) = (&mut self.kept[1], call.handle, self.shape.base);
-        let (memory, plain) = (self.ours.memory.slice_mut(), self.ours.plain.slice_mut());
-        let out = self.ours.out.slice_mut();
-        match call.what {
-            What::Write { n } => raw::write(pair, handle, ring, table, &plain[..n]),
-            What::Read { peek, n } => raw::read(pair, handle, peek, ring, table, &mut plain[..n]),
-            What::UserWrite(transfer) => raw::user_write(pair, handle, base, memory, transfer, ring, table),
-            What::UserRead(transfer) => raw::user_read(pair, handle, base, memory, transfer, ring, table),
-            What::Info => raw::info(pair, handle, table, array(out)),
-            What::Thresholds => raw::thresholds(pair, handle, array(out)),
-            What::Take => raw::take(pair, array(out)),
-            ref rest => on_record(pair, handle, rest),
-        }
+        let host = Host {
+            pair: &mut self.kept[1],
+            ring: &mut self.ours.rings[end].slice_mut()[..ring],
+            table: &mut self.ours.tables[end].slice_mut()[..table],
+            base: self.shape.base,
+            memory: self.ours.memory.slice_mut(),
+            plain: self.ours.plain.slice_mut(),
+            out: six(self.ours.out.slice_mut()),
+        };
+        host.call(call)
     }
 
     fn on_model(&mut self, call: &Call) -> model::Answer {
@@ -213,13 +188,13 @@ impl Sides {
         let lent = Lent { ring, table: &mut self.theirs.tables[end][..table] };
         let memory = Memory { base: self.shape.base, bytes: &mut self.theirs.memory };
         let (model, handle) = (&mut self.model, call.handle);
-        let (plain, out) = (&mut self.theirs.plain, &mut self.theirs.out);
+        let (plain, out) = (&mut self.theirs.plain, six(&mut self.theirs.out));
         match call.what {
             What::Write { n } => model.write(handle, lent, &plain[..n]),
             What::Read { peek, n } => model.read(handle, peek, lent, &mut plain[..n]),
             What::UserWrite(transfer) => model.user_write(handle, memory, transfer, lent),
             What::UserRead(transfer) => model.user_read(handle, memory, transfer, lent),
-            What::Info => model.info(handle, lent.table, array(out)),
+            What::Info => model.info(handle, lent.table, out),
             What::Thresholds => model.thresholds(handle, array(out)),
             What::Take => model.take(array(out)),
             ref rest => on_model_record(model, handle, rest),
@@ -227,22 +202,7 @@ impl Sides {
     }
 }
 
-/// The host's calls that are lent nothing.
-fn on_record(pair: &mut raw::Pair, handle: u32, what: &What) -> i64 {
-    match *what {
-        What::SetDisposition { own, peer } => raw::set_disposition(pair, handle, own, peer),
-        What::UserSetDisposition { own, peer } => raw::user_set_disposition(pair, handle, own, peer),
-        What::Shutdown { read, write } => raw::shutdown(pair, handle, read, write),
-        What::UserShutdown { options } => raw::user_shutdown(pair, handle, options),
-        What::SetReadThreshold { threshold } => raw::set_read_threshold(pair, handle, threshold),
-        What::SetWriteThreshold { threshold } => raw::set_write_threshold(pair, handle, threshold),
-        What::Wait { key, mask, edge } => raw::wait(pair, handle, key, mask, edge),
-        What::Close => raw::close(pair, handle),
-        _ => unreachable!("{what:?} is lent something"),
-    }
-}
-
-/// The same of the model.
+/// The model's calls that are lent nothing.
 fn on_model_record(model: &mut Model, handle: u32, what: &What) -> model::Answer {
     match *what {
         What::SetDisposition { own, peer } => model.set_disposition(handle, own, peer),

@@ -2,7 +2,7 @@
 //! languages write them alike.
 
 use std::fs;
-use std::path::{Path, PathBuf};
+use std::path::Path;
 
 /// A name and its type, of a field or of a parameter.
 pub type Typed = (String, String);
@@ -22,21 +22,14 @@ pub struct Function {
     pub result: String,
 }
 
-/// The text of every source file below `crates/CRATE/src`, or of all crates.
-pub fn rattle_source(name: Option<&str>) -> String {
-    let crates = Path::new(env!("CARGO_MANIFEST_DIR")).join("../../crates");
-    let folders = match name {
-        Some(name) => vec![crates.join(name)],
-        None => entries(&crates),
-    };
-    let files = folders.iter().flat_map(|folder| entries(&folder.join("src")));
+/// The text of every source file below `crates/CRATE/src`: `definition` has the records, `host` the exported
+/// functions.
+pub fn rattle_source(name: &str) -> String {
+    let folder = Path::new(env!("CARGO_MANIFEST_DIR")).join("../../crates").join(name).join("src");
+    let list = fs::read_dir(&folder).unwrap_or_else(|error| panic!("{}: {error}", folder.display()));
+    let files = list.map(|entry| entry.expect("a folder's entry").path());
     let rattle = files.filter(|file| file.extension().is_some_and(|end| end == "rt"));
     rattle.map(|file| fs::read_to_string(&file).expect("a source file")).collect()
-}
-
-fn entries(folder: &Path) -> Vec<PathBuf> {
-    let list = fs::read_dir(folder).unwrap_or_else(|error| panic!("{}: {error}", folder.display()));
-    list.map(|entry| entry.expect("a folder's entry").path()).collect()
 }
 
 /// The public records of a source text.
@@ -108,6 +101,7 @@ fn slice_of(kind: &str) -> Option<String> {
 pub fn size_and_alignment(kind: &str, records: &[Record]) -> (usize, usize) {
     match kind {
         "bool" | "u8" => return (1, 1),
+        "u16" => return (2, 2),
         "u32" => return (4, 4),
         "u64" | "usize" => return (8, 8),
         _ => {}
