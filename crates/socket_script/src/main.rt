@@ -41,11 +41,16 @@ fn read_in(buffer: &mut [u8], used: usize) -> usize
     io::count(got, &buffer[used..])
 }
 
-// Writes the first bytes of the output.
-fn put(out: &[u8], n: usize)
+// Writes the first bytes of the output. The first write that fails is told and noted in `failed`; after it nothing is written and nothing is told.
+fn put(out: &[u8], n: usize, failed: &mut bool)
     requires { ⌜ n ≤ length (now out) ⌝ }
 {
-    tell_failed_write(io::write_all(STDOUT, &out[0..n]));
+    if *failed {
+        return;
+    }
+    let done = io::write_all(STDOUT, &out[0..n]);
+    tell_failed_write(done);
+    *failed = !done;
 }
 
 // Feeds the bytes in use until no move is left, and writes what comes out.
@@ -58,6 +63,7 @@ fn drain(
     ring_two: &mut [u8],
     table_two: &mut [u32],
     out: &mut [u8],
+    failed: &mut bool,
 ) -> Progress
     requires { ⌜ DrainMay p (now buffer) (now memory) (now out) ⌝ }
     ensures { λ r. ⌜ Drained (held p (now (buffer .entry)) (now (memory .entry)) (rings (now («ring_one» .entry)) (now («table_one» .entry)) (now («ring_two» .entry)) (now («table_two» .entry))) (now (out .entry))) (held r (now (buffer .exit)) (now (memory .exit)) (rings (now («ring_one» .exit)) (now («table_one» .exit)) (now («ring_two» .exit)) (now («table_two» .exit))) (now (out .exit))) ⌝ }
@@ -76,7 +82,7 @@ fn drain(
             out,
         );
         let written = q.written;
-        put(out, written);
+        put(out, written, failed);
         if q.used == used {
             break;
         }
@@ -85,23 +91,23 @@ fn drain(
 }
 
 // The first line.
-fn begin(out: &mut [u8])
+fn begin(out: &mut [u8], failed: &mut bool)
     requires { ⌜ 22 ≤ length (now out) ⌝ }
     ensures { λ _. ⌜ now (out .exit) ≡ writtenAt 0 header (now (out .entry)) ⌝ }
 {
     let n = listing::script::header(out);
-    put(out, n);
+    put(out, n, failed);
 }
 
 // The end of the input.
-fn finish(p: Progress, buffer: &[u8], out: &mut [u8])
+fn finish(p: Progress, buffer: &[u8], out: &mut [u8], failed: &mut bool)
     requires { ⌜ (p .used ≤ length (now buffer)) × (26 ≤ length (now out)) ⌝ }
     ensures { λ _. ⌜ now (out .exit) ≡ writtenAt 0 (closing (p .offset) (p .state .ended) (take (p .used) (now (buffer .entry)))) (now (out .entry)) ⌝ }
 {
     let st = p.state;
     let used = p.used;
     let n = listing::script::finish(st, p.offset, &buffer[0..used], out);
-    put(out, n);
+    put(out, n, failed);
 }
 
 // The whole script, from the header to the end of the input.
@@ -113,13 +119,14 @@ fn run(
     table_two: &mut [u32],
     buffer: &mut [u8],
     out: &mut [u8],
+    failed: &mut bool,
 )
     requires { ⌜ RunMay (now memory) (rings (now «ring_one») (now «table_one») (now «ring_two») (now «table_two»)) (now buffer) (now out) ⌝ }
     ensures { λ _. ⌜ RunDone (now (memory .entry)) (rings (now («ring_one» .entry)) (now («table_one» .entry)) (now («ring_two» .entry)) (now («table_two» .entry))) (now (buffer .entry)) (now (out .entry)) (now (memory .exit)) (rings (now («ring_one» .exit)) (now («table_one» .exit)) (now («ring_two» .exit)) (now («table_two» .exit))) (now (buffer .exit)) (now (out .exit)) ⌝ }
 {
     let mut p = buffer::buffer::first();
     let mut reading = true;
-    begin(out);
+    begin(out, failed);
     while reading {
         let used = p.used;
         let got = read_in(buffer, used);
@@ -136,12 +143,13 @@ fn run(
             ring_two,
             table_two,
             out,
+            failed,
         );
         if !buffer::blocks::reads_on(p.state.ended, p.offset) {
             reading = false;
         }
     }
-    finish(p, buffer, out);
+    finish(p, buffer, out, failed);
 }
 
 // The contracts of the two give only the length, which lending the array needs.
@@ -165,6 +173,7 @@ fn main() {
     let mut table_two_array = [0u32; 4096];
     let mut buffer_array = input_space();
     let mut out_array = output_space();
+    let mut failed_before = false;
     let memory: &mut [u8] = &mut memory_array;
     let ring_one: &mut [u8] = &mut ring_one_array;
     let table_one: &mut [u32] = &mut table_one_array;
@@ -172,6 +181,7 @@ fn main() {
     let table_two: &mut [u32] = &mut table_two_array;
     let buffer: &mut [u8] = &mut buffer_array;
     let out: &mut [u8] = &mut out_array;
+    let failed: &mut bool = &mut failed_before;
     run(
         memory,
         ring_one,
@@ -180,5 +190,6 @@ fn main() {
         table_two,
         buffer,
         out,
+        failed,
     );
 }

@@ -23,16 +23,16 @@ finish-requires : tie.Need-finish-requires
 finish-requires c κs = search needs
 
 put-requires : tie.Need-put-requires
-put-requires c κs = let p = c .before .before .before .finish .ensures .fit .put (c .before .before .before .before .before .before .before .before .before .pre .1) in omega (arith, p .fits, c .before .before .before .finish .kept .1 .1 .1 .0)
+put-requires c κs = let p = c .before .before .before .before .finish .ensures .fit .put (c .before .before .before .before .before .before .before .before .before .before .pre .1) in omega (arith, p .fits, c .before .before .before .before .finish .kept .1 .1 .1 .0)
 
 same-length : tie.Need-same-length
 same-length c = search needs
 
 returns : tie.Need-returns
 returns c =
-    let a = c .before .before .before .before .before .before .before .before .before .before .args in
-    let put = c .before .before .before .before .finish .ensures .fit .put (c .before .before .before .before .before .before .before .before .before .before .pre .1) in
-    subst (λ (n : ℕ). c .before .before .before .before .finish .last .1 .1 .1 .0 ≡ writtenAt 0 (closing (a .p .offset) (a .p .state .ended) (take n (now (a .buffer)))) (now (a .out))) (sub-zero (a .p .used)) (put .out)
+    let a = c .before .before .before .before .before .before .before .before .before .before .before .args in
+    let put = c .before .before .before .before .before .finish .ensures .fit .put (c .before .before .before .before .before .before .before .before .before .before .before .pre .1) in
+    subst (λ (n : ℕ). c .before .before .before .before .before .finish .last .1 .1 .1 .0 ≡ writtenAt 0 (closing (a .p .offset) (a .p .state .ended) (take n (now (a .buffer)))) (now (a .out))) (sub-zero (a .p .used)) (put .out)
 
 pub finish-spec : {M : Type 1} → statement M
 finish-spec =

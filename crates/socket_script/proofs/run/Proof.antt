@@ -44,10 +44,10 @@ Standing memory₀ ring-one₀ table-one₀ ring-two₀ table-two₀ buffer₀ o
     × (o ≡ readsOn (p .state .ended) (p .offset))
 
 abbrev Inv-loop : tie.InvT-loop
-Inv-loop memory₀ ring-one₀ table-one₀ ring-two₀ table-two₀ buffer₀ out₀ p₀ o₀ memory ring-one table-one ring-two table-two buffer out p o = Standing memory₀ ring-one₀ table-one₀ ring-two₀ table-two₀ buffer₀ out₀ p₀ memory ring-one table-one ring-two table-two buffer out p o
+Inv-loop memory₀ ring-one₀ table-one₀ ring-two₀ table-two₀ buffer₀ out₀ failed₀ p₀ o₀ memory ring-one table-one ring-two table-two buffer out failed p o = Standing memory₀ ring-one₀ table-one₀ ring-two₀ table-two₀ buffer₀ out₀ p₀ memory ring-one table-one ring-two table-two buffer out p o
 
 abbrev μ-loop : tie.MeasureT-loop
-μ-loop memory₀ ring-one₀ table-one₀ ring-two₀ table-two₀ buffer₀ out₀ p₀ o₀ memory ring-one table-one ring-two table-two buffer out p o = LIMIT - (p .offset + p .used)
+μ-loop memory₀ ring-one₀ table-one₀ ring-two₀ table-two₀ buffer₀ out₀ failed₀ p₀ o₀ memory ring-one table-one ring-two table-two buffer out failed p o = LIMIT - (p .offset + p .used)
 
 -- a block more was read and fed
 module _ {memory₀ ring-one₀ table-one₀ ring-two₀ table-two₀ buffer₀ out₀ : List ℕ} {p₀ : Progress}
@@ -90,13 +90,13 @@ first-requires : tie.Need-first-requires Inv-loop μ-loop
 first-requires c κs = search needs
 
 begin-requires : tie.Need-begin-requires Inv-loop μ-loop
-begin-requires c κs = omega (arith, c .before .before .before .before .before .before .before .before .before .pre .room)
+begin-requires c κs = omega (arith, c .before .before .before .before .before .before .before .before .before .before .pre .room)
 
 loop-holds : tie.Need-loop-holds Inv-loop μ-loop
 loop-holds c =
-    let f = c .before .before .before .before .first in
+    let f = c .before .before .before .before .before .first in
     let g = c .before .before .begin in
-    let q = c .before .before .before .before .before .before .before .before .before .before .before .before .pre in
+    let q = c .before .before .before .before .before .before .before .before .before .before .before .before .before .pre in
     let u : f .result .used ≡ 0 = ap (λ (q : Progress). q .used) (f .ensures) in
     let o : f .result .offset ≡ 0 = ap (λ (q : Progress). q .offset) (f .ensures) in
     let n : f .result .state .number ≡ 0 = ap (λ (q : Progress). q .state .number) (f .ensures) ∙ no-record in
@@ -115,12 +115,12 @@ add-p c =
 
 drain-requires : tie.Need-drain-requires Inv-loop μ-loop
 drain-requires c κs =
-    let l = c .before .before .before .before .before .before .before .before .before .before .before .before .before .loop in
-    let r = c .before .before .before .before .before .before .before .before .before .before .read-in in
+    let l = c .before .before .before .before .before .before .before .before .before .before .before .before .before .before .loop in
+    let r = c .before .before .before .before .before .before .before .before .before .before .before .read-in in
     record {
       used = omega (arith, r .ensures .within, r .ensures .size);
       count = l .inv .10;
-      total = omega (arith, r .ensures .within, l .inv .1 .most, l .inv .7, reads-below _ _ (sym (l .inv .12) ∙ c .before .before .before .before .before .before .before .before .before .before .before .before .loop-test .taken));
+      total = omega (arith, r .ensures .within, l .inv .1 .most, l .inv .7, reads-below _ _ (sym (l .inv .12) ∙ c .before .before .before .before .before .before .before .before .before .before .before .before .before .loop-test .taken));
       size = omega (arith, first-memory (l .inv .1 .starts), l .inv .2);
       room = omega (arith, l .inv .1 .room, l .inv .8);
     }
@@ -129,62 +129,62 @@ reads-on-requires : tie.Need-reads-on-requires Inv-loop μ-loop
 reads-on-requires c κs = search needs
 
 loop-less : tie.Need-loop-less Inv-loop μ-loop
-loop-less c = less (c .before .before .before .before .before .before .before .before .before .before .before .before .before .before .before .before .before .before .before .before .before .before .before .before .before .before .before .before .before .before .loop .inv) (c .before .before .before .before .before .before .before .before .before .before .before .before .before .before .before .before .before .before .before .before .before .before .before .before .before .before .before .before .before .loop-test .taken) (c .before .before .before .before .before .before .before .before .before .before .before .before .before .before .before .before .before .before .before .before .before .before .before .before .before .before .before .read-in .ensures) (c .before .before .before .before .before .before .before .before .before .before .before .before .before .before .before .before .before .before .before .before .before .before .before .before .if1 .left) (c .before .before .before .before .before .before .before .before .before .before .before .before .before .before .before .before .drain .ensures)
+loop-less c = less (c .before .before .before .before .before .before .before .before .before .before .before .before .before .before .before .before .before .before .before .before .before .before .before .before .before .before .before .before .before .before .before .loop .inv) (c .before .before .before .before .before .before .before .before .before .before .before .before .before .before .before .before .before .before .before .before .before .before .before .before .before .before .before .before .before .before .loop-test .taken) (c .before .before .before .before .before .before .before .before .before .before .before .before .before .before .before .before .before .before .before .before .before .before .before .before .before .before .before .before .read-in .ensures) (c .before .before .before .before .before .before .before .before .before .before .before .before .before .before .before .before .before .before .before .before .before .before .before .before .before .if1 .left) (c .before .before .before .before .before .before .before .before .before .before .before .before .before .before .before .before .drain .ensures)
 
 loop-again : tie.Need-loop-again Inv-loop μ-loop
 loop-again c =
     let z = c .before .before .before .before .before .before .before .before .before .before .before .before .before .before .before .before .drain .kept .1 in
-    again (c .before .before .before .before .before .before .before .before .before .before .before .before .before .before .before .before .before .before .before .before .before .before .before .before .before .before .before .before .before .before .loop .inv) (c .before .before .before .before .before .before .before .before .before .before .before .before .before .before .before .before .before .before .before .before .before .before .before .before .before .before .before .before .before .loop-test .taken) (c .before .before .before .before .before .before .before .before .before .before .before .before .before .before .before .before .before .before .before .before .before .before .before .before .before .before .before .read-in .ensures) (c .before .before .before .before .before .before .before .before .before .before .before .before .before .before .before .before .before .before .before .before .before .before .before .before .if1 .left) (c .before .before .before .before .before .before .before .before .before .before .before .before .before .before .before .before .drain .ensures)
+    again (c .before .before .before .before .before .before .before .before .before .before .before .before .before .before .before .before .before .before .before .before .before .before .before .before .before .before .before .before .before .before .before .loop .inv) (c .before .before .before .before .before .before .before .before .before .before .before .before .before .before .before .before .before .before .before .before .before .before .before .before .before .before .before .before .before .before .loop-test .taken) (c .before .before .before .before .before .before .before .before .before .before .before .before .before .before .before .before .before .before .before .before .before .before .before .before .before .before .before .before .read-in .ensures) (c .before .before .before .before .before .before .before .before .before .before .before .before .before .before .before .before .before .before .before .before .before .before .before .before .before .if1 .left) (c .before .before .before .before .before .before .before .before .before .before .before .before .before .before .before .before .drain .ensures)
     (z .0) (z .1 .0) (z .1 .1 .0) (z .1 .1 .1 .0) (z .1 .1 .1 .1 .0) (z .1 .1 .1 .1 .1 .0) (z .1 .1 .1 .1 .1 .1 .0)
     _ (sym (via-not (c .before .reads-on .ensures) (c .if2 .taken)))
 
 loop-less-2 : tie.Need-loop-less-2 Inv-loop μ-loop
-loop-less-2 c = less (c .before .before .before .before .before .before .before .before .before .before .before .before .before .before .before .before .before .before .before .before .before .before .before .before .before .before .before .before .before .before .loop .inv) (c .before .before .before .before .before .before .before .before .before .before .before .before .before .before .before .before .before .before .before .before .before .before .before .before .before .before .before .before .before .loop-test .taken) (c .before .before .before .before .before .before .before .before .before .before .before .before .before .before .before .before .before .before .before .before .before .before .before .before .before .before .before .read-in .ensures) (c .before .before .before .before .before .before .before .before .before .before .before .before .before .before .before .before .before .before .before .before .before .before .before .before .if1 .left) (c .before .before .before .before .before .before .before .before .before .before .before .before .before .before .before .before .drain .ensures)
+loop-less-2 c = less (c .before .before .before .before .before .before .before .before .before .before .before .before .before .before .before .before .before .before .before .before .before .before .before .before .before .before .before .before .before .before .before .loop .inv) (c .before .before .before .before .before .before .before .before .before .before .before .before .before .before .before .before .before .before .before .before .before .before .before .before .before .before .before .before .before .before .loop-test .taken) (c .before .before .before .before .before .before .before .before .before .before .before .before .before .before .before .before .before .before .before .before .before .before .before .before .before .before .before .before .read-in .ensures) (c .before .before .before .before .before .before .before .before .before .before .before .before .before .before .before .before .before .before .before .before .before .before .before .before .before .if1 .left) (c .before .before .before .before .before .before .before .before .before .before .before .before .before .before .before .before .drain .ensures)
 
 loop-again-2 : tie.Need-loop-again-2 Inv-loop μ-loop
 loop-again-2 c =
     let z = c .before .before .before .before .before .before .before .before .before .before .before .before .before .before .before .before .drain .kept .1 in
-    again (c .before .before .before .before .before .before .before .before .before .before .before .before .before .before .before .before .before .before .before .before .before .before .before .before .before .before .before .before .before .before .loop .inv) (c .before .before .before .before .before .before .before .before .before .before .before .before .before .before .before .before .before .before .before .before .before .before .before .before .before .before .before .before .before .loop-test .taken) (c .before .before .before .before .before .before .before .before .before .before .before .before .before .before .before .before .before .before .before .before .before .before .before .before .before .before .before .read-in .ensures) (c .before .before .before .before .before .before .before .before .before .before .before .before .before .before .before .before .before .before .before .before .before .before .before .before .if1 .left) (c .before .before .before .before .before .before .before .before .before .before .before .before .before .before .before .before .drain .ensures)
+    again (c .before .before .before .before .before .before .before .before .before .before .before .before .before .before .before .before .before .before .before .before .before .before .before .before .before .before .before .before .before .before .before .loop .inv) (c .before .before .before .before .before .before .before .before .before .before .before .before .before .before .before .before .before .before .before .before .before .before .before .before .before .before .before .before .before .before .loop-test .taken) (c .before .before .before .before .before .before .before .before .before .before .before .before .before .before .before .before .before .before .before .before .before .before .before .before .before .before .before .before .read-in .ensures) (c .before .before .before .before .before .before .before .before .before .before .before .before .before .before .before .before .before .before .before .before .before .before .before .before .before .if1 .left) (c .before .before .before .before .before .before .before .before .before .before .before .before .before .before .before .before .drain .ensures)
     (z .0) (z .1 .0) (z .1 .1 .0) (z .1 .1 .1 .0) (z .1 .1 .1 .1 .0) (z .1 .1 .1 .1 .1 .0) (z .1 .1 .1 .1 .1 .1 .0)
-    _ (c .before .before .before .before .before .before .before .before .before .before .before .before .before .before .before .before .before .before .before .before .before .before .before .before .before .before .before .before .before .loop-test .taken ∙ sym (via-not-not (c .before .reads-on .ensures) (c .if2 .left)))
+    _ (c .before .before .before .before .before .before .before .before .before .before .before .before .before .before .before .before .before .before .before .before .before .before .before .before .before .before .before .before .before .before .loop-test .taken ∙ sym (via-not-not (c .before .reads-on .ensures) (c .if2 .left)))
 
 finish-requires : tie.Need-finish-requires Inv-loop μ-loop
 finish-requires c κs =
-    let i = c .before .before .before .loop .inv in
+    let i = c .before .before .before .before .loop .inv in
     ⊎-elim (λ w. (omega (arith, ap length (w .1), i .0, i .7), omega (arith, i .1 .room, i .8))) (λ w. (omega (arith, ap length (w .6), w .2 .ensures .size, i .0, i .7), omega (arith, i .1 .room, i .8)))
-    (c .before .before .loop-test .came)
+    (c .before .before .before .loop-test .came)
 
 same-length : tie.Need-same-length Inv-loop μ-loop
-same-length c = c .before .before .before .before .before .before .loop .inv .2
+same-length c = c .before .before .before .before .before .before .before .loop .inv .2
 
 same-length-2 : tie.Need-same-length-2 Inv-loop μ-loop
-same-length-2 c = c .before .before .before .before .before .before .loop .inv .3
+same-length-2 c = c .before .before .before .before .before .before .before .loop .inv .3
 
 same-length-3 : tie.Need-same-length-3 Inv-loop μ-loop
-same-length-3 c = c .before .before .before .before .before .before .loop .inv .4
+same-length-3 c = c .before .before .before .before .before .before .before .loop .inv .4
 
 same-length-4 : tie.Need-same-length-4 Inv-loop μ-loop
-same-length-4 c = c .before .before .before .before .before .before .loop .inv .5
+same-length-4 c = c .before .before .before .before .before .before .before .loop .inv .5
 
 same-length-5 : tie.Need-same-length-5 Inv-loop μ-loop
-same-length-5 c = c .before .before .before .before .before .before .loop .inv .6
+same-length-5 c = c .before .before .before .before .before .before .before .loop .inv .6
 
 same-length-6 : tie.Need-same-length-6 Inv-loop μ-loop
 same-length-6 c =
-    let i = c .before .before .before .before .before .before .loop .inv in
-    ⊎-elim (λ w. ap length (w .1) ∙ i .7) (λ w. ap length (w .6) ∙ w .2 .ensures .size ∙ i .7) (c .before .before .before .before .before .loop-test .came)
+    let i = c .before .before .before .before .before .before .before .loop .inv in
+    ⊎-elim (λ w. ap length (w .1) ∙ i .7) (λ w. ap length (w .6) ∙ w .2 .ensures .size ∙ i .7) (c .before .before .before .before .before .before .loop-test .came)
 
 same-length-7 : tie.Need-same-length-7 Inv-loop μ-loop
-same-length-7 c = c .before .before .finish .kept .1 .1 .0 ∙ c .before .before .before .before .before .before .loop .inv .8 ∙ c .before .before .before .before .before .before .before .before .before .begin .kept .0
+same-length-7 c = c .before .before .finish .kept .1 .1 .0 ∙ c .before .before .before .before .before .before .before .loop .inv .8 ∙ c .before .before .before .before .before .before .before .before .before .before .begin .kept .0
 
 returns : tie.Need-returns Inv-loop μ-loop
 returns c =
-    let l = c .before .before .before .before .before .before .loop in
-    let b = begun (now (c .before .before .before .before .before .before .before .before .before .before .before .before .before .before .before .before .before .before .before .args .out)) (c .before .before .before .before .before .before .before .before .before .before .before .first .ensures) (c .before .before .before .before .before .before .before .before .before .begin .ensures) (l .inv .11) in
+    let l = c .before .before .before .before .before .before .before .loop in
+    let b = begun (now (c .before .before .before .before .before .before .before .before .before .before .before .before .before .before .before .before .before .before .before .before .before .args .out)) (c .before .before .before .before .before .before .before .before .before .before .before .before .before .first .ensures) (c .before .before .before .before .before .before .before .before .before .before .begin .ensures) (l .inv .11) in
     let s =
     ⊎-elim (λ w. stops-reading (sym (l .inv .12) ∙ w .0 .left) (w .1))
     (λ w. stops-ended b (omega (arith, l .inv .0, l .inv .7)) (omega (arith, l .inv .1 .least, l .inv .7)) (sym (l .inv .12) ∙ w .0 .taken) (w .2 .ensures) (w .5 .taken) (w .6))
-    (c .before .before .before .before .before .loop-test .came)
+    (c .before .before .before .before .before .before .loop-test .came)
     in
     record {
       last = held (l .p) (l .buffer) (l .memory) (rings (l .ring-one) (l .table-one) (l .ring-two) (l .table-two)) (l .out);
