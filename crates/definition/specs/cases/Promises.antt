@@ -1,7 +1,7 @@
 -- What the records of a write and a read say, on one state: the 3 bytes `abc` queued at both ends, from place 7 of 8 on and then from the ring's
 -- start; and one change of a word. 01 "Delivered bytes", "Calls over user memory", "Signal word and packets".
 use Prim.Native.Nat.{ℕ}
-use mathlib.Core.Bool.{false}
+use mathlib.Core.Bool.{true, false}
 use mathlib.Core.List.{List, [], _∷_}
 use mathlib.Core.Path.{_≡_}
 use Rattle.definition.specs.declared.Answer.{Answer}
@@ -13,7 +13,11 @@ use Rattle.definition.specs.declared.Step.{Step}
 use Rattle.definition.specs.Signal.{changedWord}
 use Rattle.definition.specs.Write.{Wrote, UserWrote, pairWritten}
 use Rattle.definition.specs.Read.{Read, BytesRead, UserRead, pairRead}
-use Rattle.definition.specs.cases.States.{datagram, queued, opened, eight}
+use Rattle.definition.specs.declared.Disposition.the-variants.{Unchanged, Disable}
+use Rattle.definition.specs.Disposition.{disposed}
+use Rattle.definition.specs.Shutdown.{shut}
+use Rattle.definition.specs.Close.{closed as closedPair}
+use Rattle.definition.specs.cases.States.{stream, datagram, empty, queue, queued, end, opened, eight}
 use Rattle.definition.specs.cases.Scripts.{letters}
 
 abbrev pub three : Pair
@@ -59,3 +63,24 @@ pub record Promises : Type 0 where
   pub userUnread : UserRead three 2 4096 0 4106 3 4105 ringAbc tableAbc letters letters (step three (Refused InvalidArgs))
   -- a change clears, then sets: a bit that is in both is set. No call makes such a change.
   pub changed : changedWord 0x3 0x1 0x6 ≡ 0x5
+
+-- ---- next pairs, where no line shows them
+
+-- end 1 is closed and its word is 0; the queue of end 2 is full
+abbrev pub gone : Pair
+gone = eight stream (end true 0x0 empty) (opened (queue 7 8 0 0))
+
+pub record NextPairs : Type 0 where
+  -- a close empties the queue, whose starts become 0, and leaves the end's own word; an open peer is told
+  pub closedQueue : closedPair true three .one .queue ≡ empty
+  pub closedWord : closedPair true three .one .signals ≡ 0x2
+  pub toldOfClose : closedPair true three .two .signals ≡ 0x4
+  -- nothing is told to a closed peer: by close, read, disposition and shutdown
+  pub byClose : closedPair false gone .one .signals ≡ 0x0
+  pub byRead : pairRead gone 2 false 0 3 .one .signals ≡ 0x0
+  pub byDisposition : disposed false Disable Disable gone .one .signals ≡ 0x0
+  pub byShutdown : shut false false false gone .one .signals ≡ 0x0
+  -- own disable changes the reading flag of an open peer only, peer disable that of this end also with a closed peer
+  pub peerReading : disposed false Disable Unchanged gone .one .«read_disabled» ≡ false
+  pub openReading : disposed false Disable Unchanged three .one .«read_disabled» ≡ true
+  pub ownReading : disposed false Unchanged Disable gone .two .«read_disabled» ≡ true
