@@ -1,34 +1,40 @@
 // The thresholds: set and asked.
+use crate::SocketPair;
+use crate::SocketStep;
 use crate::deferred;
 use crate::parts;
-use definition::Pair;
-use definition::Step;
 ghost use Rattle.definition.specs.Pair.{isOne, endsOf};
 ghost use Rattle.definition.specs.Tests.{Steps};
 ghost use Rattle.definition.specs.Threshold.{readThresholdAnswer, writeThresholdAnswer, readThresholdSet, writeThresholdSet, thresholdsAnswer};
+ghost use Rattle.socket.specs.Step.{innerStep};
 
-// READ_THRESHOLD shows while at least so many bytes are queued at this end; 0 is none.
-pub fn set_read_threshold(p: Pair, handle: u32, threshold: u64) -> Step
-    ensures { λ r. ⌜ Steps p (readThresholdAnswer (endsOf p) handle threshold) (readThresholdSet (isOne handle) threshold p) r ⌝ }
-{
-    let r = control::threshold::read_threshold_ends(parts::ends_of(p), handle, threshold);
-    deferred::settle(p, r)
-}
+impl SocketPair {
+    // READ_THRESHOLD shows while at least so many bytes are queued at this end; 0 is none.
+    pub fn set_read_threshold(self, handle: u32, threshold: u64) -> SocketStep
+        ensures { λ r. ⌜ Steps (self .inner) (readThresholdAnswer (endsOf (self .inner)) handle threshold) (readThresholdSet (isOne handle) threshold (self .inner)) (innerStep r) ⌝ }
+    {
+        let p = self.inner;
+        let r = control::threshold::read_threshold_ends(parts::ends_of(p), handle, threshold);
+        parts::stepped(deferred::settle(p, r))
+    }
 
-// While the peer is open, WRITE_THRESHOLD shows whether its queue has at least so much space; 0 is none. The bit stays as it is when the peer closes.
-pub fn set_write_threshold(p: Pair, handle: u32, threshold: u64) -> Step
-    ensures { λ r. ⌜ Steps p (writeThresholdAnswer (endsOf p) handle threshold) (writeThresholdSet (isOne handle) threshold p) r ⌝ }
-{
-    let r = control::threshold::write_threshold_ends(parts::ends_of(p), handle, threshold);
-    deferred::settle(p, r)
-}
+    // While the peer is open, WRITE_THRESHOLD shows whether its queue has at least so much space; 0 is none. The bit stays as it is when the peer closes.
+    pub fn set_write_threshold(self, handle: u32, threshold: u64) -> SocketStep
+        ensures { λ r. ⌜ Steps (self .inner) (writeThresholdAnswer (endsOf (self .inner)) handle threshold) (writeThresholdSet (isOne handle) threshold (self .inner)) (innerStep r) ⌝ }
+    {
+        let p = self.inner;
+        let r = control::threshold::write_threshold_ends(parts::ends_of(p), handle, threshold);
+        parts::stepped(deferred::settle(p, r))
+    }
 
-// Both thresholds of an end.
-pub fn get_rx_tx_threshold(p: Pair, handle: u32) -> Step
-    ensures { λ r. ⌜ Steps p (thresholdsAnswer (endsOf p) handle) p r ⌝ }
-{
-    Step {
-        pair: p,
-        answer: answers::threshold::thresholds_answer(parts::ends_of(p), handle),
+    // Both thresholds of an end.
+    pub fn get_rx_tx_threshold(self, handle: u32) -> SocketStep
+        ensures { λ r. ⌜ Steps (self .inner) (thresholdsAnswer (endsOf (self .inner)) handle) (self .inner) (innerStep r) ⌝ }
+    {
+        let p = self.inner;
+        SocketStep {
+            pair: self,
+            answer: answers::threshold::thresholds_answer(parts::ends_of(p), handle),
+        }
     }
 }
