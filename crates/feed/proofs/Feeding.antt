@@ -12,12 +12,9 @@ use Rattle.definition_script.specs.Line.{stopOf}
 use Rattle.definition_script.specs.Call.{writtenAt, Rings}
 use Rattle.text.proofs.Place.{place-none, place-length, place-front, place-behind}
 use Rattle.definition_script.specs.declared.State.{State}
-use Rattle.feed.specs.declared.state.StateChange.{StateChange}
 use Rattle.feed.specs.declared.turn.Turned.{Turned}
-use Rattle.script_call.specs.pair_outcome.PairOutcome.{rebuildsTable, nextPair}
 use Rattle.line.specs.line.LineDone.{LINE}
 use Rattle.definition_script.specs.Listing.{Machine, machine, Move, stay, halt, go, moveOf}
-use Rattle.feed.specs.state.Change.{changedState, withEndsState, withTableState}
 use Rattle.feed.specs.Turn.{LIMIT, machineAfter, textOf, takenBy, goesOn, TurnDone}
 use Rattle.feed.specs.Feed.{isReady, Block, noBlock, behind, fedFrom, fedOf, FeedDone}
 use Rattle.feed.proofs.Moves.{goes}
@@ -154,21 +151,12 @@ module _ (m₀ m : Machine) (offset : ℕ) (input out₀ out : List ℕ) (from a
         idle = λ x. absurd (never x);
       }
 
-  pub next : (memory′ : List ℕ) (z′ : Rings) (out′ : List ℕ) (r : Turned) (st′ : State) → TurnDone m (moveOf m (drop from input)) offset from at memory′ z′ out out′ r
-      → st′ ≡ changedState (m .state) (r .change) → at + LINE ≤ length out → SoFar m₀ offset input out₀ (machine st′ memory′ z′) out′ (r .from) (r .at) (r .more)
-  next memory′ z′ out′ r st′ d e h =
+  pub next : (memory′ : List ℕ) (z′ : Rings) (out′ : List ℕ) (r : Turned) → TurnDone m (moveOf m (drop from input)) offset from at memory′ z′ out out′ r
+      → at + LINE ≤ length out → SoFar m₀ offset input out₀ (machine (r .state) memory′ z′) out′ (r .from) (r .at) (r .more)
+  next memory′ z′ out′ r d h =
       let mv : Move = moveOf m (drop from input) in
       let p = d .text .put h in
-      rw (d .memory, d .lent, p .out, e, d .state, d .next, p .next, d .more) (next-by mv refl h (omega (arith, p .next, p .fits)))
-
--- the state after a turn: both ends are replaced, then the table is rebuilt, or stays
-pub changed-table : (st s s′ : State) (a : StateChange) (b : Bool) → s ≡ withEndsState st a → b ≡ rebuildsTable (a .pair) (s .pair) → b ≡ true → s′ ≡ withTableState s a → s′ ≡ changedState st a
-unfolding changedState withEndsState withTableState nextPair pick
-changed-table st s s′ a b e f g h = h ∙ ap (λ (k : State). withTableState k a) e ∙ rw (sym (ap (λ (k : State). rebuildsTable (a .pair) (k .pair)) e) ∙ sym f ∙ g) refl
-
-pub changed-ends : (st s : State) (a : StateChange) (b : Bool) → s ≡ withEndsState st a → b ≡ rebuildsTable (a .pair) (s .pair) → b ≡ false → s ≡ changedState st a
-unfolding changedState withEndsState nextPair pick
-changed-ends st s a b e f g = e ∙ rw (sym (ap (λ (k : State). rebuildsTable (a .pair) (k .pair)) e) ∙ sym f ∙ g) refl
+      rw (d .memory, d .lent, p .out, d .state, d .next, p .next, d .more) (next-by mv refl h (omega (arith, p .next, p .fits)))
 
 -- the measure falls
 pub left : (input : List ℕ) (from : ℕ) (more : Bool) → ℕ

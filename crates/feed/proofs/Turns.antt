@@ -13,12 +13,8 @@ use Rattle.definition.specs.Pair.{shown, isHandle, shownBy}
 use Rattle.text.proofs.Place.{nothing, upTo, same}
 use Rattle.definition.specs.declared.Pair.{Pair}
 use Rattle.definition.specs.declared.Step.{Step}
-use Rattle.script_call.specs.declared.pair_outcome.PairOutcome.{PairOutcome}
-use Rattle.script_call.specs.pair_outcome.PairOutcome.{nextPair, outcomeStep}
-use Rattle.script_call.proofs.pair_outcome.Steps.{next-one, next-two}
 use Rattle.script_call.proofs.fill.Fills.{part-all}
 use Rattle.definition_script.specs.declared.State.{State}
-use Rattle.feed.specs.declared.state.StateChange.{StateChange}
 use Rattle.feed.specs.declared.turn.Stepped.{Stepped}
 use Rattle.feed.specs.declared.turn.Turned.{Turned}
 use Rattle.definition_script.specs.declared.Decoded.{Decoded}
@@ -33,7 +29,6 @@ use Rattle.definition_script.specs.Listing.{Machine, machine, Move, stay, halt,
 use Rattle.line.proofs.call_line.Lines.{delivered-small}
 use Rattle.feed.proofs.state.States.{mkState}
 use Rattle.feed.proofs.Moves.{move-ended, move-cut, move-bad, move-misplaced, move-step}
-use Rattle.feed.specs.state.Change.{changedState}
 use Rattle.feed.specs.Turn.{placed, nextOf, machineAfter, textOf, takenBy, goesOn, StepDone, StopDone, TurnDone}
 
 -- ---- what the bytes begin with
@@ -120,12 +115,11 @@ body-at from n l =
     ap (λ (k : ℕ). take k (drop (from + 3) l)) e ∙ ap (λ (z : List ℕ). take n z) (sym (drop-drop 3 from l))
 
 module _ (m : Machine) (mv : Move) (offset from at : ℕ) (out : List ℕ) where
-  pub turn-stay : (a : StateChange) → mv ≡ stay → changedState (m .state) a ≡ m .state
-      → TurnDone m mv offset from at (m .memory) (m .lent) out out (record { change = a; from = from; at = at; more = false })
+  pub turn-stay : mv ≡ stay → TurnDone m mv offset from at (m .memory) (m .lent) out out (record { state = m .state; from = from; at = at; more = false })
   unfolding machineAfter textOf takenBy goesOn
-  turn-stay a e f =
-      subst (λ (v : Move). TurnDone m v offset from at (m .memory) (m .lent) out out (record { change = a; from = from; at = at; more = false })) (sym e)
-      (record { state = f; memory = refl; lent = refl; next = omega arith; more = refl; text = nothing LINE at out })
+  turn-stay e =
+      subst (λ (v : Move). TurnDone m v offset from at (m .memory) (m .lent) out out (record { state = m .state; from = from; at = at; more = false })) (sym e)
+      (record { state = refl; memory = refl; lent = refl; next = omega arith; more = refl; text = nothing LINE at out })
 
   pub turn-stop : (out′ : List ℕ) (r : Turned) → mv ≡ halt → StopDone (m .state) offset from at out out′ r
       → TurnDone m mv offset from at (m .memory) (m .lent) out out′ r
@@ -143,11 +137,11 @@ module _ (m : Machine) (mv : Move) (offset from at : ℕ) (out : List ℕ) where
 
   pub turn-step : (tag n : ℕ) (body body′ memory′ : List ℕ) (z′ : Rings) (out′ : List ℕ) (q : Stepped)
       → mv ≡ go (stepped m tag body′) (stepLine m tag body′) (3 + n) → body ≡ body′ → StepDone m tag body at memory′ z′ out out′ q
-      → TurnDone m mv offset from at memory′ z′ out out′ (record { change = q .change; from = from + 3 + n; at = q .at; more = true })
+      → TurnDone m mv offset from at memory′ z′ out out′ (record { state = q .state; from = from + 3 + n; at = q .at; more = true })
   unfolding machineAfter textOf takenBy goesOn
   turn-step tag n body body′ memory′ z′ out′ q e b d =
       let f : StepDone m tag body′ at memory′ z′ out out′ q = subst (λ (x : List ℕ). StepDone m tag x at memory′ z′ out out′ q) b d in
-      subst (λ (v : Move). TurnDone m v offset from at memory′ z′ out out′ (record { change = q .change; from = from + 3 + n; at = q .at; more = true })) (sym e)
+      subst (λ (v : Move). TurnDone m v offset from at memory′ z′ out out′ (record { state = q .state; from = from + 3 + n; at = q .at; more = true })) (sym e)
       (record {
         state = f .state;
         memory = f .memory;
@@ -160,32 +154,30 @@ module _ (m : Machine) (mv : Move) (offset from at : ℕ) (out : List ℕ) where
 -- ---- one step
 
 -- the words that both ends show
-pub shown-one : (d : PairOutcome) (p : Pair) → shown (d .outcome .one) ≡ shownBy (nextPair d p) 1
+shown-one : (p : Pair) → shown (p .one) ≡ shownBy p 1
 unfolding shownBy isHandle pick _or_
-shown-one d p = ap shown (sym (next-one d p))
+shown-one p = refl
 
-pub shown-two : (d : PairOutcome) (p : Pair) → shown (d .outcome .two) ≡ shownBy (nextPair d p) 2
+shown-two : (p : Pair) → shown (p .two) ≡ shownBy p 2
 unfolding shownBy isHandle pick _or_
-shown-two d p = ap shown (sym (next-two d p))
+shown-two p = refl
 
-module _ (st : State) (tag at to : ℕ) (b memory memory₁ memory₂ out out′ : List ℕ) (z z₁ : Rings) (d : PairOutcome) (last : Bool)
-    (w : CallDone (callOf memory z (st .pair) tag b) memory₁ z₁ (outcomeStep d (st .pair)))
+module _ (st : State) (tag at to : ℕ) (b memory memory₁ memory₂ out out′ : List ℕ) (z z₁ : Rings) (r : Step) (last : Bool)
+    (w : CallDone (callOf memory z (st .pair) tag b) memory₁ z₁ r)
     (small : length memory ≤ 4096) (kept : length memory₁ ≡ length memory)
-    (f : LineDone (st .number) (d .outcome .answer) (shown (d .outcome .one)) (shown (d .outcome .two)) (delivered tag b (d .outcome .answer) memory₁) at to out out′)
-    (l : memory₂ ≡ settled tag b (d .outcome .answer) memory₁) (i : last ≡ isLast tag (d .outcome .answer)) where
+    (f : LineDone (st .number) (r .answer) (shown (r .pair .one)) (shown (r .pair .two)) (delivered tag b (r .answer) memory₁) at to out out′)
+    (l : memory₂ ≡ settled tag b (r .answer) memory₁) (i : last ≡ isLast tag (r .answer)) where
   -- the answer and the pair are those of the call
-  answer-is : d .outcome .answer ≡ callOf memory z (st .pair) tag b .step .answer
-  unfolding outcomeStep
+  answer-is : r .answer ≡ callOf memory z (st .pair) tag b .step .answer
   answer-is = ap (λ (x : Step). x .answer) (w .step)
 
-  pair-is : nextPair d (st .pair) ≡ callOf memory z (st .pair) tag b .step .pair
-  unfolding outcomeStep
+  pair-is : r .pair ≡ callOf memory z (st .pair) tag b .step .pair
   pair-is = ap (λ (x : Step). x .pair) (w .step)
 
-  step-state : changedState st (record { pair = d; number = st .number + 1; ended = last }) ≡ steppedState st tag (callOf memory z (st .pair) tag b)
-  unfolding changedState steppedState
+  step-state : mkState (r .pair) (st .number + 1) last ≡ steppedState st tag (callOf memory z (st .pair) tag b)
+  unfolding steppedState
   step-state =
-      ap (λ (x : Bool). mkState (nextPair d (st .pair)) (st .number + 1) x) (i ∙ ap (isLast tag) answer-is)
+      ap (λ (x : Bool). mkState (r .pair) (st .number + 1) x) (i ∙ ap (isLast tag) answer-is)
       ∙ ap (λ (x : Pair). mkState x (st .number + 1) (isLast tag (callOf memory z (st .pair) tag b .step .answer))) pair-is
 
   step-memory : memory₂ ≡ settled tag b (callOf memory z (st .pair) tag b .step .answer) (callOf memory z (st .pair) tag b .memory)
@@ -193,13 +185,13 @@ module _ (st : State) (tag at to : ℕ) (b memory memory₁ memory₂ out out′
       l ∙ ap (λ (x : Answer). settled tag b x memory₁) answer-is
       ∙ ap (λ (x : List ℕ). settled tag b (callOf memory z (st .pair) tag b .step .answer) x) (w .memory)
 
-  step-text : lineOf (st .number) (d .outcome .answer) (shown (d .outcome .one)) (shown (d .outcome .two)) (delivered tag b (d .outcome .answer) memory₁)
+  step-text : lineOf (st .number) (r .answer) (shown (r .pair .one)) (shown (r .pair .two)) (delivered tag b (r .answer) memory₁)
       ≡ calledLine (st .number) tag b (callOf memory z (st .pair) tag b)
   unfolding calledLine
   step-text =
-      ap (λ (x : SignalWord). lineOf (st .number) (d .outcome .answer) x (shown (d .outcome .two)) (delivered tag b (d .outcome .answer) memory₁)) (shown-one d (st .pair))
-      ∙ ap (λ (x : SignalWord). lineOf (st .number) (d .outcome .answer) (shownBy (nextPair d (st .pair)) 1) x (delivered tag b (d .outcome .answer) memory₁)) (shown-two d (st .pair))
-      ∙ ap (λ (x : Pair). lineOf (st .number) (d .outcome .answer) (shownBy x 1) (shownBy x 2) (delivered tag b (d .outcome .answer) memory₁)) pair-is
+      ap (λ (x : SignalWord). lineOf (st .number) (r .answer) x (shown (r .pair .two)) (delivered tag b (r .answer) memory₁)) (shown-one (r .pair))
+      ∙ ap (λ (x : SignalWord). lineOf (st .number) (r .answer) (shownBy (r .pair) 1) x (delivered tag b (r .answer) memory₁)) (shown-two (r .pair))
+      ∙ ap (λ (x : Pair). lineOf (st .number) (r .answer) (shownBy x 1) (shownBy x 2) (delivered tag b (r .answer) memory₁)) pair-is
       ∙ ap (λ (x : Answer). lineOf (st .number) x (shownBy called 1) (shownBy called 2) (delivered tag b x memory₁)) answer-is
       ∙ ap (λ (x : List ℕ). lineOf (st .number) (callOf memory z (st .pair) tag b .step .answer) (shownBy called 1) (shownBy called 2)
       (delivered tag b (callOf memory z (st .pair) tag b .step .answer) x))
@@ -209,6 +201,6 @@ module _ (st : State) (tag at to : ℕ) (b memory memory₁ memory₂ out out′
       called = callOf memory z (st .pair) tag b .step .pair
 
   pub step-done : StepDone (machine st memory z) tag b at memory₂ z₁ out out′
-      (record { change = record { pair = d; number = st .number + 1; ended = last }; at = to })
+      (record { state = mkState (r .pair) (st .number + 1) last; at = to })
   unfolding stepped stepLine
-  step-done = record { state = step-state; memory = step-memory; lent = w .lent; text = same _ step-text (f .put (delivered-small tag b (d .outcome .answer) memory₁ (omega arith)) .fit) }
+  step-done = record { state = step-state; memory = step-memory; lent = w .lent; text = same _ step-text (f .put (delivered-small tag b (r .answer) memory₁ (omega arith)) .fit) }

@@ -1,3 +1,2 @@
-pub mod state
 pub mod Feed
 pub mod Turn

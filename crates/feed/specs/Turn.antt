@@ -11,7 +11,6 @@ use Rattle.definition_script.specs.declared.Decoded.{Decoded}
 use Rattle.definition_script.specs.declared.Decoded.the-variants.{Whole, Bad, Cut}
 use Rattle.definition_script.specs.Record.{isBody, isMisplaced, recordOf}
 use Rattle.text.specs.Put.{Fit}
-use Rattle.feed.specs.state.Change.{changedState}
 use Rattle.line.specs.line.LineDone.{LINE}
 use Rattle.definition_script.specs.Call.{Rings}
 use Rattle.definition_script.specs.Listing.{Machine, stepped, stepLine, stoppedState, machine, Move, stay, halt, go}
@@ -32,14 +31,14 @@ pub record StepMay (st : State) (tag : ℕ) (b memory : List ℕ) : Type 0 where
 
 -- a step: state, memory and what is lent are those after the record, and its line is put out
 pub record StepDone (m : Machine) (tag : ℕ) (body : List ℕ) (at : ℕ) (memory′ : List ℕ) (z′ : Rings) (out out′ : List ℕ) (r : Stepped) : Type 0 where
-  pub state : changedState (m .state) (r .change) ≡ stepped m tag body .state
+  pub state : r .state ≡ stepped m tag body .state
   pub memory : memory′ ≡ stepped m tag body .memory
   pub lent : z′ ≡ stepped m tag body .lent
   pub text : Fit LINE at (stepLine m tag body) (r .at) out out′
 
 -- the line that stops a script
 pub record StopDone (st : State) (offset from at : ℕ) (out out′ : List ℕ) (r : Turned) : Type 0 where
-  pub state : changedState st (r .change) ≡ stoppedState st
+  pub state : r .state ≡ stoppedState st
   pub next : r .from ≡ from
   pub more : r .more ≡ false
   pub text : Fit 26 at (stopOf (offset + from)) (r .at) out out′
@@ -90,7 +89,7 @@ pub record TurnMay (st : State) (o : ℕ) (s : List ℕ) (from : ℕ) (memory : 
 
 -- a turn: the move that the bytes make from a place of the input on
 pub record TurnDone (m : Machine) (mv : Move) (offset from at : ℕ) (memory′ : List ℕ) (z′ : Rings) (out out′ : List ℕ) (r : Turned) : Type 0 where
-  pub state : changedState (m .state) (r .change) ≡ machineAfter m mv .state
+  pub state : r .state ≡ machineAfter m mv .state
   pub memory : memory′ ≡ machineAfter m mv .memory
   pub lent : z′ ≡ machineAfter m mv .lent
   pub next : r .from ≡ from + takenBy mv

@@ -64,11 +64,8 @@ fn feed_ready(
             out,
             at,
         );
-        let a = t.change;
-        s = crate::state::with_ends(s, a);
-        if crate::state::rebuilds_table(s, a) {
-            s = crate::state::with_table(s, a);
-        }
+        let next = t.state;
+        s = next;
         from = t.from;
         at = t.at;
         more = t.more;

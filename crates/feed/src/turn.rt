@@ -1,5 +1,4 @@
 // One move of the machine that a script drives: a record is run and its line put out, or the script stops.
-use crate::state::StateChange;
 use definition_script::Decoded;
 use definition_script::State;
 ghost use Prim.Native.Nat.{_+_, _≤_};
@@ -9,15 +8,15 @@ ghost use Rattle.definition_script.specs.Call.{rings};
 ghost use Rattle.definition_script.specs.Listing.{machine, moveOf};
 ghost use Rattle.feed.specs.Turn.{LIMIT, nextOf, StepMay, StepDone, StopDone, TurnMay, TurnDone};
 
-// After a step: what it leaves of the state, and the place in the output.
+// After a step: the state, and the place in the output.
 pub struct Stepped {
-    pub change: StateChange,
+    pub state: State,
     pub at: usize,
 }
 
-// After a move: what it leaves of the state, the place in the input, the place in the output, and whether another move may follow.
+// After a move: the state, the place in the input, the place in the output, and whether another move may follow.
 pub struct Turned {
-    pub change: StateChange,
+    pub state: State,
     pub from: usize,
     pub at: usize,
     pub more: bool,
@@ -40,7 +39,7 @@ fn step(
     ensures { λ r. ⌜ StepDone (machine st (now (memory .entry)) (rings (now («ring_one» .entry)) (now («table_one» .entry)) (now («ring_two» .entry)) (now («table_two» .entry)))) tag (now (body .entry)) at (now (memory .exit)) (rings (now («ring_one» .exit)) (now («table_one» .exit)) (now («ring_two» .exit)) (now («table_two» .exit))) (now (out .entry)) (now (out .exit)) r ⌝ }
 {
     let p = st.pair;
-    let d = script_call::call::call(
+    let r = script_call::call::call(
         p,
         tag,
         body,
@@ -50,14 +49,17 @@ fn step(
         ring_two,
         table_two,
     );
-    let r = d.outcome;
     let a = r.answer;
-    let to = line::call_line::print(out, at, st.number, tag, body, r, memory);
+    let pair = r.pair;
+    let e = pair.one;
+    let f = pair.two;
+    let to = line::call_line::print(out, at, st.number, tag, body, a, e, f, memory);
     script_call::delivered::settle(tag, body, a, memory);
+    let number = st.number + 1;
     Stepped {
-        change: StateChange {
-            pair: d,
-            number: st.number + 1,
+        state: State {
+            pair,
+            number,
             ended: script_call::record::is_last(tag, a),
         },
         at: to,
@@ -70,8 +72,13 @@ fn stop(st: State, offset: u64, from: usize, out: &mut [u8], at: usize) -> Turne
     ensures { λ r. ⌜ StopDone st offset from at (now (out .entry)) (now (out .exit)) r ⌝ }
 {
     let to = text::stop(out, at, offset + from as u64);
+    let pair = st.pair;
     Turned {
-        change: crate::state::no_record(st, true),
+        state: State {
+            pair,
+            number: st.number,
+            ended: true,
+        },
         from,
         at: to,
         more: false,
@@ -118,7 +125,7 @@ pub(crate) fn turn(
 {
     match next(st.ended, st.number, input, from) {
         Decoded::Cut => Turned {
-            change: crate::state::no_record(st, st.ended),
+            state: st,
             from,
             at,
             more: false,
@@ -139,10 +146,10 @@ pub(crate) fn turn(
                 out,
                 at,
             );
-            let change = s.change;
+            let state = s.state;
             let to = s.at;
             Turned {
-                change,
+                state,
                 from: e,
                 at: to,
                 more: true,

@@ -7,6 +7,7 @@ use definition::Pair;
 use definition::Record;
 use definition::Status;
 use endpoint::ends::Outcome;
+use socket::SocketPair;
 use user_answers::lookup::disposition_of;
 ghost use mathlib.Core.Path.{_≡_};
 ghost use mathlib.Core.List.{[]};
@@ -137,7 +138,8 @@ fn put_packet(a: Answer, out: &mut [u64; 5])
 pub fn thresholds(p: Pair, handle: u32, out: &mut [u64; 2]) -> Answer
     ensures { λ a. ⌜ Recorded thresholdNumbers (AsksThresholds p handle) (now (out .entry)) (now (out .exit)) (record { pair = p; answer = a }) ⌝ }
 {
-    let s = socket::threshold::get_rx_tx_threshold(p, handle);
+    let q = SocketPair { inner: p };
+    let s = q.get_rx_tx_threshold(handle);
     let a = s.answer;
     put_thresholds(a, out);
     a
@@ -147,7 +149,8 @@ pub fn thresholds(p: Pair, handle: u32, out: &mut [u64; 2]) -> Answer
 pub fn info(p: Pair, handle: u32, table: &[u32], out: &mut [u64; 6]) -> Answer
     ensures { λ a. ⌜ Recorded infoNumbers (AsksInfo p handle (now (table .entry))) (now (out .entry)) (now (out .exit)) (record { pair = p; answer = a }) ⌝ }
 {
-    let s = socket::info::get_info(p, handle, table);
+    let q = SocketPair { inner: p };
+    let s = q.get_info(handle, table);
     let a = s.answer;
     put_info(a, out);
     a

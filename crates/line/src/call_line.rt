@@ -1,5 +1,6 @@
 // The line of the call that a record makes.
-use endpoint::ends::Outcome;
+use definition::Answer;
+use definition::Endpoint;
 use script_call::record::fields;
 ghost use Rattle.definition.specs.Pair.{shown};
 ghost use Rattle.line.specs.line.LineDone.{LineDone};
@@ -12,15 +13,14 @@ pub fn print(
     number: u64,
     tag: u8,
     body: &[u8],
-    r: Outcome,
+    a: Answer,
+    e: Endpoint,
+    f: Endpoint,
     memory: &[u8],
 ) -> usize
-    ensures { λ n. ⌜ LineDone number (r .answer) (shown (r .one)) (shown (r .two)) (delivered tag (now (body .entry)) (r .answer) (now (memory .entry))) at n (now (out .entry)) (now (out .exit)) ⌝ }
+    ensures { λ n. ⌜ LineDone number a (shown e) (shown f) (delivered tag (now (body .entry)) a (now (memory .entry))) at n (now (out .entry)) (now (out .exit)) ⌝ }
 {
-    let a = r.answer;
-    let e = r.one;
     let one = endpoint::end::shown(e);
-    let f = r.two;
     let two = endpoint::end::shown(f);
     let from = script_call::delivered::place_of(fields::u64_at(body, 8));
     let n = script_call::delivered::count(tag, a);

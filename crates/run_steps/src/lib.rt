@@ -4,6 +4,8 @@
 use definition::Disposition;
 use definition::Pair;
 use definition::Step;
+use socket::SocketPair;
+use socket::SocketStep;
 ghost use mathlib.Core.List.{List, []};
 ghost use Prim.Native.Nat.{ℕ};
 ghost use lib.ListN.{take};
@@ -13,6 +15,7 @@ ghost use Rattle.definition.specs.Disposition.{dispositionNumber};
 ghost use Rattle.definition_runs.specs.Exported.{slicesOf};
 ghost use Rattle.run_steps.specs.Code.{StepOf, OwnLent, ReadLent, PeerLent, Starts};
 ghost use Rattle.definition.specs.Calls;
+ghost use Rattle.socket.specs.Step.{innerStep};
 
 pub fn create(
     kind: u32,
@@ -23,10 +26,10 @@ pub fn create(
     table1: &[u32],
     ring2: &[u8],
     table2: &[u32],
-) -> Step
-    ensures { λ r. ⌜ Starts (record { kind = kind; capacity = capacity; rights1 = rights1; rights2 = rights2 }) (slicesOf (now (ring1 .entry)) (now (table1 .entry))) (slicesOf (now (ring2 .entry)) (now (table2 .entry))) r ⌝ }
+) -> SocketStep
+    ensures { λ r. ⌜ Starts (record { kind = kind; capacity = capacity; rights1 = rights1; rights2 = rights2 }) (slicesOf (now (ring1 .entry)) (now (table1 .entry))) (slicesOf (now (ring2 .entry)) (now (table2 .entry))) (innerStep r) ⌝ }
 {
-    socket::create::create(
+    SocketPair::create(
         kind,
         capacity,
         rights1,
@@ -141,83 +144,83 @@ pub fn shutdown(p: Pair, handle: u32, options: u32) -> Step
     syscall::shutdown(p, handle, options)
 }
 
-pub fn plain_write(p: Pair, handle: u32, ring: &mut [u8], table: &mut [u32], bytes: &[u8]) -> Step
-    ensures { λ r. ⌜ ((base : ℕ) → PeerLent p handle (slicesOf (now (ring .entry)) (now (table .entry))) (slicesOf (now (ring .exit)) (now (table .exit))) (input (plainWrite handle) base (now (bytes .entry))) r (now (bytes .entry))) ⌝ }
+pub fn plain_write(p: SocketPair, handle: u32, ring: &mut [u8], table: &mut [u32], bytes: &[u8]) -> SocketStep
+    ensures { λ r. ⌜ ((base : ℕ) → PeerLent (p .inner) handle (slicesOf (now (ring .entry)) (now (table .entry))) (slicesOf (now (ring .exit)) (now (table .exit))) (input (plainWrite handle) base (now (bytes .entry))) (innerStep r) (now (bytes .entry))) ⌝ }
 {
-    socket::write::write(p, handle, ring, table, bytes)
+    p.write(handle, ring, table, bytes)
 }
 
 pub fn plain_read(
-    p: Pair,
+    p: SocketPair,
     handle: u32,
     peek: bool,
     ring: &[u8],
     table: &[u32],
     buffer: &mut [u8],
-) -> Step
-    ensures { λ r. ⌜ ((base : ℕ) → OwnLent p handle (slicesOf (now (ring .entry)) (now (table .entry))) (input (plainRead handle peek) base (now (buffer .entry))) r (take (countOf (r .answer)) (now (buffer .exit))) (now (buffer .exit))) ⌝ }
+) -> SocketStep
+    ensures { λ r. ⌜ ((base : ℕ) → OwnLent (p .inner) handle (slicesOf (now (ring .entry)) (now (table .entry))) (input (plainRead handle peek) base (now (buffer .entry))) (innerStep r) (take (countOf (r .answer)) (now (buffer .exit))) (now (buffer .exit))) ⌝ }
 {
-    socket::read::read(p, handle, peek, ring, table, buffer)
+    p.read(handle, peek, ring, table, buffer)
 }
 
 // The plain disposition by value takes an enum, so that no number above 2 can be passed. A run has such a call too: `murgwethan_set_disposition` of the
 // crate host makes it, and the crate host_claims shows that it is a step of `Does`.
 pub fn plain_disposition(
-    p: Pair,
+    p: SocketPair,
     handle: u32,
     disposition: Disposition,
     peer_disposition: Disposition,
-) -> Step
-    ensures { λ r. ⌜ StepOf p (control (plainDisposition handle (dispositionNumber disposition) (dispositionNumber «peer_disposition»))) r ⌝ }
+) -> SocketStep
+    ensures { λ r. ⌜ StepOf (p .inner) (control (plainDisposition handle (dispositionNumber disposition) (dispositionNumber «peer_disposition»))) (innerStep r) ⌝ }
 {
-    socket::disposition::set_disposition(p, handle, disposition, peer_disposition)
+    p.set_disposition(handle, disposition, peer_disposition)
 }
 
-pub fn plain_shutdown(p: Pair, handle: u32, read: bool, write: bool) -> Step
-    ensures { λ r. ⌜ StepOf p (control (plainShutdown handle read write)) r ⌝ }
+pub fn plain_shutdown(p: SocketPair, handle: u32, read: bool, write: bool) -> SocketStep
+    ensures { λ r. ⌜ StepOf (p .inner) (control (plainShutdown handle read write)) (innerStep r) ⌝ }
 {
-    socket::shutdown::shutdown(p, handle, read, write)
+    p.shutdown(handle, read, write)
 }
 
-pub fn set_read_threshold(p: Pair, handle: u32, threshold: u64) -> Step
-    ensures { λ r. ⌜ StepOf p (control (setReadThreshold handle threshold)) r ⌝ }
+pub fn set_read_threshold(p: SocketPair, handle: u32, threshold: u64) -> SocketStep
+    ensures { λ r. ⌜ StepOf (p .inner) (control (setReadThreshold handle threshold)) (innerStep r) ⌝ }
 {
-    socket::threshold::set_read_threshold(p, handle, threshold)
+    p.set_read_threshold(handle, threshold)
 }
 
-pub fn set_write_threshold(p: Pair, handle: u32, threshold: u64) -> Step
-    ensures { λ r. ⌜ StepOf p (control (setWriteThreshold handle threshold)) r ⌝ }
+pub fn set_write_threshold(p: SocketPair, handle: u32, threshold: u64) -> SocketStep
+    ensures { λ r. ⌜ StepOf (p .inner) (control (setWriteThreshold handle threshold)) (innerStep r) ⌝ }
 {
-    socket::threshold::set_write_threshold(p, handle, threshold)
+    p.set_write_threshold(handle, threshold)
 }
 
-pub fn get_rx_tx_threshold(p: Pair, handle: u32) -> Step
-    ensures { λ r. ⌜ StepOf p (control (getThresholds handle)) r ⌝ }
+pub fn get_rx_tx_threshold(p: SocketPair, handle: u32) -> SocketStep
+    ensures { λ r. ⌜ StepOf (p .inner) (control (getThresholds handle)) (innerStep r) ⌝ }
 {
-    socket::threshold::get_rx_tx_threshold(p, handle)
+    p.get_rx_tx_threshold(handle)
 }
 
 // Its own table is lent, and no ring.
-pub fn get_info(p: Pair, handle: u32, table: &[u32]) -> Step
-    ensures { λ r. ⌜ ((ring : List ℕ) (base : ℕ) (memory : List ℕ) → OwnLent p handle (slicesOf ring (now (table .entry))) (input (control (getInfo handle)) base memory) r [] memory) ⌝ }
+pub fn get_info(p: SocketPair, handle: u32, table: &[u32]) -> SocketStep
+    ensures { λ r. ⌜ ((ring : List ℕ) (base : ℕ) (memory : List ℕ) → OwnLent (p .inner) handle (slicesOf ring (now (table .entry))) (input (control (getInfo handle)) base memory) (innerStep r) [] memory) ⌝ }
 {
-    socket::info::get_info(p, handle, table)
+    p.get_info(handle, table)
 }
 
-pub fn wait(p: Pair, handle: u32, key: u64, mask: u32, edge: u8) -> Step
-    ensures { λ r. ⌜ StepOf p (control (wait handle key mask edge)) r ⌝ }
+pub fn wait(p: SocketPair, handle: u32, key: u64, mask: u32, edge: u8) -> SocketStep
+    ensures { λ r. ⌜ StepOf (p .inner) (control (wait handle key mask edge)) (innerStep r) ⌝ }
 {
-    socket::wait::wait(p, handle, key, mask, edge)
+    p.wait(handle, key, mask, edge)
 }
 
-pub fn take(p: Pair) -> Step
-    ensures { λ r. ⌜ StepOf p (control takePacket) r ⌝ }
+pub fn take(p: SocketPair) -> SocketStep
+    ensures { λ r. ⌜ StepOf (p .inner) (control takePacket) (innerStep r) ⌝ }
 {
-    socket::wait::take(p)
+    p.take()
 }
 
-pub fn close(p: Pair, handle: u32) -> Step
-    ensures { λ r. ⌜ StepOf p (close handle) r ⌝ }
+pub fn close(p: SocketPair, handle: u32) -> SocketStep
+    ensures { λ r. ⌜ StepOf (p .inner) (close handle) (innerStep r) ⌝ }
 {
-    socket::close::close(p, handle)
+    p.close(handle)
 }

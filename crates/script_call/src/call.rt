@@ -1,15 +1,11 @@
 // The call that a record makes on the pair, on memory, and on the rings and tables of both ends.
 use crate::fill::BASE;
-use crate::pair_outcome::PairOutcome;
-use crate::pair_outcome::unchanged;
-use crate::pair_outcome::visits;
 use crate::record::fields;
 use definition::Answer;
 use definition::Pair;
 use definition::Status;
+use definition::Step;
 use definition_script::Transfer;
-use socket::ends_of;
-ghost use Rattle.script_call.specs.pair_outcome.PairOutcome.{outcomeStep};
 ghost use Rattle.definition_script.specs.Call.{rings, writeCall, readCall};
 ghost use Rattle.script_call.specs.call.CallDone.{CallDone};
 ghost use Rattle.script_call.specs.call.CallMade.{CallMade};
@@ -23,12 +19,12 @@ fn write(
     table_one: &mut [u32],
     ring_two: &mut [u8],
     table_two: &mut [u32],
-) -> PairOutcome
-    ensures { λ r. ⌜ CallDone (writeCall (now (memory .entry)) (rings (now («ring_one» .entry)) (now («table_one» .entry)) (now («ring_two» .entry)) (now («table_two» .entry))) p t) (now (memory .exit)) (rings (now («ring_one» .exit)) (now («table_one» .exit)) (now («ring_two» .exit)) (now («table_two» .exit))) (outcomeStep r p) ⌝ }
+) -> Step
+    ensures { λ r. ⌜ CallDone (writeCall (now (memory .entry)) (rings (now («ring_one» .entry)) (now («table_one» .entry)) (now («ring_two» .entry)) (now («table_two» .entry))) p t) (now (memory .exit)) (rings (now («ring_one» .exit)) (now («table_one» .exit)) (now («ring_two» .exit)) (now («table_two» .exit))) r ⌝ }
 {
     if t.handle == 1 {
-        return visits(syscall::write_ends(
-            ends_of(p),
+        return syscall::write(
+            p,
             t.handle,
             t.options,
             BASE,
@@ -38,10 +34,10 @@ fn write(
             t.count_at,
             ring_two,
             table_two,
-        ));
+        );
     }
-    visits(syscall::write_ends(
-        ends_of(p),
+    syscall::write(
+        p,
         t.handle,
         t.options,
         BASE,
@@ -51,7 +47,7 @@ fn write(
         t.count_at,
         ring_one,
         table_one,
-    ))
+    )
 }
 
 // A read is lent the ring and the table of its own end. Its count does not land yet.
@@ -63,12 +59,12 @@ fn read(
     table_one: &[u32],
     ring_two: &[u8],
     table_two: &[u32],
-) -> PairOutcome
-    ensures { λ r. ⌜ CallDone (readCall (now (memory .entry)) (rings (now («ring_one» .entry)) (now («table_one» .entry)) (now («ring_two» .entry)) (now («table_two» .entry))) p t) (now (memory .exit)) (rings (now («ring_one» .entry)) (now («table_one» .entry)) (now («ring_two» .entry)) (now («table_two» .entry))) (outcomeStep r p) ⌝ }
+) -> Step
+    ensures { λ r. ⌜ CallDone (readCall (now (memory .entry)) (rings (now («ring_one» .entry)) (now («table_one» .entry)) (now («ring_two» .entry)) (now («table_two» .entry))) p t) (now (memory .exit)) (rings (now («ring_one» .entry)) (now («table_one» .entry)) (now («ring_two» .entry)) (now («table_two» .entry))) r ⌝ }
 {
     if t.handle == 1 {
-        return visits(syscall::read_bytes_ends(
-            ends_of(p),
+        return syscall::read_bytes(
+            p,
             t.handle,
             t.options,
             BASE,
@@ -78,10 +74,10 @@ fn read(
             t.count_at,
             ring_one,
             table_one,
-        ));
+        );
     }
-    visits(syscall::read_bytes_ends(
-        ends_of(p),
+    syscall::read_bytes(
+        p,
         t.handle,
         t.options,
         BASE,
@@ -91,11 +87,10 @@ fn read(
         t.count_at,
         ring_two,
         table_two,
-    ))
+    )
 }
 
-// By the tag; the count of a read does not land yet, and the table of places is rebuilt last. What it leaves of the pair may be said in several ways;
-// each has this step. With a body that is not right for the tag no call is made.
+// By the tag; the count of a read does not land yet. With a body that is not right for the tag no call is made.
 pub fn call(
     p: Pair,
     tag: u8,
@@ -105,11 +100,14 @@ pub fn call(
     table_one: &mut [u32],
     ring_two: &mut [u8],
     table_two: &mut [u32],
-) -> PairOutcome
-    ensures { λ r. ⌜ CallMade (now (memory .entry)) (rings (now («ring_one» .entry)) (now («table_one» .entry)) (now («ring_two» .entry)) (now («table_two» .entry))) p tag (now (body .entry)) (now (memory .exit)) (rings (now («ring_one» .exit)) (now («table_one» .exit)) (now («ring_two» .exit)) (now («table_two» .exit))) (outcomeStep r p) ⌝ }
+) -> Step
+    ensures { λ r. ⌜ CallMade (now (memory .entry)) (rings (now («ring_one» .entry)) (now («table_one» .entry)) (now («ring_two» .entry)) (now («table_two» .entry))) p tag (now (body .entry)) (now (memory .exit)) (rings (now («ring_one» .exit)) (now («table_one» .exit)) (now («ring_two» .exit)) (now («table_two» .exit))) r ⌝ }
 {
     if !crate::record::is_body(tag, body.len()) {
-        return unchanged(p, Answer::Refused(Status::InvalidArgs));
+        return Step {
+            pair: p,
+            answer: Answer::Refused(Status::InvalidArgs),
+        };
     }
     match tag {
         1 => write(
@@ -132,7 +130,7 @@ pub fn call(
         ),
         11..=255 => {
             let answer = crate::fill::fill(memory, body);
-            unchanged(p, answer)
+            Step { pair: p, answer }
         }
         0 | 3..=10 => crate::plain_call::plain(
             p,

@@ -1,8 +1,9 @@
 // Create.
+use crate::SocketPair;
+use crate::SocketStep;
 use answers::create::held_rights;
 use definition::Endpoint;
 use definition::Pair;
-use definition::Step;
 use endpoint::bits::bit_if;
 ghost use mathlib.Core.Path.{_≡_};
 ghost use mathlib.Core.Bool.{false};
@@ -11,6 +12,7 @@ ghost use lib.Dec.{eqb};
 ghost use Rattle.definition.specs.Status.{pick};
 ghost use Rattle.definition.specs.Create.{newEnd, noEnd, newPair, noPair, Creates};
 ghost use Rattle.answers.specs.create.Held.{heldRights};
+ghost use Rattle.socket.specs.Step.{innerStep};
 
 // A new end, or one that was never made.
 fn end_if(made: bool, rights: u32) -> Endpoint
@@ -63,32 +65,36 @@ pub fn new_pair(kind: u32, capacity: u32, rights_one: u32, rights_two: u32) -> P
     }
 }
 
-// A new pair. Each later call is lent the rings and tables that it uses; create looks at the lengths of all four.
-pub fn create(
-    kind: u32,
-    capacity: u32,
-    rights_one: u32,
-    rights_two: u32,
-    ring_one: &[u8],
-    table_one: &[u32],
-    ring_two: &[u8],
-    table_two: &[u32],
-) -> Step
-    ensures { λ r. ⌜ Creates noPair kind capacity «rights_one» «rights_two» (now («ring_one» .entry)) (now («table_one» .entry)) (now («ring_two» .entry)) (now («table_two» .entry)) r ⌝ }
-{
-    let a = answers::create::create_answer(
-        kind,
-        capacity,
-        rights_one,
-        rights_two,
-        ring_one.len(),
-        table_one.len(),
-        ring_two.len(),
-        table_two.len(),
-    );
-    let made = endpoint::answer::is_done(a);
-    Step {
-        pair: pair_if(made, kind == 1, capacity, rights_one, rights_two),
-        answer: a,
+impl SocketPair {
+    // A new pair. Each later call is lent the rings and tables that it uses; create looks at the lengths of all four.
+    pub fn create(
+        kind: u32,
+        capacity: u32,
+        rights_one: u32,
+        rights_two: u32,
+        ring_one: &[u8],
+        table_one: &[u32],
+        ring_two: &[u8],
+        table_two: &[u32],
+    ) -> SocketStep
+        ensures { λ r. ⌜ Creates noPair kind capacity «rights_one» «rights_two» (now («ring_one» .entry)) (now («table_one» .entry)) (now («ring_two» .entry)) (now («table_two» .entry)) (innerStep r) ⌝ }
+    {
+        let a = answers::create::create_answer(
+            kind,
+            capacity,
+            rights_one,
+            rights_two,
+            ring_one.len(),
+            table_one.len(),
+            ring_two.len(),
+            table_two.len(),
+        );
+        let made = endpoint::answer::is_done(a);
+        SocketStep {
+            pair: SocketPair {
+                inner: pair_if(made, kind == 1, capacity, rights_one, rights_two),
+            },
+            answer: a,
+        }
     }
 }

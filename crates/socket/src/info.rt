@@ -1,16 +1,20 @@
 // Info.
+use crate::SocketPair;
+use crate::SocketStep;
 use crate::parts;
-use definition::Pair;
-use definition::Step;
 ghost use mathlib.Core.List.{[]};
 ghost use Rattle.definition.specs.Info.{AsksInfo};
+ghost use Rattle.socket.specs.Step.{innerStep};
 
-// What an end says of its queue and its peer's. The table is its own; only datagram pairs look at it.
-pub fn get_info(p: Pair, handle: u32, table: &[u32]) -> Step
-    ensures { λ r. ⌜ AsksInfo p handle (now (table .entry)) r ⌝ }
-{
-    Step {
-        pair: p,
-        answer: answers::control::info_answer(parts::ends_of(p), handle, table),
+impl SocketPair {
+    // What an end says of its queue and its peer's. The table is its own; only datagram pairs look at it.
+    pub fn get_info(self, handle: u32, table: &[u32]) -> SocketStep
+        ensures { λ r. ⌜ AsksInfo (self .inner) handle (now (table .entry)) (innerStep r) ⌝ }
+    {
+        let p = self.inner;
+        SocketStep {
+            pair: self,
+            answer: answers::control::info_answer(parts::ends_of(p), handle, table),
+        }
     }
 }

@@ -1,12 +1,16 @@
 // The parts of a pair: its ends by the caller's handle, and its places. `one` names an end: true is end 1.
+use crate::SocketPair;
+use crate::SocketStep;
 use answers::tests::is_handle;
 use definition::Endpoint;
 use definition::Ends;
 use definition::Pair;
 use definition::Places;
 use definition::SignalWord;
+use definition::Step;
 ghost use mathlib.Core.Path.{_≡_};
 ghost use Rattle.definition.specs.Pair.{own, endsOf, shownBy, withPlaces};
+ghost use Rattle.socket.specs.Step.{innerStep};
 
 // The pair without its table of places, of which every answer but that of take is made.
 pub fn ends_of(p: Pair) -> Ends
@@ -61,13 +65,38 @@ pub fn with_first_place(mut p: Pair, places: Places) -> Pair
     p
 }
 
-// The word that the end of a handle shows.
-pub fn signal(p: Pair, handle: u32) -> SignalWord
-    ensures { λ r. ⌜ r ≡ shownBy p handle ⌝ }
-{
-    if !is_handle(handle) {
-        return SignalWord::Closed;
+impl SocketPair {
+    // The word that the end of a handle shows.
+    pub fn signal(self, handle: u32) -> SignalWord
+        ensures { λ r. ⌜ r ≡ shownBy (self .inner) handle ⌝ }
+    {
+        let p = self.inner;
+        if !is_handle(handle) {
+            return SignalWord::Closed;
+        }
+        let e = own(p, handle == 1);
+        endpoint::end::shown(e)
     }
-    let e = own(p, handle == 1);
-    endpoint::end::shown(e)
+}
+
+// A step as a method hands it back.
+pub fn stepped(s: Step) -> SocketStep
+    ensures { λ r. ⌜ innerStep r ≡ s ⌝ }
+{
+    let inner = s.pair;
+    let answer = s.answer;
+    SocketStep {
+        pair: SocketPair { inner },
+        answer,
+    }
+}
+
+// What a method handed back, as a step.
+pub fn inner_step(s: SocketStep) -> Step
+    ensures { λ r. ⌜ r ≡ innerStep s ⌝ }
+{
+    let q = s.pair;
+    let pair = q.inner;
+    let answer = s.answer;
+    Step { pair, answer }
 }

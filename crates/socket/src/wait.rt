@@ -1,8 +1,9 @@
 // Waits and their packets. Whether a call is done is passed on to the table, so that the next table is made by the same statements in either case.
+use crate::SocketPair;
+use crate::SocketStep;
 use crate::parts;
 use definition::Answer;
 use definition::Pair;
-use definition::Step;
 use endpoint::answer::is_done;
 ghost use mathlib.Core.Path.{_≡_};
 ghost use Rattle.definition.specs.Status.{pick, isDone};
@@ -10,6 +11,7 @@ ghost use Rattle.port.specs.places.Table.{unused, onlyPacket};
 ghost use Rattle.definition.specs.Pair.{isOne};
 ghost use Rattle.definition.specs.Port.{takeAnswer, Takes, Waits};
 ghost use Rattle.socket.specs.Deferred.{registeredPair, takenPair};
+ghost use Rattle.socket.specs.Step.{innerStep};
 
 // The pair with a wait more, if the answer is done.
 pub fn registered(p: Pair, a: Answer, handle: u32, key: u64, mask: u32, edge: u8) -> Pair
@@ -85,24 +87,30 @@ pub fn taken_only(p: Pair, a: Answer) -> Pair
     parts::with_first_place(p, next)
 }
 
-// Registers a wait of an end. It may fire now, by the word as it is; with edge 1 only a later change fires it.
-pub fn wait(p: Pair, handle: u32, key: u64, mask: u32, edge: u8) -> Step
-    ensures { λ r. ⌜ Waits p handle key mask edge r ⌝ }
-{
-    let a = answers::control::wait_answer(parts::ends_of(p), handle, edge);
-    Step {
-        pair: registered(p, a, handle, key, mask, edge),
-        answer: a,
+impl SocketPair {
+    // Registers a wait of an end. It may fire now, by the word as it is; with edge 1 only a later change fires it.
+    pub fn wait(self, handle: u32, key: u64, mask: u32, edge: u8) -> SocketStep
+        ensures { λ r. ⌜ Waits (self .inner) handle key mask edge (innerStep r) ⌝ }
+    {
+        let p = self.inner;
+        let a = answers::control::wait_answer(parts::ends_of(p), handle, edge);
+        SocketStep {
+            pair: SocketPair {
+                inner: registered(p, a, handle, key, mask, edge),
+            },
+            answer: a,
+        }
     }
-}
 
-// Takes the oldest packet.
-pub fn take(p: Pair) -> Step
-    ensures { λ r. ⌜ Takes p r ⌝ }
-{
-    let a = take_answer(p);
-    Step {
-        pair: taken(p, a),
-        answer: a,
+    // Takes the oldest packet.
+    pub fn take(self) -> SocketStep
+        ensures { λ r. ⌜ Takes (self .inner) (innerStep r) ⌝ }
+    {
+        let p = self.inner;
+        let a = take_answer(p);
+        SocketStep {
+            pair: SocketPair { inner: taken(p, a) },
+            answer: a,
+        }
     }
 }

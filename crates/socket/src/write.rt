@@ -1,14 +1,18 @@
 // Write.
+use crate::SocketPair;
+use crate::SocketStep;
 use crate::deferred;
 use crate::parts;
-use definition::Pair;
-use definition::Step;
 ghost use Rattle.definition.specs.Write.{Wrote};
+ghost use Rattle.socket.specs.Step.{innerStep};
 
-// Writes to the peer's queue. The ring and the table are the peer's.
-pub fn write(p: Pair, handle: u32, ring: &mut [u8], table: &mut [u32], bytes: &[u8]) -> Step
-    ensures { λ r. ⌜ Wrote p handle (now (bytes .entry)) (now (ring .entry)) (now (ring .exit)) (now (table .entry)) (now (table .exit)) r ⌝ }
-{
-    let r = transfer::write::write_ends(parts::ends_of(p), handle, ring, table, bytes);
-    deferred::settle(p, r)
+impl SocketPair {
+    // Writes to the peer's queue. The ring and the table are the peer's.
+    pub fn write(self, handle: u32, ring: &mut [u8], table: &mut [u32], bytes: &[u8]) -> SocketStep
+        ensures { λ r. ⌜ Wrote (self .inner) handle (now (bytes .entry)) (now (ring .entry)) (now (ring .exit)) (now (table .entry)) (now (table .exit)) (innerStep r) ⌝ }
+    {
+        let p = self.inner;
+        let r = transfer::write::write_ends(parts::ends_of(p), handle, ring, table, bytes);
+        parts::stepped(deferred::settle(p, r))
+    }
 }

@@ -5,7 +5,7 @@ use lib.ListN.{length}
 use mathlib.Core.Bool.{Bool}
 use mathlib.Core.Path.{_≡_, refl, sym, _∙_, subst}
 use native.Mathlib.Omega.{arith}
-use Rattle.feed.proofs.Feeding.{Ready, ready, SoFar, begins, next, changed-table, changed-ends, left, falls, done-full, done-stay}
+use Rattle.feed.proofs.Feeding.{Ready, ready, SoFar, begins, next, left, falls, done-full, done-stay}
 use Rattle.definition_script.specs.Call.{rings}
 use Rattle.line.specs.line.LineDone.{LINE}
 use Rattle.definition_script.specs.Listing.{machine}
@@ -41,58 +41,23 @@ turn-requires c κs =
     let y = l .inv .1 in
     record { within = i .within; input = y .input; offset = y .offset; size = omega (arith, y .memory, l .inv .2); number = omega (arith, i .count, i .within, y .number, y .input) }
 
-with-ends-requires : tie.Need-with-ends-requires Inv-loop μ-loop
-with-ends-requires c κs = tt
-
-rebuilds-table-requires : tie.Need-rebuilds-table-requires Inv-loop μ-loop
-rebuilds-table-requires c κs = tt
-
-with-table-requires : tie.Need-with-table-requires Inv-loop μ-loop
-with-table-requires c κs = tt
-
 loop-less : tie.Need-loop-less Inv-loop μ-loop
 loop-less c =
-    let l = c .before .before .before .before .before .before .before .before .before .before .before .before .before .before .before .before .before .before .before .before .before .before .before .before .before .before .loop in
-    let a = c .before .before .before .before .before .before .before .before .before .before .before .before .before .before .before .before .before .before .before .before .before .before .before .before .before .before .before .before .before .before .before .before .before .before .args in
-    let k = c .before .before .before .before .before .before .before .before .before .before .before .before .before .before .before .before .before .turn in
-    subst (λ (b : Bool). left (now (a .input)) (k .result .from) (k .result .more) < left (now (a .input)) (l .from) b) (sym (c .before .before .before .before .before .before .before .before .before .before .before .before .before .before .before .before .before .before .before .before .before .before .before .before .before .loop-test .taken))
+    let l = c .before .before .before .before .before .before .before .before .before .before .before .before .before .before .before .before .before .before .before .before .before .before .loop in
+    let a = c .before .before .before .before .before .before .before .before .before .before .before .before .before .before .before .before .before .before .before .before .before .before .before .before .before .before .before .before .before .before .args in
+    let k = c .before .before .before .before .before .before .before .before .before .before .before .before .before .turn in
+    subst (λ (b : Bool). left (now (a .input)) (k .result .from) (k .result .more) < left (now (a .input)) (l .from) b) (sym (c .before .before .before .before .before .before .before .before .before .before .before .before .before .before .before .before .before .before .before .before .before .loop-test .taken))
     (falls (machine (l .s) (l .memory) (rings (l .ring-one) (l .table-one) (l .ring-two) (l .table-two))) (a .offset) (now (a .input)) (l .from) (l .at) (k .last .1 .1 .1 .1 .0) (rings (k .last .1 .1 .1 .1 .1 .0) (k .last .1 .1 .1 .1 .1 .1 .0) (k .last .1 .1 .1 .1 .1 .1 .1 .0) (k .last .1 .1 .1 .1 .1 .1 .1 .1 .0)) (l .out) (k .last .1 .1 .1 .1 .1 .1 .1 .1 .1 .0) (k .result) (l .inv .0 .within) (k .ensures))
 
 loop-again : tie.Need-loop-again Inv-loop μ-loop
 loop-again c =
-    let l = c .before .before .before .before .before .before .before .before .before .before .before .before .before .before .before .before .before .before .before .before .before .before .before .before .before .before .loop in
-    let a = c .before .before .before .before .before .before .before .before .before .before .before .before .before .before .before .before .before .before .before .before .before .before .before .before .before .before .before .before .before .before .before .before .before .before .args in
-    let k = c .before .before .before .before .before .before .before .before .before .before .before .before .before .before .before .before .before .turn in
+    let l = c .before .before .before .before .before .before .before .before .before .before .before .before .before .before .before .before .before .before .before .before .before .before .loop in
+    let a = c .before .before .before .before .before .before .before .before .before .before .before .before .before .before .before .before .before .before .before .before .before .before .before .before .before .before .before .before .before .before .args in
+    let k = c .before .before .before .before .before .before .before .before .before .before .before .before .before .turn in
     let m = (machine (l .s) (l .memory) (rings (l .ring-one) (l .table-one) (l .ring-two) (l .table-two))) in
-    let i = subst (λ (b : Bool). SoFar (machine (a .st) (now (a .memory)) (rings (now (a .ring-one)) (now (a .table-one)) (now (a .ring-two)) (now (a .table-two)))) (a .offset) (now (a .input)) (now (a .out)) m (l .out) (l .from) (l .at) b) (c .before .before .before .before .before .before .before .before .before .before .before .before .before .before .before .before .before .before .before .before .before .before .before .before .before .loop-test .taken) (l .inv .0) in
-    let room : l .at + LINE ≤ length (l .out) = omega (arith, leb-true 8254 (length (l .out) - l .at) (c .before .before .before .before .before .before .before .before .before .before .before .before .before .before .before .before .before .before .before .before .before .before .before .before .if1 .taken), i .fits) in (
-      next (machine (a .st) (now (a .memory)) (rings (now (a .ring-one)) (now (a .table-one)) (now (a .ring-two)) (now (a .table-two)))) m (a .offset) (now (a .input)) (now (a .out)) (l .out) (l .from) (l .at) i (k .last .1 .1 .1 .1 .0) (rings (k .last .1 .1 .1 .1 .1 .0) (k .last .1 .1 .1 .1 .1 .1 .0) (k .last .1 .1 .1 .1 .1 .1 .1 .0) (k .last .1 .1 .1 .1 .1 .1 .1 .1 .0)) (k .last .1 .1 .1 .1 .1 .1 .1 .1 .1 .0) (k .result) (c .with-table .result) (k .ensures) (changed-table (l .s) (c .before .before .before .with-ends .result) (c .with-table .result) (k .result .change) (c .before .before .rebuilds-table .result) (c .before .before .before .with-ends .ensures) (c .before .before .rebuilds-table .ensures) (c .before .if2 .taken) (c .with-table .ensures)) room,
-      l .inv .1,
-      k .kept .1 .1 .1 .1 .0 ∙ l .inv .2,
-      k .kept .1 .1 .1 .1 .1 .0 ∙ l .inv .3,
-      k .kept .1 .1 .1 .1 .1 .1 .0 ∙ l .inv .4,
-      k .kept .1 .1 .1 .1 .1 .1 .1 .0 ∙ l .inv .5,
-      k .kept .1 .1 .1 .1 .1 .1 .1 .1 .0 ∙ l .inv .6,
-      k .kept .1 .1 .1 .1 .1 .1 .1 .1 .1 .0 ∙ l .inv .7,
-    )
-
-loop-less-2 : tie.Need-loop-less-2 Inv-loop μ-loop
-loop-less-2 c =
-    let l = c .before .before .before .before .before .before .before .before .before .before .before .before .before .before .before .before .before .before .before .before .before .before .before .before .before .loop in
-    let a = c .before .before .before .before .before .before .before .before .before .before .before .before .before .before .before .before .before .before .before .before .before .before .before .before .before .before .before .before .before .before .before .before .before .args in
-    let k = c .before .before .before .before .before .before .before .before .before .before .before .before .before .before .before .before .turn in
-    subst (λ (b : Bool). left (now (a .input)) (k .result .from) (k .result .more) < left (now (a .input)) (l .from) b) (sym (c .before .before .before .before .before .before .before .before .before .before .before .before .before .before .before .before .before .before .before .before .before .before .before .before .loop-test .taken))
-    (falls (machine (l .s) (l .memory) (rings (l .ring-one) (l .table-one) (l .ring-two) (l .table-two))) (a .offset) (now (a .input)) (l .from) (l .at) (k .last .1 .1 .1 .1 .0) (rings (k .last .1 .1 .1 .1 .1 .0) (k .last .1 .1 .1 .1 .1 .1 .0) (k .last .1 .1 .1 .1 .1 .1 .1 .0) (k .last .1 .1 .1 .1 .1 .1 .1 .1 .0)) (l .out) (k .last .1 .1 .1 .1 .1 .1 .1 .1 .1 .0) (k .result) (l .inv .0 .within) (k .ensures))
-
-loop-again-2 : tie.Need-loop-again-2 Inv-loop μ-loop
-loop-again-2 c =
-    let l = c .before .before .before .before .before .before .before .before .before .before .before .before .before .before .before .before .before .before .before .before .before .before .before .before .before .loop in
-    let a = c .before .before .before .before .before .before .before .before .before .before .before .before .before .before .before .before .before .before .before .before .before .before .before .before .before .before .before .before .before .before .before .before .before .args in
-    let k = c .before .before .before .before .before .before .before .before .before .before .before .before .before .before .before .before .turn in
-    let m = (machine (l .s) (l .memory) (rings (l .ring-one) (l .table-one) (l .ring-two) (l .table-two))) in
-    let i = subst (λ (b : Bool). SoFar (machine (a .st) (now (a .memory)) (rings (now (a .ring-one)) (now (a .table-one)) (now (a .ring-two)) (now (a .table-two)))) (a .offset) (now (a .input)) (now (a .out)) m (l .out) (l .from) (l .at) b) (c .before .before .before .before .before .before .before .before .before .before .before .before .before .before .before .before .before .before .before .before .before .before .before .before .loop-test .taken) (l .inv .0) in
-    let room : l .at + LINE ≤ length (l .out) = omega (arith, leb-true 8254 (length (l .out) - l .at) (c .before .before .before .before .before .before .before .before .before .before .before .before .before .before .before .before .before .before .before .before .before .before .before .if1 .taken), i .fits) in (
-      next (machine (a .st) (now (a .memory)) (rings (now (a .ring-one)) (now (a .table-one)) (now (a .ring-two)) (now (a .table-two)))) m (a .offset) (now (a .input)) (now (a .out)) (l .out) (l .from) (l .at) i (k .last .1 .1 .1 .1 .0) (rings (k .last .1 .1 .1 .1 .1 .0) (k .last .1 .1 .1 .1 .1 .1 .0) (k .last .1 .1 .1 .1 .1 .1 .1 .0) (k .last .1 .1 .1 .1 .1 .1 .1 .1 .0)) (k .last .1 .1 .1 .1 .1 .1 .1 .1 .1 .0) (k .result) (c .before .before .with-ends .result) (k .ensures) (changed-ends (l .s) (c .before .before .with-ends .result) (k .result .change) (c .before .rebuilds-table .result) (c .before .before .with-ends .ensures) (c .before .rebuilds-table .ensures) (c .if2 .left)) room,
+    let i = subst (λ (b : Bool). SoFar (machine (a .st) (now (a .memory)) (rings (now (a .ring-one)) (now (a .table-one)) (now (a .ring-two)) (now (a .table-two)))) (a .offset) (now (a .input)) (now (a .out)) m (l .out) (l .from) (l .at) b) (c .before .before .before .before .before .before .before .before .before .before .before .before .before .before .before .before .before .before .before .before .before .loop-test .taken) (l .inv .0) in
+    let room : l .at + LINE ≤ length (l .out) = omega (arith, leb-true 8254 (length (l .out) - l .at) (c .before .before .before .before .before .before .before .before .before .before .before .before .before .before .before .before .before .before .before .before .if1 .taken), i .fits) in (
+      next (machine (a .st) (now (a .memory)) (rings (now (a .ring-one)) (now (a .table-one)) (now (a .ring-two)) (now (a .table-two)))) m (a .offset) (now (a .input)) (now (a .out)) (l .out) (l .from) (l .at) i (k .last .1 .1 .1 .1 .0) (rings (k .last .1 .1 .1 .1 .1 .0) (k .last .1 .1 .1 .1 .1 .1 .0) (k .last .1 .1 .1 .1 .1 .1 .1 .0) (k .last .1 .1 .1 .1 .1 .1 .1 .1 .0)) (k .last .1 .1 .1 .1 .1 .1 .1 .1 .1 .0) (k .result) (k .ensures) room,
       l .inv .1,
       k .kept .1 .1 .1 .1 .0 ∙ l .inv .2,
       k .kept .1 .1 .1 .1 .1 .0 ∙ l .inv .3,
@@ -162,13 +127,8 @@ feed-ready-spec =
     loop-holds
     sub-if1
     turn-requires
-    with-ends-requires
-    rebuilds-table-requires
-    with-table-requires
     loop-less
     loop-again
-    loop-less-2
-    loop-again-2
     same-length
     same-length-2
     same-length-3

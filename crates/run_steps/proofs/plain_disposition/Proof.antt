@@ -10,7 +10,7 @@ set-disposition-requires c κs = search needs
 returns : tie.Need-returns
 returns c =
     let a = c .before .args in
-    λ one two base memory. did-plain-dispose (steps-numbered (a .p) (a .handle) (a .disposition) (a .peer-disposition) _ (c .set-disposition .ensures))
+    λ one two base memory. did-plain-dispose (steps-numbered (a .p .inner) (a .handle) (a .disposition) (a .peer-disposition) _ (c .set-disposition .ensures))
 
 pub plain-disposition-spec : {M : Type 1} → statement M
 plain-disposition-spec = tie.close (tie.spec set-disposition-requires returns)

@@ -1,7 +1,7 @@
 -- What a call says is what its definition says. Assumes nothing.
 use Prim.Native.Nat.{ℕ, _-_, _≤_}
 use native.Mathlib.Omega.{arith}
-use mathlib.Core.Path.{_≡_, refl, sym, ap, _∙_, subst}
+use mathlib.Core.Path.{_≡_, refl, sym, ap, _∙_}
 use mathlib.Core.Bool.{true, false}
 use mathlib.Core.List.{List}
 use lib.ListN.{length, drop}
@@ -15,12 +15,6 @@ use Rattle.definition.specs.declared.Step.{Step}
 use Rattle.definition.specs.Pair.{isOne, own, endsOf}
 use Rattle.definition.specs.Write.{pairWritten, ringWritten, tableWritten, UserWrote}
 use Rattle.definition.specs.Read.{pairRead, isPeek, bytesLanded, BytesRead}
-use Rattle.endpoint.specs.declared.ends.Outcome.{Outcome}
-use Rattle.socket.specs.Deferred.{settledStep}
-use Rattle.script_call.specs.declared.pair_outcome.PairOutcome.{PairOutcome}
-use Rattle.script_call.specs.declared.pair_outcome.TableChange.the-variants.{Visit}
-use Rattle.script_call.specs.pair_outcome.PairOutcome.{unchangedPair, outcomeStep}
-use Rattle.script_call.proofs.pair_outcome.Steps.{visit-step, unchanged-is, mk as mkOutcome}
 use Rattle.definition.specs.Tests.{firstLength}
 use Rattle.definition.specs.Memory.{countLanded}
 use Rattle.definition_script.specs.declared.Transfer.{Transfer}
@@ -124,15 +118,3 @@ module _ {memory : List ℕ} {z : Rings} {p : Pair} {tag : ℕ} {b : List ℕ} w
 
   pub no-call : {r : Step} → isBody tag (length b) ≡ false → r ≡ mk p (Refused InvalidArgs) → CallMade memory z p tag b memory z r
   no-call e g = record { made = λ f. absurd (never (sym e ∙ f)); none = λ f. (g, refl, refl) }
-
--- ---- a call whose table is rebuilt last
-
--- the waits of its changes are visited
-pub visit-done : (d : Called) (memory′ : List ℕ) (z′ : Rings) (r : Outcome) (p : Pair) (k : PairOutcome) → length (p .places .table) ≡ 128 → k ≡ mkOutcome r Visit
-    → CallDone d memory′ z′ (settledStep r p) → CallDone d memory′ z′ (outcomeStep k p)
-visit-done d memory′ z′ r p k l e = subst (CallDone d memory′ z′) (sym (ap (λ (x : PairOutcome). outcomeStep x p) e ∙ visit-step r p l))
-
--- nothing changes
-pub unchanged-done : (d : Called) (memory′ : List ℕ) (z′ : Rings) (p : Pair) (a : Answer) (k : PairOutcome) → k ≡ unchangedPair p a
-    → CallDone d memory′ z′ (mk p a) → CallDone d memory′ z′ (outcomeStep k p)
-unchanged-done d memory′ z′ p a k e = subst (CallDone d memory′ z′) (sym (unchanged-is p a k e))

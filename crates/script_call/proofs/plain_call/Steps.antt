@@ -1,32 +1,17 @@
 -- What a call that changes neither memory nor a ring says is what its definition says. Assumes nothing.
 use Prim.Native.Nat.{ℕ, _+_, _≤_}
 use native.Mathlib.Omega.{arith}
-use mathlib.Core.Path.{_≡_, refl, sym, ap, subst, _∙_}
+use mathlib.Core.Path.{_≡_, ap, _∙_}
 use mathlib.Core.Bool.{Bool, true, false}
 use mathlib.Core.List.{List}
-use lib.ListN.{length, getD}
 use borrow.Author.Tests.{le-ltb, eq-eqb, ne-eqb}
 use Rattle.definition.specs.declared.Answer.{Answer}
 use Rattle.definition.specs.Status.{pick, isDone}
 use Rattle.definition.specs.declared.Pair.{Pair}
 use Rattle.definition.specs.declared.Step.{Step}
-use Rattle.definition.specs.declared.Ends.{Ends}
-use Rattle.endpoint.specs.declared.ends.Outcome.{Outcome}
-use Rattle.endpoint.specs.ends.Outcome.{unchangedEnds}
-use Rattle.definition.specs.Pair.{isOne, endsOf}
-use Rattle.definition.specs.Create.{newPair, noPair}
+use Rattle.definition.specs.Pair.{isOne}
 use Rattle.definition.specs.Tests.{Steps}
-use Rattle.socket.specs.Deferred.{settledStep}
-use Rattle.definition_script.specs.Record.{four, eight}
-use Rattle.socket.proofs.Steps.{steps-same}
-use Rattle.socket.proofs.Waits.{wait-steps}
-use Rattle.script_call.specs.declared.pair_outcome.PairOutcome.{PairOutcome}
-use Rattle.script_call.specs.declared.pair_outcome.TableChange.the-variants.{New, Visit, Wait}
-use Rattle.script_call.specs.pair_outcome.PairOutcome.{unchangedPair, renewedPair, outcomeStep}
-use Rattle.script_call.proofs.pair_outcome.Steps.{visit-step, unchanged-is, wait-step, new-step, mk as mkOutcome}
-use Rattle.definition_script.specs.Call.{Rings, rings, ownRing, ownTable, peerRing, peerTable, withPeer, stepOf, createStep, waitStep, takeStep, plainStep}
-use Rattle.script_call.specs.plain_call.Created.{CreatesPair}
-use Rattle.definition.specs.Port.{waitAnswer}
+use Rattle.definition_script.specs.Call.{Rings, rings, ownRing, ownTable, peerRing, peerTable, withPeer, stepOf, takeStep, plainStep}
 
 abbrev pub mk : Pair → Answer → Step
 mk p a = record { pair = p; answer = a }
@@ -38,47 +23,6 @@ same-step r p a e f = ap (λ (x : Pair). mk x (r .answer)) e ∙ ap (λ (y : Ans
 pub steps-are : {p q : Pair} {a : Answer} {r : Step} → Steps p a q r → r ≡ stepOf p a q
 unfolding stepOf
 steps-are {p} {q} {a} {r} s = same-step r (pick (isDone a) q p) a (s .pair) (s .answer)
-
--- ---- a call whose table is rebuilt last
-
--- the waits of its changes are visited
-pub visit-is : {p q : Pair} {a : Answer} (r : Outcome) (d : PairOutcome) → length (p .places .table) ≡ 128 → d ≡ mkOutcome r Visit → Steps p a q (settledStep r p)
-    → outcomeStep d p ≡ stepOf p a q
-visit-is {p} r d l e s = ap (λ (k : PairOutcome). outcomeStep k p) e ∙ visit-step r p l ∙ steps-are s
-
--- nothing changes
-pub unchanged-steps : (p : Pair) (a x : Answer) (d : PairOutcome) → d ≡ unchangedPair p x → x ≡ a → outcomeStep d p ≡ stepOf p a p
-unchanged-steps p a x d e f = unchanged-is p x d e ∙ steps-are (steps-same p a x f)
-
--- there is a wait more
-pub wait-is : (p : Pair) (b : List ℕ) (h key mask edge : ℕ) (e : Ends) (a : Answer) (r : Outcome) → h ≡ four b 0 → key ≡ eight b 4 → mask ≡ four b 12
-    → edge ≡ getD b 16 0 → e ≡ endsOf p → a ≡ waitAnswer e h edge → r ≡ unchangedEnds e a → outcomeStep (mkOutcome r (Wait h key mask edge)) p ≡ waitStep p b
-unfolding waitStep
-wait-is p b h key mask edge e a r eh ek em ee f g i =
-    rw (← eh, ← ek, ← em, ← ee)
-    (ap (λ (k : Outcome). outcomeStep (mkOutcome k (Wait h key mask edge)) p) (i ∙ ap (λ (k : Ends). unchangedEnds k a) f)
-    ∙ wait-step p a h key mask edge
-    ∙ steps-are (wait-steps p h key mask edge a _ (g ∙ ap (λ (k : Ends). waitAnswer k h edge) f) refl))
-
-abbrev renewed : Pair → Pair
-renewed p = renewedPair (p .datagram) (p .capacity) p
-
--- the pair is the one that a create gave
-made-new : (b datagram : Bool) (C one two : ℕ) → renewed (pick b (newPair datagram C one two) noPair) ≡ pick b (newPair datagram C one two) noPair
-unfolding pick newPair noPair renewedPair
-made-new true datagram C one two = refl
-made-new false datagram C one two = refl
-
-pub created-is : (z : Rings) (b : List ℕ) (s : Step) (e : Ends) (r : Outcome) → s ≡ createStep z b → e ≡ endsOf (s .pair) → r ≡ unchangedEnds e (s .answer)
-    → CreatesPair z b (mkOutcome r (New (s .pair .datagram) (s .pair .capacity)))
-unfolding createStep stepOf
-created-is z b s e r f g h p =
-    ap (λ (k : Outcome). outcomeStep (mkOutcome k (New (s .pair .datagram) (s .pair .capacity))) p) (h ∙ ap (λ (k : Ends). unchangedEnds k (s .answer)) g)
-    ∙ new-step p (s .pair) (s .answer) (subst (λ (k : Step). renewed (k .pair) ≡ k .pair) (sym f) new)
-    ∙ f
-  where
-    new : renewed (createStep z b .pair) ≡ createStep z b .pair
-    new = made-new _ _ _ _ _
 
 -- ---- by the handle
 

@@ -26,7 +26,7 @@ create-requires c κs = search needs
 
 returns : tie.Need-returns
 unfolding startState createAnswer numbersAnswer refuseIf _then_ isDone pick
-returns c = ap (λ (x : Pair). mkState x 0 false) (c .before .create .ensures .pair)
+returns c = ap (λ (x : Pair). mkState x 0 false) (c .before .before .create .ensures .pair)
 
 pub start-spec : {M : Type 1} → statement M
 start-spec =

@@ -10,15 +10,12 @@ add-stop c = search needs
 stop-requires : tie.Need-stop-requires
 stop-requires c κs = search needs
 
-no-record-requires : tie.Need-no-record-requires
-no-record-requires c κs = search needs
-
 same-length : tie.Need-same-length
 same-length c = search needs
 
 returns : tie.Need-returns
 unfolding stoppedState
-returns c = record { state = c .no-record .ensures; next = refl; more = refl; text = c .before .before .before .stop .ensures .fit }
+returns c = record { state = refl; next = refl; more = refl; text = c .before .before .before .stop .ensures .fit }
 
 pub stop-spec : {M : Type 1} → statement M
-stop-spec = tie.close (tie.spec add-stop stop-requires no-record-requires same-length returns)
+stop-spec = tie.close (tie.spec add-stop stop-requires same-length returns)

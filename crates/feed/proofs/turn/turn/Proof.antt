@@ -50,15 +50,12 @@ step-requires c κs =
     let g = c .before .before .before .before .before .before .before .before .tag .given in
     record { body = record-body (a .st) (a .from) (now (a .input)) (c .before .before .before .before .before .before .before .before .before .before .next .result) (g .0 .0) (g .0 .1 .0) (c .before .before .before .before .before .before .before .before .before .before .before .before .before .before .before .before .before .before .pre .within) (c .before .before .before .before .before .before .before .before .before .before .next .ensures) (g .1); size = c .before .before .before .before .before .before .before .before .before .before .before .before .before .before .before .before .before .before .pre .size; number = c .before .before .before .before .before .before .before .before .before .before .before .before .before .before .before .before .before .before .pre .number }
 
-no-record-requires : tie.Need-no-record-requires
-no-record-requires c κs = search needs
-
 returns : tie.Need-returns
 returns c =
-    let a = c .before .before .before .before .before .before .before .before .before .before .before .args in
+    let a = c .before .before .before .before .before .before .before .before .before .before .args in
     let m = machine (a .st) (now (a .memory)) (rings (now (a .ring-one)) (now (a .table-one)) (now (a .ring-two)) (now (a .table-two))) in
     let s = drop (a .from) (now (a .input)) in
-    turn-stay m (moveOf m s) (a .offset) (a .from) (a .at) (now (a .out)) _ (next-cut m s (c .before .before .before .next .result) (c .before .before .before .next .ensures) (c .before .enum-told .given .1)) (c .no-record .ensures)
+    turn-stay m (moveOf m s) (a .offset) (a .from) (a .at) (now (a .out)) (next-cut m s (c .before .before .next .result) (c .before .before .next .ensures) (c .enum-told .given .1))
 
 same-length : tie.Need-same-length
 same-length c = search needs
@@ -104,7 +101,6 @@ turn-spec =
     (tie.spec
     next-requires
     enum-told
-    no-record-requires
     enum-told-2
     stop-requires
     enum-known-tag

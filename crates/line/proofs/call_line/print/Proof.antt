@@ -30,8 +30,8 @@ same-length c = search needs
 
 returns : tie.Need-returns
 returns c =
-    let a = c .before .before .before .before .before .before .before .before .before .before .before .before .before .before .before .args in
-    call-line (a .number) (a .tag) _ _ _ (a .at) _ (a .r .answer) (now (a .body)) (now (a .memory)) _ (now (a .out)) _ _ _ _ _ (c .before .before .before .before .before .before .before .before .before .before .shown .ensures) (c .before .before .before .before .before .before .before .before .shown2 .ensures) (c .before .before .before .before .before .before .before .u64-at .ensures) (c .before .before .before .before .before .before .place-of .ensures) (c .before .before .before .before .before .count .ensures) (c .before .before .before .before .part .ensures)
+    let a = c .before .before .before .before .before .before .before .before .before .before .before .before .before .args in
+    call-line (a .number) (a .tag) _ _ _ (a .at) _ (a .a) (now (a .body)) (now (a .memory)) _ (now (a .out)) _ _ _ _ _ (c .before .before .before .before .before .before .before .before .before .shown .ensures) (c .before .before .before .before .before .before .before .before .shown2 .ensures) (c .before .before .before .before .before .before .before .u64-at .ensures) (c .before .before .before .before .before .before .place-of .ensures) (c .before .before .before .before .before .count .ensures) (c .before .before .before .before .part .ensures)
     (c .before .before .line .ensures)
 
 pub print-spec : {M : Type 1} → statement M

@@ -2,10 +2,9 @@ use borrow.Author.Needs.{needs}
 use mathlib.Core.Logic.{⊎-elim}
 use mathlib.Core.Path.{refl}
 use native.Mathlib.Omega.{arith}
-use Rattle.script_call.proofs.call.Calls.{write-call, read-call, fill-call, plain-call, fill-done, no-call, made, unchanged-done}
+use Rattle.script_call.proofs.call.Calls.{write-call, read-call, fill-call, plain-call, fill-done, no-call, made}
 use Rattle.script_call.proofs.fill.Fills.{fill-right}
 use Rattle.definition_script.specs.Call.{rings}
-use Rattle.script_call.proofs.pair_outcome.Steps.{unchanged-is}
 use Rattle.endpoint.proofs.answer.Rules.{via-not, via-not-not}
 use Rattle.script_call.proofs.call.call.Statement.{statement}
 use Rattle.script_call.proofs.call.call.Tie as tie
@@ -13,11 +12,8 @@ use Rattle.script_call.proofs.call.call.Tie as tie
 is-body-requires : tie.Need-is-body-requires
 is-body-requires c κs = search needs
 
-unchanged-requires : tie.Need-unchanged-requires
-unchanged-requires c κs = search needs
-
 returns : tie.Need-returns
-returns c = no-call (via-not (c .before .before .is-body .ensures) (c .before .if1 .taken)) (unchanged-is _ _ _ (c .unchanged .ensures))
+returns c = no-call (via-not (c .before .is-body .ensures) (c .if1 .taken)) refl
 
 transfer-at-requires : tie.Need-transfer-at-requires
 transfer-at-requires c κs = search needs
@@ -33,9 +29,6 @@ read-requires c κs = search needs
 
 fill-requires : tie.Need-fill-requires
 fill-requires c κs = search needs
-
-unchanged-requires-2 : tie.Need-unchanged-requires-2
-unchanged-requires-2 c κs = search needs
 
 plain-requires : tie.Need-plain-requires
 plain-requires c κs = search needs
@@ -81,16 +74,13 @@ returns-3 c =
     (read-call _ _ _ _ _ _ _ _ (c .before .before .before .before .before .before .before .before .before .match .keys2) (rw (← c .before .before .before .before .before .before .before .before .transfer-at2 .ensures) (c .before .before .read .ensures)))
 
 same-length-11 : tie.Need-same-length-11
-same-length-11 c = c .before .before .before .fill .kept .0
+same-length-11 c = c .before .before .fill .kept .0
 
 returns-4 : tie.Need-returns-4
 returns-4 c =
-    let right = via-not-not (c .before .before .before .before .before .before .before .before .is-body .ensures) (c .before .before .before .before .before .before .before .if1 .left) in
-    let late = c .before .before .before .before .before .if2 .left in
-    made right
-    (fill-call _ _ _ _ _ _ _ _ late
-    (unchanged-done _ _ _ _ _ _ (c .unchanged2 .ensures)
-    (fill-done _ _ _ _ _ _ _ (c .before .before .before .fill .ensures .made (fill-right _ _ late right)))))
+    let right = via-not-not (c .before .before .before .before .before .before .before .is-body .ensures) (c .before .before .before .before .before .before .if1 .left) in
+    let late = c .before .before .before .before .if2 .left in
+    made right (fill-call _ _ _ _ _ _ _ _ late (fill-done _ _ _ _ _ _ _ (c .before .before .fill .ensures .made (fill-right _ _ late right))))
 
 same-length-12 : tie.Need-same-length-12
 same-length-12 c = refl
@@ -112,14 +102,12 @@ call-spec =
     tie.close
     (tie.spec
     is-body-requires
-    unchanged-requires
     returns
     transfer-at-requires
     write-requires
     transfer-at-requires-2
     read-requires
     fill-requires
-    unchanged-requires-2
     plain-requires
     same-length
     same-length-2

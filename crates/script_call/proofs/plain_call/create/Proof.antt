@@ -1,6 +1,6 @@
-use denote.Ref.{now}
-use Rattle.definition_script.specs.Call.{rings, createStep}
-use Rattle.script_call.proofs.plain_call.Steps.{steps-are, created-is}
+use mathlib.Core.Path.{_∙_}
+use Rattle.definition_script.specs.Call.{createStep}
+use Rattle.script_call.proofs.plain_call.Steps.{steps-are}
 use borrow.Author.Needs.{needs}
 use Rattle.script_call.proofs.plain_call.create.Statement.{statement}
 use Rattle.script_call.proofs.plain_call.create.Tie as tie
@@ -26,20 +26,14 @@ cast-two c = search needs
 create-requires : tie.Need-create-requires
 create-requires c κs = search needs
 
-ends-of-requires : tie.Need-ends-of-requires
-ends-of-requires c κs = search needs
-
-unchanged-requires : tie.Need-unchanged-requires
-unchanged-requires c κs = search needs
+inner-step-requires : tie.Need-inner-step-requires
+inner-step-requires c κs = search needs
 
 returns : tie.Need-returns
 unfolding createStep
 returns c =
-    let a = c .before .before .before .before .before .before .before .before .before .before .before .before .before .args in
-    created-is (rings (now (a .ring-one)) (now (a .table-one)) (now (a .ring-two)) (now (a .table-two))) (now (a .body)) (c .before .before .before .create .result) _ _
-    (rw (← c .before .before .before .before .before .before .before .u32-at .ensures, ← c .before .before .before .before .before .before .u32-at2 .ensures, ← c .before .before .before .before .before .u8-at .ensures, ← c .before .before .before .before .u8-at2 .ensures) (steps-are (c .before .before .before .create .ensures)))
-    (c .before .ends-of .ensures)
-    (c .unchanged .ensures)
+    rw (← c .before .before .before .before .before .u32-at .ensures, ← c .before .before .before .before .u32-at2 .ensures, ← c .before .before .before .u8-at .ensures, ← c .before .before .u8-at2 .ensures)
+    (c .inner-step .ensures ∙ steps-are (c .before .create .ensures))
 
 pub create-spec : {M : Type 1} → statement M
 create-spec =
@@ -52,6 +46,5 @@ create-spec =
     u8-at-requires-2
     cast-two
     create-requires
-    ends-of-requires
-    unchanged-requires
+    inner-step-requires
     returns)

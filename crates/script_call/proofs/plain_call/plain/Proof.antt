@@ -39,7 +39,7 @@ take-requires c κs = search needs
 
 returns : tie.Need-returns
 unfolding plainStep pick
-returns c = rw (c .before .match .keys1) (c .create .ensures _)
+returns c = rw (c .before .match .keys1) (c .create .ensures)
 
 returns-2 : tie.Need-returns-2
 unfolding plainStep pick

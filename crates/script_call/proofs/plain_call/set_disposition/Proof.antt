@@ -1,6 +1,4 @@
-use Rattle.socket.proofs.Visiting.{places-128}
-use Rattle.syscall.proofs.Controlled.{dispose-whole}
-use Rattle.script_call.proofs.plain_call.Steps.{visit-is}
+use Rattle.script_call.proofs.plain_call.Steps.{steps-are}
 use Rattle.definition_script.specs.Call.{dispositionStep}
 use borrow.Author.Needs.{needs}
 use Rattle.script_call.proofs.plain_call.set_disposition.Statement.{statement}
@@ -15,31 +13,14 @@ u32-at-requires-2 c κs = search needs
 u32-at-requires-3 : tie.Need-u32-at-requires-3
 u32-at-requires-3 c κs = search needs
 
-ends-of-requires : tie.Need-ends-of-requires
-ends-of-requires c κs = search needs
-
-dispose-ends-requires : tie.Need-dispose-ends-requires
-dispose-ends-requires c κs = search needs
-
-visits-requires : tie.Need-visits-requires
-visits-requires c κs = search needs
+set-disposition-requires : tie.Need-set-disposition-requires
+set-disposition-requires c κs = search needs
 
 returns : tie.Need-returns
 unfolding dispositionStep
 returns c =
-    let s = c .before .before .before .before .before .before .before in
-    let l = places-128 (s .args .p) _ (s .good .0) in
-    rw (← c .before .before .before .before .before .u32-at .ensures, ← c .before .before .before .before .u32-at2 .ensures, ← c .before .before .before .u32-at3 .ensures)
-    (visit-is _ _ l (c .visits .ensures) (dispose-whole (s .args .p) _ _ _ _ _ l (c .before .before .ends-of .ensures) (c .before .dispose-ends .ensures)))
+    rw (← c .before .before .before .u32-at .ensures, ← c .before .before .u32-at2 .ensures, ← c .before .u32-at3 .ensures)
+    (steps-are (c .set-disposition .ensures))
 
 pub set-disposition-spec : {M : Type 1} → statement M
-set-disposition-spec =
-    tie.close
-    (tie.spec
-    u32-at-requires
-    u32-at-requires-2
-    u32-at-requires-3
-    ends-of-requires
-    dispose-ends-requires
-    visits-requires
-    returns)
+set-disposition-spec = tie.close (tie.spec u32-at-requires u32-at-requires-2 u32-at-requires-3 set-disposition-requires returns)

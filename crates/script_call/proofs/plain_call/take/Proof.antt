@@ -1,26 +1,20 @@
-use mathlib.Core.Path.{_∙_, refl}
-use Rattle.socket.proofs.Waits.{take-steps}
-use Rattle.script_call.proofs.pair_outcome.Steps.{take-step}
+use mathlib.Core.Path.{_∙_}
 use Rattle.script_call.proofs.plain_call.Steps.{steps-are}
 use Rattle.definition_script.specs.Call.{takeStep}
 use borrow.Author.Needs.{needs}
 use Rattle.script_call.proofs.plain_call.take.Statement.{statement}
 use Rattle.script_call.proofs.plain_call.take.Tie as tie
 
-take-answer-requires : tie.Need-take-answer-requires
-take-answer-requires c κs = search needs
+take-requires : tie.Need-take-requires
+take-requires c κs = search needs
 
-ends-of-requires : tie.Need-ends-of-requires
-ends-of-requires c κs = search needs
-
-unchanged-requires : tie.Need-unchanged-requires
-unchanged-requires c κs = search needs
+inner-step-requires : tie.Need-inner-step-requires
+inner-step-requires c κs = search needs
 
 returns : tie.Need-returns
 unfolding takeStep
 returns c =
-    rw (c .unchanged .ensures, c .before .ends-of .ensures)
-    (take-step (c .before .before .before .args .p) _ ∙ steps-are (take-steps (c .before .before .before .args .p) _ _ (c .before .before .take-answer .ensures) refl))
+    c .inner-step .ensures ∙ steps-are (c .before .take .ensures)
 
 pub take-spec : {M : Type 1} → statement M
-take-spec = tie.close (tie.spec take-answer-requires ends-of-requires unchanged-requires returns)
+take-spec = tie.close (tie.spec take-requires inner-step-requires returns)

@@ -1,0 +1,25 @@
+use Rattle.socket.proofs.Inner.{inner-128}
+use Rattle.socket.proofs.Settled.{write-threshold-whole}
+use Rattle.socket.proofs.SocketPair.set_write_threshold.Statement.{statement}
+use Rattle.socket.proofs.SocketPair.set_write_threshold.Tie as tie
+
+ends-of-requires : tie.Need-ends-of-requires
+ends-of-requires c κs = tt
+
+write-threshold-ends-requires : tie.Need-write-threshold-ends-requires
+write-threshold-ends-requires c κs = tt
+
+settle-requires : tie.Need-settle-requires
+settle-requires c κs = tt
+
+stepped-requires : tie.Need-stepped-requires
+stepped-requires c κs = tt
+
+returns : tie.Need-returns
+returns c =
+    let s = c .before .before .before .before .before in
+    rw (c .stepped .ensures, c .before .settle .ensures)
+    (write-threshold-whole (s .args .self .inner) (s .args .handle) (s .args .threshold) _ _ (inner-128 (s .args .self) _ (s .good .0)) (c .before .before .before .ends-of .ensures) (c .before .before .write-threshold-ends .ensures))
+
+pub set-write-threshold-spec : {M : Type 1} → statement M
+set-write-threshold-spec = tie.close (tie.spec ends-of-requires write-threshold-ends-requires settle-requires stepped-requires returns)
