@@ -1,5 +1,5 @@
 // A script is read into a buffer and fed from its front.
-use definition_script::State;
+use definition_script::ScriptState;
 ghost use mathlib.Core.Path.{_≡_};
 ghost use lib.ListN.{length};
 ghost use Rattle.definition_script.specs.Call.{rings};
@@ -9,13 +9,13 @@ ghost use Rattle.buffer.specs.buffer.Buffer.{frontOf, Advanced};
 // Where a script stands that is read into a buffer: the state, how many bytes came before the buffer, how many at its front are in use, and how many of
 // the output are written.
 pub struct Progress {
-    pub state: State,
+    pub state: ScriptState,
     pub offset: u64,
     pub used: usize,
     pub written: usize,
 }
 
-fn standing(state: State, offset: u64, used: usize, written: usize) -> Progress
+fn standing(state: ScriptState, offset: u64, used: usize, written: usize) -> Progress
     ensures { λ r. ⌜ r ≡ record { state = state; offset = offset; used = used; written = written } ⌝ }
 {
     Progress {

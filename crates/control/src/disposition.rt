@@ -4,8 +4,8 @@ use definition::Answer;
 use definition::Disposition;
 use definition::Endpoint;
 use definition::Ends;
+use endpoint::ends::EndsOutcome;
 use endpoint::ends::Moved;
-use endpoint::ends::Outcome;
 use endpoint::ends::Pending;
 use endpoint::signal::PEER_WRITE_DISABLED;
 use endpoint::signal::WRITABLE;
@@ -83,7 +83,7 @@ fn peer_moved(one: bool, own: Endpoint, peer: Endpoint, d: Disposition) -> Moved
 }
 
 // Own first, then peer.
-fn disposed_ends(e: Ends, one: bool, answer: Answer, d: Disposition, f: Disposition) -> Outcome
+fn disposed_ends(e: Ends, one: bool, answer: Answer, d: Disposition, f: Disposition) -> EndsOutcome
     ensures { λ r. ⌜ r ≡ disposedEnds e one answer d f ⌝ }
 {
     let m = own_moved(
@@ -105,7 +105,7 @@ pub fn dispose_ends(
     handle: u32,
     disposition: Disposition,
     peer_disposition: Disposition,
-) -> Outcome
+) -> EndsOutcome
     ensures { λ r. ⌜ r ≡ disposeEnds e handle disposition «peer_disposition» ⌝ }
 {
     let a = answers::control::dispose_answer(e, handle, disposition, peer_disposition);

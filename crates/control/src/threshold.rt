@@ -4,8 +4,8 @@ use definition::Endpoint;
 use definition::Ends;
 use definition::Thresholds;
 use endpoint::bits::is_reached;
+use endpoint::ends::EndsOutcome;
 use endpoint::ends::Moved;
-use endpoint::ends::Outcome;
 use endpoint::signal::READ_THRESHOLD;
 use endpoint::signal::WRITE_THRESHOLD;
 ghost use mathlib.Core.Path.{_≡_};
@@ -60,7 +60,7 @@ fn write_threshold_moved(
 }
 
 // READ_THRESHOLD shows while at least so many bytes are queued at this end; 0 is none.
-pub fn read_threshold_ends(e: Ends, handle: u32, threshold: u64) -> Outcome
+pub fn read_threshold_ends(e: Ends, handle: u32, threshold: u64) -> EndsOutcome
     ensures { λ r. ⌜ r ≡ readThresholdEnds e handle threshold ⌝ }
 {
     let a = answers::threshold::read_threshold_answer(e, handle, threshold);
@@ -78,7 +78,7 @@ pub fn read_threshold_ends(e: Ends, handle: u32, threshold: u64) -> Outcome
 }
 
 // While the peer is open, WRITE_THRESHOLD shows whether its queue has at least so much space; 0 is none. The bit stays as it is when the peer closes.
-pub fn write_threshold_ends(e: Ends, handle: u32, threshold: u64) -> Outcome
+pub fn write_threshold_ends(e: Ends, handle: u32, threshold: u64) -> EndsOutcome
     ensures { λ r. ⌜ r ≡ writeThresholdEnds e handle threshold ⌝ }
 {
     let a = answers::threshold::write_threshold_answer(e, handle, threshold);

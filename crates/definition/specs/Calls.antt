@@ -119,9 +119,9 @@ abbrev pub withPair : Pair → State → State
 withPair p s = record { pair = p; one = s .one; two = s .two }
 
 -- the same, with the slices of the other end replaced
-abbrev pub withPeer : Bool → Pair → Slices → State → State
-withPeer true p l s = record { pair = p; one = s .one; two = l }
-withPeer false p l s = record { pair = p; one = l; two = s .two }
+abbrev pub withPeerSlices : Bool → Pair → Slices → State → State
+withPeerSlices true p l s = record { pair = p; one = s .one; two = l }
+withPeerSlices false p l s = record { pair = p; one = l; two = s .two }
 
 -- what can be seen of a call: its answer with its record, both signal words (none of a closed end), and the whole next pair
 pub record Seen : Type 0 where
@@ -244,7 +244,7 @@ createdBy c one two =
 -- a write changes its peer's slices; src is what it finds
 unfoldable pub written : State → (h m : ℕ) → (src : List ℕ) → State
 written s h m src =
-    withPeer (isOne h) (pairWritten (s .pair) h m)
+    withPeerSlices (isOne h) (pairWritten (s .pair) h m)
     (record {
       ring = ringWritten (endsOf (s .pair)) h m src (peerSlices (isOne h) s .ring);
       table = tableWritten (endsOf (s .pair)) h m (peerSlices (isOne h) s .table);
@@ -319,8 +319,8 @@ afterAll s (i ∷ is) = afterAll (after s i) is
 unfoldable pub pairCreated : Create → Answer → Pair
 pairCreated c r = pick (isDone r) (newPair (eqb (c .kind) 1) (c .capacity) (c .rights1) (c .rights2)) noPair
 
-abbrev pub start : Create → (one two : Slices) → State
-start c one two = state (pairCreated c (createdBy c one two)) one two
+abbrev pub stateCreated : Create → (one two : Slices) → State
+stateCreated c one two = state (pairCreated c (createdBy c one two)) one two
 
 -- create with the arguments and slices of a run
 abbrev pub CreatesBy : (before : Pair) → Create → (one two : Slices) → Step → Type 0

@@ -19,7 +19,7 @@ use Rattle.definition.specs.declared.Step.{Step}
 use Rattle.definition.specs.Status.{refuseIf, _then_, pick, _or_, countOf, refuseUnless, isDone}
 use Rattle.definition.specs.Pair.{isOne, own, peer, withQueue, endsOf}
 use Rattle.definition.specs.Tests.{soundTest, Lent, slicesTest, handleTest, firstLength, lentOf}
-use Rattle.definition.specs.Ring.{place, front}
+use Rattle.definition.specs.Ring.{position, front}
 use Rattle.definition.specs.Signal.{READABLE, «READ_THRESHOLD», missed, bitIf, WRITABLE, «WRITE_THRESHOLD», reached}
 use Rattle.definition.specs.Effect.{ownWord, peerWord, ifOpen, Effect, keepingWaits, applied}
 use Rattle.definition.specs.Memory.{fits, countFits, isNull, RIGHT-READ, lookup, countLanded}
@@ -60,10 +60,10 @@ leaving datagram first k = pick datagram first k
 unfoldable pub drainedQueue : Bool → (C n : ℕ) → Queue → Queue
 drainedQueue datagram C n q =
     record {
-      bytes = record { start = place C (q .bytes .start) n; count = q .bytes .count - n };
+      bytes = record { start = position C (q .bytes .start) n; count = q .bytes .count - n };
       lengths =
           record {
-            start = pick datagram (place C (q .lengths .start) 1) (q .lengths .start);
+            start = pick datagram (position C (q .lengths .start) 1) (q .lengths .start);
             count = pick datagram (q .lengths .count - 1) (q .lengths .count);
           };
     }
@@ -104,7 +104,7 @@ bufferRead e h k ring buffer =
 -- ---- the call
 
 -- A read or a peek by the end of handle h into a buffer; ring and table are its own and stay as they are.
-pub record Read (p : Pair) (h : ℕ) (peek : Bool) (ring table buffer buffer′ : List ℕ) (r : Step) : Type 0 where
+pub record Reads (p : Pair) (h : ℕ) (peek : Bool) (ring table buffer buffer′ : List ℕ) (r : Step) : Type 0 where
   pub answer : r .answer ≡ readAnswer (endsOf p) (lentOf (p .datagram) (own (isOne h) (endsOf p) .queue) ring table) h (length buffer)
   pub pair : r .pair ≡ pairRead p h peek (firstLength (p .datagram) (own (isOne h) (endsOf p) .queue) table) (countOf (r .answer))
   pub bytes : buffer′ ≡ bufferRead (endsOf p) h (countOf (r .answer)) ring buffer
@@ -133,14 +133,14 @@ bytesLanded p h base address k ring memory =
     pick (eqb k 0) memory (paste memory (address - base) (front (p .capacity) (own (isOne h) (endsOf p) .queue .bytes .start) k ring) k)
 
 -- 01 "Calls over user memory", read: a read or peek, but for its count. ring and table are the reader's and stay as they are. The
--- law `count-after` of crates/syscall/proofs/Calls: with the count after it, this is `UserRead`.
+-- law `count-after` of crates/syscall/proofs/Calls: with the count after it, this is `UserReads`.
 pub record BytesRead (p : Pair) (h base options address n countAt : ℕ) (ring table memory memory′ : List ℕ) (r : Step) : Type 0 where
   pub answer : r .answer ≡ userReadAnswer (endsOf p) (lentOf (p .datagram) (own (isOne h) (endsOf p) .queue) ring table) h base (length memory) options address n countAt
   pub pair : r .pair ≡ pairRead p h (isPeek options) (firstLength (p .datagram) (own (isOne h) (endsOf p) .queue) table) (countOf (r .answer))
   pub user : memory′ ≡ bytesLanded p h base address (countOf (r .answer)) ring memory
 
 -- 01 "Calls over user memory", read: a read or peek. The bytes land first, the count over them.
-pub record UserRead (p : Pair) (h base options address n countAt : ℕ) (ring table memory memory′ : List ℕ) (r : Step) : Type 0 where
+pub record UserReads (p : Pair) (h base options address n countAt : ℕ) (ring table memory memory′ : List ℕ) (r : Step) : Type 0 where
   pub answer : r .answer ≡ userReadAnswer (endsOf p) (lentOf (p .datagram) (own (isOne h) (endsOf p) .queue) ring table) h base (length memory) options address n countAt
   pub pair : r .pair ≡ pairRead p h (isPeek options) (firstLength (p .datagram) (own (isOne h) (endsOf p) .queue) table) (countOf (r .answer))
   pub user :

@@ -8,8 +8,8 @@ use lib.Seq.{paste}
 use Rattle.definition.specs.Status.{pick}
 
 -- the place that is k entries past the place s; k is at most C, and a whole turn comes back to s. 01 "Delivered bytes".
-unfoldable pub place : ℕ → ℕ → ℕ → ℕ
-place C s k = pick (ltb k (C - s)) (s + k) (k - (C - s))
+unfoldable pub position : ℕ → ℕ → ℕ → ℕ
+position C s k = pick (ltb k (C - s)) (s + k) (k - (C - s))
 
 -- the n entries from the place s on: those up to the ring's end, then those from its start. 01 "Delivered bytes".
 unfoldable pub front : {A : Type 0} → ℕ → ℕ → ℕ → List A → List A

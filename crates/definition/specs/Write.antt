@@ -20,7 +20,7 @@ use Rattle.definition.specs.Signal.{«WRITE_DISABLED», meets, READABLE,
 use Rattle.definition.specs.Pair.{isOne, own, peer, withQueue, endsOf}
 use Rattle.definition.specs.Tests.{soundTest, Lent, slicesTest, handleTest, lentOf}
 use Rattle.definition.specs.Effect.{ownWord, peerWord, Effect, keepingWaits, applied}
-use Rattle.definition.specs.Ring.{place, put}
+use Rattle.definition.specs.Ring.{position, put}
 use Rattle.definition.specs.Memory.{fits, countFits, isNull, RIGHT-WRITE, lookup, countLanded}
 
 -- ---- the size
@@ -87,7 +87,7 @@ pairWritten p h m = pick (eqb m 0) p (wrote (isOne h) m p)
 
 -- a ring that m bytes went into: they stand behind those queued
 unfoldable pub ringFed : (C : ℕ) → Queue → (m : ℕ) → (src ring : List ℕ) → List ℕ
-ringFed C q m src ring = put C (place C (q .bytes .start) (q .bytes .count)) m src ring
+ringFed C q m src ring = put C (position C (q .bytes .start) (q .bytes .count)) m src ring
 
 -- the peer's ring, by the count of the answer
 unfoldable pub ringWritten : Ends → (h m : ℕ) → (src ring : List ℕ) → List ℕ
@@ -95,7 +95,7 @@ ringWritten e h m src ring = pick (eqb m 0) ring (ringFed (e .capacity) (peer (i
 
 -- a table that a datagram of m bytes went into: its length stands behind those queued
 unfoldable pub tableFed : Bool → (C : ℕ) → Queue → (m : ℕ) → (table : List ℕ) → List ℕ
-tableFed datagram C q m table = pick datagram (set table (place C (q .lengths .start) (q .lengths .count)) m) table
+tableFed datagram C q m table = pick datagram (set table (position C (q .lengths .start) (q .lengths .count)) m) table
 
 -- the peer's table, by the count of the answer
 unfoldable pub tableWritten : Ends → (h m : ℕ) → (table : List ℕ) → List ℕ
@@ -104,7 +104,7 @@ tableWritten e h m table = pick (eqb m 0) table (tableFed (e .datagram) (e .capa
 -- ---- the call
 
 -- A write of src by the end of handle h; ring and table are the peer's.
-pub record Wrote (p : Pair) (h : ℕ) (src ring ring′ table table′ : List ℕ) (r : Step) : Type 0 where
+pub record Writes (p : Pair) (h : ℕ) (src ring ring′ table table′ : List ℕ) (r : Step) : Type 0 where
   pub answer : r .answer ≡ writeAnswer (endsOf p) (lentOf (p .datagram) (peer (isOne h) (endsOf p) .queue) ring table) h (length src)
   pub pair : r .pair ≡ pairWritten p h (countOf (r .answer))
   pub bytes : ring′ ≡ ringWritten (endsOf p) h (countOf (r .answer)) src ring
@@ -133,7 +133,7 @@ userWriteAnswer e z h base size options address n countAt =
 
 -- 01 "Calls over user memory", write: a write by the end of handle h. ring and table are the peer's. The bytes are taken before the count
 -- lands.
-pub record UserWrote (p : Pair) (h base options address n countAt : ℕ) (memory memory′ ring ring′ table table′ : List ℕ) (r : Step) : Type 0 where
+pub record UserWrites (p : Pair) (h base options address n countAt : ℕ) (memory memory′ ring ring′ table table′ : List ℕ) (r : Step) : Type 0 where
   pub answer : r .answer ≡ userWriteAnswer (endsOf p) (lentOf (p .datagram) (peer (isOne h) (endsOf p) .queue) ring table) h base (length memory) options address n countAt
   pub pair : r .pair ≡ pairWritten p h (countOf (r .answer))
   pub bytes : ring′ ≡ ringWritten (endsOf p) h (countOf (r .answer)) (drop (address - base) memory) ring

@@ -17,14 +17,14 @@ use Rattle.definition.specs.Read.{bufferRead, bytesLanded}
 use Rattle.definition.specs.Pair.{isOne, own, endsOf}
 use Rattle.definition.specs.Calls.{Call, write, read, plainWrite, plainRead, close, control, Slices, State, ownSlices, view, ownLent, answerTo, landed, deliveredIn}
 use Rattle.definition_runs.proofs.runs.Memory.{take-pasted}
-use Rattle.definition_runs.specs.TwoRuns.{Origin, Line, flat, Lines, ownLine, sourceOf}
+use Rattle.definition_runs.specs.TwoRuns.{Origin, OriginLine, flat, OriginLines, ownLine, sourceOf}
 use Rattle.definition_runs.proofs.Holds.{Size, Holds, firstOf, ring-long}
 use Rattle.definition_runs.proofs.Moves.{Taken, front-line, taken-within}
 use Rattle.definition_runs.proofs.Answers.{plain-taken, user-taken}
 use Rattle.definition_runs.proofs.Invariant.{Inv, own-first}
 
 -- one end
-end-delivers : (f : Origin → Option ℕ) (dg : Bool) (C : ℕ) (z : Size) (q : Queue) (l : Slices) (g : Line) (memory : List ℕ) (off k : ℕ)
+end-delivers : (f : Origin → Option ℕ) (dg : Bool) (C : ℕ) (z : Size) (q : Queue) (l : Slices) (g : OriginLine) (memory : List ℕ) (off k : ℕ)
     → Holds f dg C z q l g → Taken dg (q .bytes .count) (firstOf dg g) k → off + k ≤ length memory
     → map some (take k (drop off (paste memory off (front C (q .bytes .start) k (l .ring)) k))) ≡ map f (take k (flat g))
 end-delivers f dg C z q l g memory off k h t fits =
@@ -35,7 +35,7 @@ end-delivers f dg C z q l g memory off k h t fits =
     ∙ ap (map some) (take-all k (front C (q .bytes .start) k (l .ring)) (omega arith))
     ∙ front-line f dg C z q l g k within h
 
-module _ (f : Origin → Option ℕ) (dg : Bool) (z1 z2 : Size) (s : State) (ln : Lines) (v : Inv f dg z1 z2 s ln) where
+module _ (f : Origin → Option ℕ) (dg : Bool) (z1 z2 : Size) (s : State) (ln : OriginLines) (v : Inv f dg z1 z2 s ln) where
   queue-delivers : (t : Bool) (memory : List ℕ) (off k : ℕ)
       → Taken (s .pair .datagram) (own t (endsOf (s .pair)) .queue .bytes .count) (firstOf (s .pair .datagram) (ownLine t ln)) k → off + k ≤ length memory
       → map some (take k (drop off (paste memory off (front (s .pair .capacity) (own t (endsOf (s .pair)) .queue .bytes .start) k (ownSlices t s .ring)) k)))

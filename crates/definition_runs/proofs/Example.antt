@@ -2,8 +2,8 @@
 use Prim.Native.Nat.{ℕ}
 use mathlib.Core.Path.{refl}
 use mathlib.Core.List.{List}
-use Rattle.definition.specs.cases.Scripts.{stream, datagram, create}
-use Rattle.definition_runs.specs.Example.{salary, filler, streamSalary, streamFiller, empty, used, outcomesOf, lastOf, createOf, sourcesOf, OnDatagrams, OnStreams, Examples}
+use Rattle.definition.specs.cases.Scripts.{streamKind, datagramKind, create}
+use Rattle.definition_runs.specs.Example.{salary, filler, streamSalary, streamFiller, emptySlices, usedSlices, outcomesOf, lastOf, createOf, sourcesOf, OnDatagrams, OnStreams, Examples}
 use Rattle.definition.specs.Calls.{Input, Slices}
 use Rattle.definition_runs.specs.Run.{Run}
 use Rattle.definition_runs.proofs.runs.Exists.{runs-exist}
@@ -17,11 +17,11 @@ on-datagrams : OnDatagrams
 unfolding outcomesOf sourcesOf
 on-datagrams =
     record {
-      run1 = run-of datagram empty salary;
-      run2 = run-of datagram used filler;
+      run1 = run-of datagramKind emptySlices salary;
+      run2 = run-of datagramKind usedSlices filler;
       alike =
-          two-runs (create datagram 7) empty empty used used (record { ring = refl; table = refl }) (record { ring = refl; table = refl }) salary filler refl
-          _ _ _ _ _ _ (run-of datagram empty salary) (run-of datagram used filler);
+          two-runs (create datagramKind 7) emptySlices emptySlices usedSlices usedSlices (record { ring = refl; table = refl }) (record { ring = refl; table = refl }) salary filler refl
+          _ _ _ _ _ _ (run-of datagramKind emptySlices salary) (run-of datagramKind usedSlices filler);
       first = refl;
       second = refl;
       sources = refl;
@@ -31,12 +31,12 @@ on-streams : OnStreams
 unfolding outcomesOf sourcesOf
 on-streams =
     record {
-      run1 = run-of stream empty streamSalary;
-      run2 = run-of stream used streamFiller;
+      run1 = run-of streamKind emptySlices streamSalary;
+      run2 = run-of streamKind usedSlices streamFiller;
       alike =
-          two-runs (create stream 7) empty empty used used (record { ring = refl; table = refl }) (record { ring = refl; table = refl })
+          two-runs (create streamKind 7) emptySlices emptySlices usedSlices usedSlices (record { ring = refl; table = refl }) (record { ring = refl; table = refl })
           streamSalary streamFiller refl
-          _ _ _ _ _ _ (run-of stream empty streamSalary) (run-of stream used streamFiller);
+          _ _ _ _ _ _ (run-of streamKind emptySlices streamSalary) (run-of streamKind usedSlices streamFiller);
       first = refl;
       second = refl;
       sources = refl;

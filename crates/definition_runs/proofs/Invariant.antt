@@ -22,8 +22,8 @@ use Rattle.definition.specs.declared.Pair.{Pair}
 use Rattle.definition.specs.Tests.{lentOf}
 use Rattle.definition.specs.Disposition.{dispositionOf}
 use Rattle.definition.specs.Shutdown.{shutsRead, shutsWrite}
-use Rattle.definition.specs.Calls.{Control, setDisposition, shutdown, plainDisposition, plainShutdown, setReadThreshold, setWriteThreshold, getThresholds, getInfo, wait, takePacket, Call, write, read, plainWrite, plainRead, close, control, Input, bytesOf, offsetOf, Slices, State, peerSlices, withPair, withPeer, view, ownLent, peerLent, controlAnswer, answerTo, controlled, pairAfter, written, stateAfter, answerOf, after}
-use Rattle.definition_runs.specs.TwoRuns.{Origin, origins, Line, Lines, ownLine, withOwn, fed, added, shrunk, removed, linesAfter}
+use Rattle.definition.specs.Calls.{Control, setDisposition, shutdown, plainDisposition, plainShutdown, setReadThreshold, setWriteThreshold, getThresholds, getInfo, wait, takePacket, Call, write, read, plainWrite, plainRead, close, control, Input, bytesOf, offsetOf, Slices, State, peerSlices, withPair, withPeerSlices, view, ownLent, peerLent, controlAnswer, answerTo, controlled, pairAfter, written, stateAfter, answerOf, after}
+use Rattle.definition_runs.specs.TwoRuns.{Origin, origins, OriginLine, OriginLines, ownLine, withOwn, fed, added, shrunk, removed, linesAfter}
 use Rattle.definition_runs.proofs.Lists.{length-origins, origin-bytes}
 use Rattle.definition_runs.proofs.Holds.{Size, Holds, firstOf, first-is}
 use Rattle.definition_runs.proofs.Moves.{fed-holds, Taken, drained-holds, no-holds}
@@ -31,14 +31,14 @@ use Rattle.definition_runs.proofs.Kept
 use Rattle.definition_runs.proofs.Kept.{Kept, kept}
 use Rattle.definition_runs.proofs.Answers.{Room, plain-room, user-room, plain-taken, user-taken, wait-room, take-any}
 
-pub record Inv (f : Origin → Option ℕ) (dg : Bool) (z1 z2 : Size) (s : State) (ln : Lines) : Type 0 where
+pub record Inv (f : Origin → Option ℕ) (dg : Bool) (z1 z2 : Size) (s : State) (ln : OriginLines) : Type 0 where
   pub kind : s .pair .datagram ≡ dg
   pub high : s .pair .capacity ≤ 262144
   pub places : sound (s .pair .places) ≡ true
   pub one : Holds f (s .pair .datagram) (s .pair .capacity) z1 (s .pair .one .queue) (s .one) (ln .one)
   pub two : Holds f (s .pair .datagram) (s .pair .capacity) z2 (s .pair .two .queue) (s .two) (ln .two)
 
-moved : {f : Origin → Option ℕ} {dg dg′ : Bool} {C C′ : ℕ} {z : Size} {q q′ : Queue} {l : Slices} {g : Line}
+moved : {f : Origin → Option ℕ} {dg dg′ : Bool} {C C′ : ℕ} {z : Size} {q q′ : Queue} {l : Slices} {g : OriginLine}
     → dg′ ≡ dg → C′ ≡ C → q′ ≡ q → Holds f dg C z q l g → Holds f dg′ C′ z q′ l g
 moved {f} {dg} {dg′} {C} {C′} {z} {q} {q′} {l} {g} a b c h =
     subst (λ (x : Bool). Holds f x C′ z q′ l g) (sym a)
@@ -47,7 +47,7 @@ moved {f} {dg} {dg′} {C} {C′} {z} {q} {q′} {l} {g} a b c h =
 
 module _ (f : Origin → Option ℕ) (dg : Bool) (z1 z2 : Size) where
   -- a change that keeps the queues
-  inv-kept : (p p′ : Pair) (one two : Slices) (ln : Lines) → Kept p p′
+  inv-kept : (p p′ : Pair) (one two : Slices) (ln : OriginLines) → Kept p p′
       → Inv f dg z1 z2 (record { pair = p; one = one; two = two }) ln → Inv f dg z1 z2 (record { pair = p′; one = one; two = two }) ln
   inv-kept p p′ one two ln k v =
       record {
@@ -59,7 +59,7 @@ module _ (f : Origin → Option ℕ) (dg : Bool) (z1 z2 : Size) where
       }
 
   -- a call that moves no byte: where it is done the pair is q
-  steps-inv : (s : State) (ln : Lines) (q : Pair) (r : Answer) → (isDone r ≡ true → Kept (s .pair) q)
+  steps-inv : (s : State) (ln : OriginLines) (q : Pair) (r : Answer) → (isDone r ≡ true → Kept (s .pair) q)
       → Inv f dg z1 z2 s ln → Inv f dg z1 z2 (withPair (pick (isDone r) q (s .pair)) s) ln
   unfolding isDone pick
   steps-inv s ln q (Done d) k v = inv-kept (s .pair) q (s .one) (s .two) ln (k refl) v
@@ -68,11 +68,11 @@ module _ (f : Origin → Option ℕ) (dg : Bool) (z1 z2 : Size) where
   -- ---- write
 
   -- a write whose m bytes stand at the origins of any group
-  module _ (group : List Origin) (m : ℕ) (xs : List ℕ) (s : State) (ln : Lines) (v : Inv f dg z1 z2 s ln) where
+  module _ (group : List Origin) (m : ℕ) (xs : List ℕ) (s : State) (ln : OriginLines) (v : Inv f dg z1 z2 s ln) where
     fed-inv : (t : Bool) → 0 < m → peer t (endsOf (s .pair)) .queue .bytes .count + m ≤ s .pair .capacity → m ≤ length xs → length group ≡ m
         → map f group ≡ map some (take m xs)
         → Inv f dg z1 z2
-        (withPeer t (wrote t m (s .pair))
+        (withPeerSlices t (wrote t m (s .pair))
         (record {
           ring = ringFed (s .pair .capacity) (peer t (endsOf (s .pair)) .queue) m xs (peerSlices t s .ring);
           table = tableFed (s .pair .datagram) (s .pair .capacity) (peer t (endsOf (s .pair)) .queue) m (peerSlices t s .table);
@@ -107,7 +107,7 @@ module _ (f : Origin → Option ℕ) (dg : Bool) (z1 z2 : Size) where
       where
         go : (t : Bool) → (0 < m → Room (s .pair .capacity) (peer t (endsOf (s .pair)) .queue .bytes .count) n m) → (b : Bool) → eqb m 0 ≡ b
             → Inv f dg z1 z2
-            (withPeer t (pick b (s .pair) (wrote t m (s .pair)))
+            (withPeerSlices t (pick b (s .pair) (wrote t m (s .pair)))
             (record {
               ring = pick b (peerSlices t s .ring) (ringFed (s .pair .capacity) (peer t (endsOf (s .pair)) .queue) m xs (peerSlices t s .ring));
               table = pick b (peerSlices t s .table) (tableFed (s .pair .datagram) (s .pair .capacity) (peer t (endsOf (s .pair)) .queue) m (peerSlices t s .table));
@@ -122,7 +122,7 @@ module _ (f : Origin → Option ℕ) (dg : Bool) (z1 z2 : Size) where
             fed-inv t any (room any .fits) (has any) size (at (has any))
 
   -- the group of one write
-  pub added-inv : (w m : ℕ) (xs : List ℕ) → ((o : ℕ) → f (record { call = w; offset = o }) ≡ getElem? xs o) → (s : State) (ln : Lines)
+  pub added-inv : (w m : ℕ) (xs : List ℕ) → ((o : ℕ) → f (record { call = w; offset = o }) ≡ getElem? xs o) → (s : State) (ln : OriginLines)
       → Inv f dg z1 z2 s ln
       → (h n : ℕ) → (0 < m → Room (s .pair .capacity) (peer (isOne h) (endsOf (s .pair)) .queue .bytes .count) n m) → (0 < m → m ≤ length xs)
       → Inv f dg z1 z2 (written s h m xs) (added (isOne h) w m ln)
@@ -132,7 +132,7 @@ module _ (f : Origin → Option ℕ) (dg : Bool) (z1 z2 : Size) where
 
   -- ---- read and close
 
-  module _ (s : State) (ln : Lines) (v : Inv f dg z1 z2 s ln) where
+  module _ (s : State) (ln : OriginLines) (v : Inv f dg z1 z2 s ln) where
     drained-inv : (t : Bool) (k : ℕ) → Taken (s .pair .datagram) (own t (endsOf (s .pair)) .queue .bytes .count) (firstOf (s .pair .datagram) (ownLine t ln)) k
         → Inv f dg z1 z2 (withPair (consumed t (leaving (s .pair .datagram) (firstOf (s .pair .datagram) (ownLine t ln)) k) (s .pair)) s)
         (withOwn t (shrunk (s .pair .datagram) k (ownLine t ln)) ln)

@@ -7,7 +7,7 @@ use native.Mathlib.Omega.{arith}
 use native.Mathlib.Nat.{not-suc-le-zero, le-of-suc-le-suc}
 use lib.ListN.{length, getD, take, drop, length-append, getElem?}
 use lib.Seq.{drop-cons}
-use Rattle.definition_runs.specs.TwoRuns.{Origin, origins, Line, flat}
+use Rattle.definition_runs.specs.TwoRuns.{Origin, origins, OriginLine, flat}
 
 -- ---- lists
 
@@ -35,7 +35,7 @@ getElem-some (x ∷ xs) (suc o) h = getElem-some xs o (le-of-suc-le-suc h)
 
 -- ---- lines
 
-pub flat-snoc : (g : Line) (o : List Origin) → flat (g ++ (o ∷ [])) ≡ flat g ++ o
+pub flat-snoc : (g : OriginLine) (o : List Origin) → flat (g ++ (o ∷ [])) ≡ flat g ++ o
 unfolding flat
 flat-snoc [] o = append-nil o
 flat-snoc (x ∷ g) o = ap (λ l. x ++ l) (flat-snoc g o) ∙ sym (append-assoc x (flat g) o)
@@ -56,25 +56,25 @@ origin-bytes f w xs at o (suc m) h =
     ∙ ap (λ (b : Option ℕ). b ∷ map some (take m (drop (suc o) xs))) (at o ∙ getElem-some xs o (omega arith)))
 
 -- every group has an origin
-pub data Full : Line → Type 0 where
+pub data Full : OriginLine → Type 0 where
   full-none : Full []
-  full-more : {x : List Origin} {g : Line} → 0 < length x → Full g → Full (x ∷ g)
+  full-more : {x : List Origin} {g : OriginLine} → 0 < length x → Full g → Full (x ∷ g)
 
-pub full-snoc : {g : Line} (x : List Origin) → Full g → 0 < length x → Full (g ++ (x ∷ []))
+pub full-snoc : {g : OriginLine} (x : List Origin) → Full g → 0 < length x → Full (g ++ (x ∷ []))
 full-snoc x full-none h = full-more h full-none
 full-snoc x (full-more k fs) h = full-more k (full-snoc x fs h)
 
-pub full-drop : {g : Line} → Full g → Full (drop 1 g)
+pub full-drop : {g : OriginLine} → Full g → Full (drop 1 g)
 full-drop full-none = full-none
 full-drop (full-more k fs) = fs
 
 -- so there are no more groups than origins
-pub full-length : {g : Line} → Full g → length g ≤ length (flat g)
+pub full-length : {g : OriginLine} → Full g → length g ≤ length (flat g)
 unfolding flat
 full-length full-none = omega arith
 full-length (full-more {x} {g} k fs) = omega (arith, full-length fs, length-append x (flat g))
 
 -- the length of the first group, 0 where there is none
-unfoldable pub headLength : Line → ℕ
+unfoldable pub headLength : OriginLine → ℕ
 headLength [] = 0
 headLength (x ∷ g) = length x

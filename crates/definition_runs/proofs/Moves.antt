@@ -8,21 +8,21 @@ use native.Mathlib.Omega.{arith}
 use lib.ListN.{length, take, drop, length-append, length-set}
 use lib.Seq.{drop-append-seam}
 use Rattle.definition.specs.Status.{pick}
-use Rattle.definition.specs.Ring.{place, front}
+use Rattle.definition.specs.Ring.{position, front}
 use Rattle.ring.proofs.copy.Laws.{place-lt, front-none, front-put, front-set, take-front, drop-front, length-put}
 use Rattle.definition.specs.declared.Queue.{Queue}
 use Rattle.definition.specs.Pair.{noQueue}
 use Rattle.definition.specs.Read.{leaving, drainedQueue}
 use Rattle.definition.specs.Write.{fedQueue, ringFed, tableFed}
 use Rattle.definition.specs.Calls.{Slices}
-use Rattle.definition_runs.specs.TwoRuns.{Origin, Line, flat, shrunk}
+use Rattle.definition_runs.specs.TwoRuns.{Origin, OriginLine, flat, shrunk}
 use Rattle.definition_runs.proofs.Lists.{map-append, map-drop, map-take, flat-snoc, full-snoc, full-drop, full-none, headLength}
 use Rattle.definition_runs.proofs.Holds.{Size, Holds, absurd-bool, firstOf, count-flat, few, ring-long, table-long}
 
 -- ---- bytes go in
 
 -- m bytes that stand at the origins of any group, of one write or of many
-module _ (f : Origin → Option ℕ) (C : ℕ) (z : Size) (q : Queue) (l : Slices) (g : Line) (group : List Origin) (m : ℕ) (xs : List ℕ)
+module _ (f : Origin → Option ℕ) (C : ℕ) (z : Size) (q : Queue) (l : Slices) (g : OriginLine) (group : List Origin) (m : ℕ) (xs : List ℕ)
     (any : 0 < m) (fits : q .bytes .count + m ≤ C) (has : m ≤ length xs) (size : length group ≡ m) (at : map f group ≡ map some (take m xs)) where
   fed-bytes : (dg : Bool) → Holds f dg C z q l g
       → map some (front C (q .bytes .start) (q .bytes .count + m) (ringFed C q m xs (l .ring))) ≡ map f (flat (g ++ (group ∷ [])))
@@ -37,7 +37,7 @@ module _ (f : Origin → Option ℕ) (C : ℕ) (z : Size) (q : Queue) (l : Slice
   fed-ring : (dg : Bool) → Holds f dg C z q l g → length (ringFed C q m xs (l .ring)) ≡ z .ring
   unfolding ringFed
   fed-ring dg h =
-      length-put C (place C (q .bytes .start) (q .bytes .count)) m xs (l .ring) (place-lt C (q .bytes .start) (q .bytes .count) (h .start) (h .room))
+      length-put C (position C (q .bytes .start) (q .bytes .count)) m xs (l .ring) (place-lt C (q .bytes .start) (q .bytes .count) (h .start) (h .room))
       (omega arith) has (ring-long f dg C z q l g h)
       ∙ h .ring
 
@@ -51,7 +51,7 @@ module _ (f : Origin → Option ℕ) (C : ℕ) (z : Size) (q : Queue) (l : Slice
         first = h .first;
         room = fits;
         ring = fed-ring true h;
-        table = length-set (l .table) (place C (q .lengths .start) (q .lengths .count)) m ∙ h .table;
+        table = length-set (l .table) (position C (q .lengths .start) (q .lengths .count)) m ∙ h .table;
         long = h .long;
         wide = h .wide;
         bytes = fed-bytes true h;
@@ -85,12 +85,12 @@ pub record Taken (dg : Bool) (count first k : ℕ) : Type 0 where
   pub part : dg ≡ true → k ≤ first
   pub stream : dg ≡ false → k ≤ count
 
-flat-cons : (x : List Origin) (g : Line) → length (flat (x ∷ g)) ≡ length x + length (flat g)
+flat-cons : (x : List Origin) (g : OriginLine) → length (flat (x ∷ g)) ≡ length x + length (flat g)
 unfolding flat
 flat-cons x g = length-append x (flat g)
 
 -- a datagram leaves with its group
-datagram-leaves : (f : Origin → Option ℕ) (C : ℕ) (z : Size) (q : Queue) (l : Slices) (g : Line) → 0 < q .bytes .count
+datagram-leaves : (f : Origin → Option ℕ) (C : ℕ) (z : Size) (q : Queue) (l : Slices) (g : OriginLine) → 0 < q .bytes .count
     → Holds f true C z q l g → Holds f true C z (drainedQueue true C (headLength g) q) l (drop 1 g)
 unfolding drainedQueue headLength pick flat
 datagram-leaves f C z q l [] any h = absurd (omega (arith, count-flat f true C z q l [] h))
@@ -120,7 +120,7 @@ datagram-leaves f C z q l (x ∷ g) any h =
     }
 
 -- k bytes leave a stream
-stream-leaves : (f : Origin → Option ℕ) (C : ℕ) (z : Size) (q : Queue) (l : Slices) (g : Line) (k : ℕ) → k ≤ q .bytes .count
+stream-leaves : (f : Origin → Option ℕ) (C : ℕ) (z : Size) (q : Queue) (l : Slices) (g : OriginLine) (k : ℕ) → k ≤ q .bytes .count
     → Holds f false C z q l g → Holds f false C z (drainedQueue false C k q) l (drop k (flat g) ∷ [])
 unfolding drainedQueue pick flat
 stream-leaves f C z q l g k within h =
@@ -143,7 +143,7 @@ stream-leaves f C z q l g k within h =
       full = λ d. absurd-bool d;
     }
 
-pub drained-holds : (f : Origin → Option ℕ) (dg : Bool) (C : ℕ) (z : Size) (q : Queue) (l : Slices) (g : Line) (k : ℕ)
+pub drained-holds : (f : Origin → Option ℕ) (dg : Bool) (C : ℕ) (z : Size) (q : Queue) (l : Slices) (g : OriginLine) (k : ℕ)
     → Taken dg (q .bytes .count) (firstOf dg g) k
     → Holds f dg C z q l g → Holds f dg C z (drainedQueue dg C (leaving dg (firstOf dg g) k) q) l (shrunk dg k g)
 unfolding leaving firstOf shrunk pick
@@ -172,7 +172,7 @@ no-holds f dg C z l low ring table long wide =
 
 -- ---- what is delivered: the first k of the queue are those of the line
 
-pub front-line : (f : Origin → Option ℕ) (dg : Bool) (C : ℕ) (z : Size) (q : Queue) (l : Slices) (g : Line) (k : ℕ) → k ≤ q .bytes .count
+pub front-line : (f : Origin → Option ℕ) (dg : Bool) (C : ℕ) (z : Size) (q : Queue) (l : Slices) (g : OriginLine) (k : ℕ) → k ≤ q .bytes .count
     → Holds f dg C z q l g → map some (front C (q .bytes .start) k (l .ring)) ≡ map f (take k (flat g))
 front-line f dg C z q l g k within h =
     ap (map some) (sym (take-front C (q .bytes .start) (q .bytes .count) k (l .ring) within (h .room) (h .start) (ring-long f dg C z q l g h)))
@@ -181,12 +181,12 @@ front-line f dg C z q l g k within h =
     ∙ map-take f k (flat g)
 
 -- a read delivers no more than is queued
-first-within : (f : Origin → Option ℕ) (C : ℕ) (z : Size) (q : Queue) (l : Slices) (g : Line) → Holds f true C z q l g → headLength g ≤ q .bytes .count
+first-within : (f : Origin → Option ℕ) (C : ℕ) (z : Size) (q : Queue) (l : Slices) (g : OriginLine) → Holds f true C z q l g → headLength g ≤ q .bytes .count
 unfolding headLength
 first-within f C z q l [] h = omega arith
 first-within f C z q l (x ∷ g) h = omega (arith, count-flat f true C z q l (x ∷ g) h, flat-cons x g)
 
-pub taken-within : (f : Origin → Option ℕ) (dg : Bool) (C : ℕ) (z : Size) (q : Queue) (l : Slices) (g : Line) (k : ℕ)
+pub taken-within : (f : Origin → Option ℕ) (dg : Bool) (C : ℕ) (z : Size) (q : Queue) (l : Slices) (g : OriginLine) (k : ℕ)
     → Taken dg (q .bytes .count) (firstOf dg g) k → Holds f dg C z q l g → k ≤ q .bytes .count
 unfolding firstOf pick
 taken-within f true C z q l g k t h = omega (arith, t .part refl, first-within f C z q l g h)

@@ -20,7 +20,7 @@ use Rattle.definition.specs.Shutdown.{shutdownAnswer, userShutdownAnswer}
 use Rattle.definition.specs.Close.{closeAnswer}
 use Rattle.definition.specs.Disposition.{plainDisposeAnswer, userDisposeAnswer}
 use Rattle.definition.specs.Calls.{Control, setDisposition, shutdown, plainDisposition, plainShutdown, setReadThreshold, setWriteThreshold, getThresholds, getInfo, wait, takePacket, Call, write, read, plainWrite, plainRead, close, control, Input, Public, public, Slices, State, state, seenOf, View, view, controlAnswer, answerTo, pairAfter, answerOf, outcome, outcomes}
-use Rattle.definition_runs.specs.TwoRuns.{Origin, Lines, noLines, linesAfter, sourceOf, sourcesFrom, seen, answers, delivered, calls}
+use Rattle.definition_runs.specs.TwoRuns.{Origin, OriginLines, noLines, linesAfter, sourceOf, sourcesFrom, seen, answers, deliveries, calls}
 use Rattle.definition_runs.proofs.Lists.{cons-path}
 use Rattle.definition_runs.proofs.Refused.{pair-stays, lines-stay, no-source, refused-after, refused-delivers}
 
@@ -72,7 +72,7 @@ module _ (one two : Slices) where
 
   -- nothing is delivered, and nothing has a source
   pub origins-all : (f : Origin → Option ℕ) (dg : Bool) (w : ℕ) (is : List Input)
-      → map (map some) (delivered (outcomes (state noPair one two) is))
+      → map (map some) (deliveries (outcomes (state noPair one two) is))
       ≡ map (map f) (sourcesFrom dg w noLines (calls is) (answers (outcomes (state noPair one two) is)))
   unfolding none outcomes sourcesFrom outcome
   origins-all f dg w [] = refl
@@ -84,6 +84,6 @@ module _ (one two : Slices) where
       cons-path
       (ap (map some) (refused-delivers none i Internal a)
       ∙ sym (ap (λ (x : Answer). map f (sourceOf noLines (i .call) x)) a ∙ ap (map f) (no-source noLines (i .call) Internal)))
-      (ap (λ (s : State). map (map some) (delivered (outcomes s is))) e
+      (ap (λ (s : State). map (map some) (deliveries (outcomes s is))) e
       ∙ origins-all f dg (suc w) is
-      ∙ sym (ap₂ (λ (ln : Lines) (s : State). map (map f) (sourcesFrom dg (suc w) ln (calls is) (answers (outcomes s is)))) l e))
+      ∙ sym (ap₂ (λ (ln : OriginLines) (s : State). map (map f) (sourcesFrom dg (suc w) ln (calls is) (answers (outcomes s is)))) l e))

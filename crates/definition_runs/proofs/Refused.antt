@@ -11,8 +11,8 @@ use Rattle.definition.specs.Write.{ringWritten, tableWritten, pairWritten}
 use Rattle.definition.specs.declared.Pair.{Pair}
 use Rattle.definition.specs.Pair.{isOne}
 use Rattle.definition.specs.Read.{pairRead, isPeek}
-use Rattle.definition.specs.Calls.{Call, write, read, plainWrite, plainRead, close, control, Input, State, peerSlices, withPeer, Outcome, View, view, pairAfter, memoryAfter, written, stateAfter, landed, deliveredIn, answerOf, afterBy, deliveredBy, after, outcome}
-use Rattle.definition_runs.specs.TwoRuns.{Lines, added, removed, linesAfter, sourceOf}
+use Rattle.definition.specs.Calls.{Call, write, read, plainWrite, plainRead, close, control, Input, State, peerSlices, withPeerSlices, Outcome, View, view, pairAfter, memoryAfter, written, stateAfter, landed, deliveredIn, answerOf, afterBy, deliveredBy, after, outcome}
+use Rattle.definition_runs.specs.TwoRuns.{OriginLines, added, removed, linesAfter, sourceOf}
 use Rattle.definition_runs.specs.Laws.{RefusedChangesNothing, MemoryAtExit}
 use Rattle.definition_runs.proofs.runs.Match.{calls-match}
 
@@ -20,7 +20,7 @@ none-written : (s : State) (h : ℕ) (src : List ℕ) → written s h 0 src ≡ 
 unfolding written pairWritten ringWritten tableWritten pick
 none-written s h src = go (isOne h)
   where
-    go : (t : Bool) → withPeer t (s .pair) (record { ring = peerSlices t s .ring; table = peerSlices t s .table }) s ≡ s
+    go : (t : Bool) → withPeerSlices t (s .pair) (record { ring = peerSlices t s .ring; table = peerSlices t s .table }) s ≡ s
     go true = refl
     go false = refl
 
@@ -67,12 +67,12 @@ delivers-nothing base memory (close h) e = refl
 delivers-nothing base memory (control c) e = refl
 
 -- nor does it change a line, and it has no source
-none-removed : (dg t peek : Bool) (ln : Lines) → removed dg t peek 0 ln ≡ ln
+none-removed : (dg t peek : Bool) (ln : OriginLines) → removed dg t peek 0 ln ≡ ln
 unfolding removed pick
 none-removed dg t true ln = refl
 none-removed dg t false ln = refl
 
-pub lines-stay : (dg : Bool) (w : ℕ) (c : Call) (e : Status) (ln : Lines) → linesAfter dg w c (Refused e) ln ≡ ln
+pub lines-stay : (dg : Bool) (w : ℕ) (c : Call) (e : Status) (ln : OriginLines) → linesAfter dg w c (Refused e) ln ≡ ln
 unfolding linesAfter countOf isDone added pick
 lines-stay dg w (write h o a n at) e ln = refl
 lines-stay dg w (read h o a n at) e ln = none-removed dg (isOne h) (isPeek o) ln
@@ -81,7 +81,7 @@ lines-stay dg w (plainRead h peek) e ln = none-removed dg (isOne h) peek ln
 lines-stay dg w (close h) e ln = refl
 lines-stay dg w (control c) e ln = refl
 
-pub no-source : (ln : Lines) (c : Call) (e : Status) → sourceOf ln c (Refused e) ≡ []
+pub no-source : (ln : OriginLines) (c : Call) (e : Status) → sourceOf ln c (Refused e) ≡ []
 unfolding sourceOf countOf
 no-source ln (write h o a n at) e = refl
 no-source ln (read h o a n at) e = refl

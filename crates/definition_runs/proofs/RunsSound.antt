@@ -31,7 +31,7 @@ use Rattle.definition.specs.Close.{closeAnswer}
 use Rattle.definition.specs.Memory.{lookup}
 use Rattle.definition.specs.Calls.{Control, setDisposition, shutdown, plainDisposition, plainShutdown, setReadThreshold, setWriteThreshold, getThresholds, getInfo, wait, takePacket, Call, write, read, plainWrite, plainRead, close, control, Input, State, state, ownSlices, Outcome, createdBy, View, view, ownLent, peerLent, tableOnly, controlAnswer, answerTo, answerOf, outcome, pairCreated}
 use Rattle.definition_runs.specs.Run.{Chain, none, next, Does, run}
-use Rattle.definition_runs.specs.TwoRuns.{Origin, Lines, noLines, found, linesAfter}
+use Rattle.definition_runs.specs.TwoRuns.{Origin, OriginLines, noLines, found, linesAfter}
 use Rattle.definition_runs.specs.Laws.{Sound, RunsAreSound}
 use Rattle.definition_runs.proofs.Holds.{Size, first-is, sound-queue, slices-long, first-good}
 use Rattle.definition_runs.proofs.Invariant.{Inv}
@@ -202,7 +202,7 @@ never a x e = let z : _≡_ {A = Bool} true false = rw e at x in let y : _≡_ {
 
 -- ---- a state of a run
 
-module _ (f : Origin → Option ℕ) (dg : Bool) (z1 z2 : Size) (s : State) (ln : Lines) (v : Inv f dg z1 z2 s ln) where
+module _ (f : Origin → Option ℕ) (dg : Bool) (z1 z2 : Size) (s : State) (ln : OriginLines) (v : Inv f dg z1 z2 s ln) where
   pair-sound : soundEnds (endsOf (s .pair)) ≡ true
   unfolding soundEnds _and_
   pair-sound =
@@ -246,7 +246,7 @@ module _ (f : Origin → Option ℕ) (dg : Bool) (z1 z2 : Size) (s : State) (ln 
       }
 
 -- along a run
-chain-sound : (whole : List Input) (dg : Bool) (z1 z2 : Size) (w : ℕ) (s : State) (ln : Lines) (is : List Input) (os : List Outcome) (s′ : State)
+chain-sound : (whole : List Input) (dg : Bool) (z1 z2 : Size) (w : ℕ) (s : State) (ln : OriginLines) (is : List Input) (os : List Outcome) (s′ : State)
     → ((k : ℕ) → getElem? whole (w + k) ≡ getElem? is k) → Inv (found whole) dg z1 z2 s ln → Chain Does s is os s′ → Sound s′
 chain-sound whole dg z1 z2 w s ln is os s′ at v none = inv-sound (found whole) dg z1 z2 s ln v
 chain-sound whole dg z1 z2 w s ln is os s′ at v (next {s′ = s₁} {i = i} {o = o} {is = rest} {os = others} d r) =

@@ -16,8 +16,8 @@ use Rattle.definition.specs.Create.{createAnswer, newPair, noPair}
 use Rattle.definition.specs.declared.Pair.{Pair}
 use Rattle.definition.specs.Pair.{isOne}
 use Rattle.definition.specs.Tests.{Lent}
-use Rattle.definition.specs.Calls.{Create, Call, write, read, plainWrite, plainRead, close, control, Input, Public, public, Slices, State, state, withPeer, Seen, seenOf, Outcome, createdBy, View, view, answerTo, pairAfter, memoriesAfter, written, stateAfter, answerOf, after, outcome, outcomes, pairCreated, start}
-use Rattle.definition_runs.specs.TwoRuns.{Origin, Line, Lines, noLines, linesAfter, sourcesFrom, sources, byteAt, found, seen, answers, delivered, memoriesLeft, calls, Alike, SameLengths, TwoRuns}
+use Rattle.definition.specs.Calls.{Create, Call, write, read, plainWrite, plainRead, close, control, Input, Public, public, Slices, State, state, withPeerSlices, Seen, seenOf, Outcome, createdBy, View, view, answerTo, pairAfter, memoriesAfter, written, stateAfter, answerOf, after, outcome, outcomes, pairCreated, stateCreated}
+use Rattle.definition_runs.specs.TwoRuns.{Origin, OriginLine, OriginLines, noLines, linesAfter, sourcesFrom, sources, byteAt, found, seen, answers, deliveries, memoriesLeft, calls, Alike, SameLengths, TwoRuns}
 use Rattle.definition_runs.proofs.Lists.{cons-path}
 use Rattle.definition_runs.proofs.Holds.{Size, firstOf, lent-is}
 use Rattle.definition_runs.proofs.Invariant.{Inv, after-inv}
@@ -28,13 +28,13 @@ use Rattle.definition_runs.proofs.runs.Whole.{runs-match}
 
 -- ---- what is public of a state, from its pair and the lines
 
-abbrev lentBy : Bool → Size → Line → Lent
+abbrev lentBy : Bool → Size → OriginLine → Lent
 lentBy dg z g = record { ring = z .ring; table = z .table; first = firstOf dg g }
 
-abbrev lineView : Bool → (z1 z2 : Size) → Pair → Lines → View
+abbrev lineView : Bool → (z1 z2 : Size) → Pair → OriginLines → View
 lineView dg z1 z2 p ln = record { pair = p; one = lentBy dg z1 (ln .one); two = lentBy dg z2 (ln .two) }
 
-view-is : (f : Origin → Option ℕ) (dg : Bool) (z1 z2 : Size) (s : State) (ln : Lines) → Inv f dg z1 z2 s ln → view s ≡ lineView dg z1 z2 (s .pair) ln
+view-is : (f : Origin → Option ℕ) (dg : Bool) (z1 z2 : Size) (s : State) (ln : OriginLines) → Inv f dg z1 z2 s ln → view s ≡ lineView dg z1 z2 (s .pair) ln
 view-is f dg z1 z2 s ln v =
     let a = lent-is f (s .pair .datagram) (s .pair .capacity) z1 (s .pair .one .queue) (s .one) (ln .one) (v .one) in
     let b = lent-is f (s .pair .datagram) (s .pair .capacity) z2 (s .pair .two .queue) (s .two) (ln .two) (v .two) in
@@ -42,14 +42,14 @@ view-is f dg z1 z2 s ln v =
 
 -- ---- what is seen, from what is public
 
-unfoldable publicRun : Bool → (z1 z2 : Size) → ℕ → Pair → Lines → List Public → List Seen
+unfoldable publicRun : Bool → (z1 z2 : Size) → ℕ → Pair → OriginLines → List Public → List Seen
 publicRun dg z1 z2 w p ln [] = []
 publicRun dg z1 z2 w p ln (x ∷ xs) =
     let v : View = lineView dg z1 z2 p ln in
     let r : Answer = answerTo v (x .base) (x .size) (x .call) in
     seenOf r (pairAfter v (x .call) r) ∷ publicRun dg z1 z2 (suc w) (pairAfter v (x .call) r) (linesAfter dg w (x .call) r ln) xs
 
-pair-written : (t : Bool) (p : Pair) (l : Slices) (s : State) → withPeer t p l s .pair ≡ p
+pair-written : (t : Bool) (p : Pair) (l : Slices) (s : State) → withPeerSlices t p l s .pair ≡ p
 pair-written true p l s = refl
 pair-written false p l s = refl
 
@@ -66,7 +66,7 @@ pair-after s i (control c) r = refl
 
 module _ (whole : List Input) (dg : Bool) (z1 z2 : Size) where
   -- the invariant after a call
-  pub next-inv : (w : ℕ) (s : State) (ln : Lines) (i : Input) → getElem? whole w ≡ some i → Inv (found whole) dg z1 z2 s ln
+  pub next-inv : (w : ℕ) (s : State) (ln : OriginLines) (i : Input) → getElem? whole w ≡ some i → Inv (found whole) dg z1 z2 s ln
       → Inv (found whole) dg z1 z2 (after s i) (linesAfter dg w (i .call) (answerOf s i) ln)
   unfolding found byteAt
   next-inv w s ln i here v =
@@ -80,7 +80,7 @@ module _ (whole : List Input) (dg : Bool) (z1 z2 : Size) where
       → (k : ℕ) → getElem? whole (suc w + k) ≡ getElem? is k
   after-in w i is at k = ap (getElem? whole) (suc-add w k ∙ sym (add-suc w k)) ∙ at (suc k)
 
-  seen-run : (w : ℕ) (s : State) (ln : Lines) (is : List Input) → ((k : ℕ) → getElem? whole (w + k) ≡ getElem? is k) → Inv (found whole) dg z1 z2 s ln
+  seen-run : (w : ℕ) (s : State) (ln : OriginLines) (is : List Input) → ((k : ℕ) → getElem? whole (w + k) ≡ getElem? is k) → Inv (found whole) dg z1 z2 s ln
       → seen (outcomes s is) ≡ publicRun dg z1 z2 w (s .pair) ln (map public is)
   unfolding outcomes publicRun outcome after
   seen-run w s ln [] at v = refl
@@ -95,8 +95,8 @@ module _ (whole : List Input) (dg : Bool) (z1 z2 : Size) where
       (linesAfter dg w (i .call) (answerTo x (i .base) (length (i .memory)) (i .call)) ln) (map public is))
       e)
 
-  origin-run : (w : ℕ) (s : State) (ln : Lines) (is : List Input) → ((k : ℕ) → getElem? whole (w + k) ≡ getElem? is k) → Inv (found whole) dg z1 z2 s ln
-      → map (map some) (delivered (outcomes s is)) ≡ map (map (found whole)) (sourcesFrom dg w ln (calls is) (answers (outcomes s is)))
+  origin-run : (w : ℕ) (s : State) (ln : OriginLines) (is : List Input) → ((k : ℕ) → getElem? whole (w + k) ≡ getElem? is k) → Inv (found whole) dg z1 z2 s ln
+      → map (map some) (deliveries (outcomes s is)) ≡ map (map (found whole)) (sourcesFrom dg w ln (calls is) (answers (outcomes s is)))
   unfolding outcomes sourcesFrom outcome
   origin-run w s ln [] at v = refl
   origin-run w s ln (i ∷ is) at v =
@@ -115,7 +115,7 @@ whole-in : (is : List Input) (k : ℕ) → getElem? is (0 + k) ≡ getElem? is k
 whole-in is k = ap (getElem? is) (zero-add k)
 
 seen-whole : (c : Create) (one two : Slices) (is : List Input)
-    → seen (outcomes (start c one two) is) ≡ publicFrom c (sizeOf one) (sizeOf two) (createdBy c one two) (map public is)
+    → seen (outcomes (stateCreated c one two) is) ≡ publicFrom c (sizeOf one) (sizeOf two) (createdBy c one two) (map public is)
 unfolding pairCreated publicFrom isDone pick
 seen-whole c one two is = go (createdBy c one two) (λ e. created-fits c one two e)
   where
@@ -126,13 +126,13 @@ seen-whole c one two is = go (createdBy c one two) (λ e. created-fits c one two
     go (Refused e) fit = seen-all one two is
 
 origin-whole : (c : Create) (one two : Slices) (is : List Input)
-    → map (map some) (delivered (outcomes (start c one two) is))
-    ≡ map (map (found is)) (sources (eqb (c .kind) 1) (calls is) (answers (outcomes (start c one two) is)))
+    → map (map some) (deliveries (outcomes (stateCreated c one two) is))
+    ≡ map (map (found is)) (sources (eqb (c .kind) 1) (calls is) (answers (outcomes (stateCreated c one two) is)))
 unfolding sources pairCreated isDone pick
 origin-whole c one two is = go (createdBy c one two) (λ e. created-fits c one two e)
   where
     go : (r : Answer) → (isDone r ≡ true → Fit c one two)
-        → map (map some) (delivered (outcomes (state (pairCreated c r) one two) is))
+        → map (map some) (deliveries (outcomes (state (pairCreated c r) one two) is))
         ≡ map (map (found is)) (sourcesFrom (eqb (c .kind) 1) 0 noLines (calls is) (answers (outcomes (state (pairCreated c r) one two) is)))
     go (Done d) fit =
         origin-run is (eqb (c .kind) 1) (sizeOf one) (sizeOf two) 0 _ noLines is (whole-in is) (new-inv (found is) c one two (fit refl))
@@ -141,7 +141,7 @@ origin-whole c one two is = go (createdBy c one two) (λ e. created-fits c one t
 -- ---- memory at exit
 
 memory-run : (s : State) (is : List Input)
-    → memoriesLeft (outcomes s is) ≡ memoriesAfter is (answers (outcomes s is)) (delivered (outcomes s is))
+    → memoriesLeft (outcomes s is) ≡ memoriesAfter is (answers (outcomes s is)) (deliveries (outcomes s is))
 unfolding outcomes outcome memoriesAfter
 memory-run s [] = refl
 memory-run s (i ∷ is) = cons-path refl (memory-run (after s i) is)
@@ -166,7 +166,7 @@ module _ (c : Create) (one two one′ two′ : Slices) (e : SameLengths one one�
   public-same ps =
       λ i. publicFrom c (record { ring = e .ring i; table = e .table i }) (record { ring = k .ring i; table = k .table i }) (created-same i) ps
 
-  seen-same : (is js : List Input) → map public is ≡ map public js → seen (outcomes (start c one two) is) ≡ seen (outcomes (start c one′ two′) js)
+  seen-same : (is js : List Input) → map public is ≡ map public js → seen (outcomes (stateCreated c one two) is) ≡ seen (outcomes (stateCreated c one′ two′) js)
   seen-same is js same =
       seen-whole c one two is
       ∙ public-same (map public is)
@@ -177,7 +177,7 @@ module _ (c : Create) (one two one′ two′ : Slices) (e : SameLengths one one�
       → Alike (eqb (c .kind) 1) is js
       (seenOf (createdBy c one two) (pairCreated c (createdBy c one two)))
       (seenOf (createdBy c one′ two′) (pairCreated c (createdBy c one′ two′)))
-      (outcomes (start c one two) is) (outcomes (start c one′ two′) js)
+      (outcomes (stateCreated c one two) is) (outcomes (stateCreated c one′ two′) js)
   alike is js same =
       record {
         create = ap (λ (r : Answer). seenOf r (pairCreated c r)) created-same;
@@ -186,12 +186,12 @@ module _ (c : Create) (one two one′ two′ : Slices) (e : SameLengths one one�
         second =
             origin-whole c one′ two′ js
             ∙ ap₂ (λ (cs : List Call) (rs : List Answer). map (map (found js)) (sources (eqb (c .kind) 1) cs rs)) (calls-public is js same)
-            (answers-seen (outcomes (start c one two) is) (outcomes (start c one′ two′) js) (seen-same is js same));
-        memory = memory-run (start c one two) is;
+            (answers-seen (outcomes (stateCreated c one two) is) (outcomes (stateCreated c one′ two′) js) (seen-same is js same));
+        memory = memory-run (stateCreated c one two) is;
         memory′ =
-            memory-run (start c one′ two′) js
-            ∙ ap (λ (rs : List Answer). memoriesAfter js rs (delivered (outcomes (start c one′ two′) js)))
-            (answers-seen (outcomes (start c one two) is) (outcomes (start c one′ two′) js) (seen-same is js same));
+            memory-run (stateCreated c one′ two′) js
+            ∙ ap (λ (rs : List Answer). memoriesAfter js rs (deliveries (outcomes (stateCreated c one′ two′) js)))
+            (answers-seen (outcomes (stateCreated c one two) is) (outcomes (stateCreated c one′ two′) js) (seen-same is js same));
       }
 
 pub two-runs : TwoRuns

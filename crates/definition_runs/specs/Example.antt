@@ -6,16 +6,16 @@ use mathlib.Core.List.{List, [], _∷_, map}
 use mathlib.Core.Path.{_≡_}
 use lib.ListN.{replicate}
 use lib.Dec.{eqb}
-use Rattle.definition.specs.Calls.{write, read, plainWrite, plainRead, close, Input, input, Slices, Outcome, outcomes, start, State, afterAll, Seen, seenOf, createdBy, pairCreated}
+use Rattle.definition.specs.Calls.{write, read, plainWrite, plainRead, close, Input, input, Slices, Outcome, outcomes, stateCreated, State, afterAll, Seen, seenOf, createdBy, pairCreated}
 use Rattle.definition.specs.cases.Lines.{linesOf}
-use Rattle.definition.specs.cases.Scripts.{create, datagram, stream}
-use Rattle.definition_runs.specs.TwoRuns.{Origin, origins, flat, added, shrunk, removed, linesAfter, sourceOf, sourcesFrom, sources, answers, calls, delivered, Alike}
+use Rattle.definition.specs.cases.Scripts.{create, datagramKind, streamKind}
+use Rattle.definition_runs.specs.TwoRuns.{Origin, origins, flat, added, shrunk, removed, linesAfter, sourceOf, sourcesFrom, sources, answers, calls, deliveries, Alike}
 use Rattle.definition_runs.specs.Run.{Run}
 
 -- A row of 3 bytes and one of 2 are written. The first is peeked at, and read into 2 bytes, so that its tail is dropped. The second is read
 -- with its count put over it. Then a plain row goes the other way, and an end closes with a row queued.
-abbrev pub script : (memory row : List ℕ) → List Input
-script memory row =
+abbrev pub datagramCalls : (memory row : List ℕ) → List Input
+datagramCalls memory row =
     input (write 1 0 4096 3 0) 4096 memory
     ∷ input (write 1 0 4099 2 4104) 4096 memory
     ∷ input (read 2 8 4096 4 0) 4096 memory
@@ -30,8 +30,8 @@ script memory row =
 -- On a stream 6 bytes are written and 4 of them read. The write of 8 then takes 6, which run past the ring's end of 8 and continue at its start.
 -- A peek and a plain read into 5 and 3 bytes go over both writes; a read of 0 consumes nothing. The rest is read, over the ring's end, with the
 -- count put over it. Then a plain row goes the other way and is peeked at, its writer closes, and it is read.
-abbrev pub streamScript : (memory row : List ℕ) → List Input
-streamScript memory row =
+abbrev pub streamCalls : (memory row : List ℕ) → List Input
+streamCalls memory row =
     input (write 1 0 4096 6 0) 4096 memory
     ∷ input (read 2 0 4104 4 0) 4096 memory
     ∷ input (write 1 0 4100 8 4104) 4096 memory
@@ -47,31 +47,31 @@ streamScript memory row =
 
 -- a salary and a filler
 abbrev pub salary : List Input
-salary = script (49 ∷ 50 ∷ 51 ∷ 52 ∷ 53 ∷ replicate 11 0) (55 ∷ 56 ∷ [])
+salary = datagramCalls (49 ∷ 50 ∷ 51 ∷ 52 ∷ 53 ∷ replicate 11 0) (55 ∷ 56 ∷ [])
 
 abbrev pub filler : List Input
-filler = script (replicate 16 42) (42 ∷ 42 ∷ [])
+filler = datagramCalls (replicate 16 42) (42 ∷ 42 ∷ [])
 
 abbrev pub streamSalary : List Input
-streamSalary = streamScript (49 ∷ 50 ∷ 51 ∷ 52 ∷ 53 ∷ 54 ∷ 55 ∷ 56 ∷ 57 ∷ 58 ∷ replicate 6 0) (65 ∷ 66 ∷ [])
+streamSalary = streamCalls (49 ∷ 50 ∷ 51 ∷ 52 ∷ 53 ∷ 54 ∷ 55 ∷ 56 ∷ 57 ∷ 58 ∷ replicate 6 0) (65 ∷ 66 ∷ [])
 
 abbrev pub streamFiller : List Input
-streamFiller = streamScript (replicate 16 42) (42 ∷ 42 ∷ [])
+streamFiller = streamCalls (replicate 16 42) (42 ∷ 42 ∷ [])
 
 -- rings and tables that hold other things before create
-abbrev pub empty : Slices
-empty = record { ring = replicate 8 0; table = replicate 8 0 }
+abbrev pub emptySlices : Slices
+emptySlices = record { ring = replicate 8 0; table = replicate 8 0 }
 
-abbrev pub used : Slices
-used = record { ring = replicate 8 7; table = replicate 8 9 }
+abbrev pub usedSlices : Slices
+usedSlices = record { ring = replicate 8 7; table = replicate 8 9 }
 
 unfoldable pub outcomesOf : (kind : ℕ) → Slices → List Input → List Outcome
 unfolding linesOf
-outcomesOf kind l is = outcomes (start (create kind 7) l l) is
+outcomesOf kind l is = outcomes (stateCreated (create kind 7) l l) is
 
 unfoldable pub lastOf : (kind : ℕ) → Slices → List Input → State
 unfolding linesOf
-lastOf kind l is = afterAll (start (create kind 7) l l) is
+lastOf kind l is = afterAll (stateCreated (create kind 7) l l) is
 
 unfoldable pub createOf : (kind : ℕ) → Slices → Seen
 unfolding linesOf
@@ -90,16 +90,16 @@ from call offset = record { call = call; offset = offset }
 
 -- The runs of is and js: both are runs of the code, and alike. The first delivers ds, the second ds′, both from the sources os.
 pub record Differ (kind : ℕ) (is js : List Input) (ds ds′ : List (List ℕ)) (os : List (List Origin)) : Type 0 where
-  pub run1 : Run (create kind 7) empty empty is (createOf kind empty) (outcomesOf kind empty is) (lastOf kind empty is)
-  pub run2 : Run (create kind 7) used used js (createOf kind used) (outcomesOf kind used js) (lastOf kind used js)
-  pub alike : Alike (eqb kind 1) is js (createOf kind empty) (createOf kind used) (outcomesOf kind empty is) (outcomesOf kind used js)
-  pub first : delivered (outcomesOf kind empty is) ≡ ds
-  pub second : delivered (outcomesOf kind used js) ≡ ds′
-  pub sources : sourcesOf kind is (outcomesOf kind empty is) ≡ os
+  pub run1 : Run (create kind 7) emptySlices emptySlices is (createOf kind emptySlices) (outcomesOf kind emptySlices is) (lastOf kind emptySlices is)
+  pub run2 : Run (create kind 7) usedSlices usedSlices js (createOf kind usedSlices) (outcomesOf kind usedSlices js) (lastOf kind usedSlices js)
+  pub alike : Alike (eqb kind 1) is js (createOf kind emptySlices) (createOf kind usedSlices) (outcomesOf kind emptySlices is) (outcomesOf kind usedSlices js)
+  pub first : deliveries (outcomesOf kind emptySlices is) ≡ ds
+  pub second : deliveries (outcomesOf kind usedSlices js) ≡ ds′
+  pub sources : sourcesOf kind is (outcomesOf kind emptySlices is) ≡ os
 
 abbrev pub OnDatagrams : Type 0
 OnDatagrams =
-    Differ datagram salary filler
+    Differ datagramKind salary filler
     ([] ∷ [] ∷ (49 ∷ 50 ∷ 51 ∷ []) ∷ (49 ∷ 50 ∷ []) ∷ (52 ∷ 53 ∷ []) ∷ [] ∷ (55 ∷ 56 ∷ []) ∷ [] ∷ [] ∷ [])
     ([] ∷ [] ∷ (42 ∷ 42 ∷ 42 ∷ []) ∷ (42 ∷ 42 ∷ []) ∷ (42 ∷ 42 ∷ []) ∷ [] ∷ (42 ∷ 42 ∷ []) ∷ [] ∷ [] ∷ [])
     ([]
@@ -115,7 +115,7 @@ OnDatagrams =
 
 abbrev pub OnStreams : Type 0
 OnStreams =
-    Differ stream streamSalary streamFiller
+    Differ streamKind streamSalary streamFiller
     ([]
     ∷ (49 ∷ 50 ∷ 51 ∷ 52 ∷ [])
     ∷ []
@@ -161,5 +161,5 @@ pub record Examples : Type 0 where
   pub datagrams : OnDatagrams
   pub streams : OnStreams
   pub rings :
-      ringsOf (outcomesOf stream empty streamSalary)
+      ringsOf (outcomesOf streamKind emptySlices streamSalary)
       ≡ (49 ∷ 50 ∷ 51 ∷ 52 ∷ 53 ∷ 54 ∷ 0 ∷ 0 ∷ []) ∷ (49 ∷ 50 ∷ 51 ∷ 52 ∷ 53 ∷ 54 ∷ 0 ∷ 0 ∷ []) ∷ replicate 9 wrapped

@@ -16,9 +16,9 @@ use Rattle.definition.specs.declared.Answer.the-variants.{Done, Refused}
 use Rattle.definition.specs.Status.{answerWord, pick, isDone}
 use Rattle.definition.specs.Tests.{openingTest}
 use Rattle.definition.specs.Pair.{isOne, own, endsOf}
-use Rattle.definition.specs.Calls.{Create, Slices, createdBy, Input, input, Call, Control, setDisposition, shutdown, plainDisposition, plainShutdown, setReadThreshold, setWriteThreshold, getThresholds, getInfo, wait, takePacket, write, read, plainWrite, plainRead, close, control, State, ownSlices, peerSlices, withPair, withPeer, state, Outcome, seenOf, memoriesAfter, public, CreatesBy}
-use Rattle.definition.specs.Write.{Wrote, UserWrote}
-use Rattle.definition.specs.Read.{Read, UserRead, bytesLanded}
+use Rattle.definition.specs.Calls.{Create, Slices, createdBy, Input, input, Call, Control, setDisposition, shutdown, plainDisposition, plainShutdown, setReadThreshold, setWriteThreshold, getThresholds, getInfo, wait, takePacket, write, read, plainWrite, plainRead, close, control, State, ownSlices, peerSlices, withPair, withPeerSlices, state, Outcome, seenOf, memoriesAfter, public, CreatesBy}
+use Rattle.definition.specs.Write.{Writes, UserWrites}
+use Rattle.definition.specs.Read.{Reads, UserReads, bytesLanded}
 use Rattle.definition.specs.Disposition.{PlainDisposes, UserDisposes}
 use Rattle.definition.specs.Shutdown.{Shuts, UserShuts}
 use Rattle.definition.specs.Threshold.{SetsReadThreshold, SetsWriteThreshold, AsksThresholds}
@@ -26,7 +26,7 @@ use Rattle.definition.specs.Port.{Waits, Takes}
 use Rattle.definition.specs.Close.{Closes}
 use Rattle.definition.specs.Info.{AsksInfo}
 use Rattle.definition_runs.specs.Run.{Chain, Run, Does}
-use Rattle.definition_runs.specs.TwoRuns.{answers, delivered, calls, SameLengths, sources, found}
+use Rattle.definition_runs.specs.TwoRuns.{answers, deliveries, calls, SameLengths, sources, found}
 
 -- ---- a call on a pair that the host keeps behind a reference
 
@@ -103,8 +103,8 @@ pub record Returned : Type 0 where
   pub memory : List ℕ
   pub array : List ℕ
 
-abbrev pub returned : ℤ → Pair → (delivered memory array : List ℕ) → Returned
-returned w p delivered memory array = record { word = w; pair = p; delivered = delivered; memory = memory; array = array }
+abbrev pub returned : ℤ → Pair → (deliveries memory array : List ℕ) → Returned
+returned w p deliveries memory array = record { word = w; pair = p; delivered = deliveries; memory = memory; array = array }
 
 -- 01 "Status and answer word": a word of zero or more is that of a done call, and its count
 unfoldable pub isCount : ℤ → Bool
@@ -146,10 +146,10 @@ slicesOf ring table = record { ring = ring; table = table }
 -- and before the count does; by `UserReads` a done read leaves memory as this, with the count landed over it.
 pub data Exported (s : State) : Passed → State → Returned → Type 0 where
   murgwethan-write : {h : ℕ} {bytes ring′ table′ : List ℕ} {p : Pair} {w : ℤ}
-      → Answered (Wrote (s .pair) h bytes (peerSlices (isOne h) s .ring) ring′ (peerSlices (isOne h) s .table) table′) p w
-      → Exported s (passed (plainWrite h) 0 bytes []) (withPeer (isOne h) p (slicesOf ring′ table′) s) (returned w p [] bytes [])
+      → Answered (Writes (s .pair) h bytes (peerSlices (isOne h) s .ring) ring′ (peerSlices (isOne h) s .table) table′) p w
+      → Exported s (passed (plainWrite h) 0 bytes []) (withPeerSlices (isOne h) p (slicesOf ring′ table′) s) (returned w p [] bytes [])
   murgwethan-read : {h : ℕ} {peek : Bool} {buffer buffer′ : List ℕ} {p : Pair} {w : ℤ}
-      → Answered (Read (s .pair) h peek (ownSlices (isOne h) s .ring) (ownSlices (isOne h) s .table) buffer buffer′) p w
+      → Answered (Reads (s .pair) h peek (ownSlices (isOne h) s .ring) (ownSlices (isOne h) s .table) buffer buffer′) p w
       → Exported s (passed (plainRead h peek) 0 buffer []) (withPair p s) (returned w p (take (countIn w) buffer′) buffer′ [])
   murgwethan-set-disposition : {h a b : ℕ} {p : Pair} {w : ℤ}
       → Answered (PlainDisposes (s .pair) h a b) p w
@@ -179,10 +179,10 @@ pub data Exported (s : State) : Passed → State → Returned → Type 0 where
       → Answered (Closes (s .pair) h) p w
       → Exported s (passed (close h) 0 [] []) (withPair p s) (returned w p [] [] [])
   murgwethan-user-write : {h o base a n at : ℕ} {memory memory′ ring′ table′ : List ℕ} {p : Pair} {w : ℤ}
-      → Answered (UserWrote (s .pair) h base o a n at memory memory′ (peerSlices (isOne h) s .ring) ring′ (peerSlices (isOne h) s .table) table′) p w
-      → Exported s (passed (write h o a n at) base memory []) (withPeer (isOne h) p (slicesOf ring′ table′) s) (returned w p [] memory′ [])
+      → Answered (UserWrites (s .pair) h base o a n at memory memory′ (peerSlices (isOne h) s .ring) ring′ (peerSlices (isOne h) s .table) table′) p w
+      → Exported s (passed (write h o a n at) base memory []) (withPeerSlices (isOne h) p (slicesOf ring′ table′) s) (returned w p [] memory′ [])
   murgwethan-user-read : {h o base a n at : ℕ} {memory memory′ : List ℕ} {p : Pair} {w : ℤ}
-      → Answered (UserRead (s .pair) h base o a n at (ownSlices (isOne h) s .ring) (ownSlices (isOne h) s .table) memory memory′) p w
+      → Answered (UserReads (s .pair) h base o a n at (ownSlices (isOne h) s .ring) (ownSlices (isOne h) s .table) memory memory′) p w
       → Exported s (passed (read h o a n at) base memory []) (withPair p s)
       (returned w p (take (countIn w) (drop (a - base) (bytesLanded (s .pair) h base a (countIn w) (ownSlices (isOne h) s .ring) memory))) memory′ [])
   murgwethan-user-set-disposition : {h a b : ℕ} {p : Pair} {w : ℤ}
@@ -231,7 +231,7 @@ arraysAfter (c ∷ cs) (r ∷ rs) (out ∷ outs) = arrayAfter c r out ∷ arrays
 pub record Gives (xs : List Passed) (ys : List Returned) (os : List Outcome) : Type 0 where
   pub words : wordsOf ys ≡ map answerWord (answers os)
   pub pairs : pairsOf ys ≡ map (λ (o : Outcome). o .seen .pair) os
-  pub bytes : deliveriesOf ys ≡ delivered os
+  pub bytes : deliveriesOf ys ≡ deliveries os
   pub memories : memoriesOf ys ≡ map (λ (o : Outcome). o .memory) os
   pub arrays : arraysOf ys ≡ arraysAfter (calls (inputs xs)) (answers os) (arraysIn xs)
 

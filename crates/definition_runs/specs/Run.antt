@@ -9,15 +9,15 @@ use lib.Dec.{eqb}
 use Rattle.definition.specs.declared.Step.{Step}
 use Rattle.definition.specs.Status.{countOf}
 use Rattle.definition.specs.Pair.{isOne}
-use Rattle.definition.specs.Write.{Wrote, UserWrote}
-use Rattle.definition.specs.Read.{Read, BytesRead, UserRead}
+use Rattle.definition.specs.Write.{Writes, UserWrites}
+use Rattle.definition.specs.Read.{Reads, BytesRead, UserReads}
 use Rattle.definition.specs.Threshold.{AsksThresholds, SetsReadThreshold, SetsWriteThreshold}
 use Rattle.definition.specs.Disposition.{PlainDisposes, UserDisposes}
 use Rattle.definition.specs.Shutdown.{Shuts, UserShuts}
 use Rattle.definition.specs.Info.{AsksInfo}
 use Rattle.definition.specs.Port.{Takes, Waits}
 use Rattle.definition.specs.Close.{Closes}
-use Rattle.definition.specs.Calls.{setDisposition, shutdown, plainDisposition, plainShutdown, setReadThreshold, setWriteThreshold, getThresholds, getInfo, wait, takePacket, write, read, plainWrite, plainRead, close, control, Input, input, State, ownSlices, peerSlices, withPair, withPeer, Outcome, gives, Create, Slices, state, Seen, seenOf, createdBy, leftBy, after, outcome, outcomes, afterAll, pairCreated, start, CreatesBy}
+use Rattle.definition.specs.Calls.{setDisposition, shutdown, plainDisposition, plainShutdown, setReadThreshold, setWriteThreshold, getThresholds, getInfo, wait, takePacket, write, read, plainWrite, plainRead, close, control, Input, input, State, ownSlices, peerSlices, withPair, withPeerSlices, Outcome, gives, Create, Slices, state, Seen, seenOf, createdBy, leftBy, after, outcome, outcomes, afterAll, pairCreated, stateCreated, CreatesBy}
 use Rattle.definition.specs.Create.{noPair}
 use Rattle.definition.specs.cases.Lines.{shownLines, linesOf}
 
@@ -34,12 +34,12 @@ pub data Chain {S I O : Type 0} (Does : S → I → S → O → Type 0) : S → 
 -- read there, from its address on; those of a plain read in its buffer.
 pub data Does (s : State) : Input → State → Outcome → Type 0 where
   did-write : {h o a n at base : ℕ} {memory memory′ ring′ table′ : List ℕ} {r : Step}
-      → UserWrote (s .pair) h base o a n at memory memory′ (peerSlices (isOne h) s .ring) ring′ (peerSlices (isOne h) s .table) table′ r
-      → Does s (input (write h o a n at) base memory) (withPeer (isOne h) (r .pair) (record { ring = ring′; table = table′ }) s)
-      (gives r (withPeer (isOne h) (r .pair) (record { ring = ring′; table = table′ }) s) [] memory′)
+      → UserWrites (s .pair) h base o a n at memory memory′ (peerSlices (isOne h) s .ring) ring′ (peerSlices (isOne h) s .table) table′ r
+      → Does s (input (write h o a n at) base memory) (withPeerSlices (isOne h) (r .pair) (record { ring = ring′; table = table′ }) s)
+      (gives r (withPeerSlices (isOne h) (r .pair) (record { ring = ring′; table = table′ }) s) [] memory′)
   did-read : {h o a n at base : ℕ} {memory landed memory′ : List ℕ} {r : Step}
       → BytesRead (s .pair) h base o a n at (ownSlices (isOne h) s .ring) (ownSlices (isOne h) s .table) memory landed r
-      → UserRead (s .pair) h base o a n at (ownSlices (isOne h) s .ring) (ownSlices (isOne h) s .table) memory memory′ r
+      → UserReads (s .pair) h base o a n at (ownSlices (isOne h) s .ring) (ownSlices (isOne h) s .table) memory memory′ r
       → Does s (input (read h o a n at) base memory) (withPair (r .pair) s) (gives r s (take (countOf (r .answer)) (drop (a - base) landed)) memory′)
   did-dispose : {h a b base : ℕ} {memory : List ℕ} {r : Step}
       → UserDisposes (s .pair) h a b r
@@ -48,11 +48,11 @@ pub data Does (s : State) : Input → State → Outcome → Type 0 where
       → UserShuts (s .pair) h o r
       → Does s (input (control (shutdown h o)) base memory) (withPair (r .pair) s) (gives r s [] memory)
   did-plain-write : {h base : ℕ} {src ring′ table′ : List ℕ} {r : Step}
-      → Wrote (s .pair) h src (peerSlices (isOne h) s .ring) ring′ (peerSlices (isOne h) s .table) table′ r
-      → Does s (input (plainWrite h) base src) (withPeer (isOne h) (r .pair) (record { ring = ring′; table = table′ }) s)
-      (gives r (withPeer (isOne h) (r .pair) (record { ring = ring′; table = table′ }) s) [] src)
+      → Writes (s .pair) h src (peerSlices (isOne h) s .ring) ring′ (peerSlices (isOne h) s .table) table′ r
+      → Does s (input (plainWrite h) base src) (withPeerSlices (isOne h) (r .pair) (record { ring = ring′; table = table′ }) s)
+      (gives r (withPeerSlices (isOne h) (r .pair) (record { ring = ring′; table = table′ }) s) [] src)
   did-plain-read : {h base : ℕ} {peek : Bool} {buffer buffer′ : List ℕ} {r : Step}
-      → Read (s .pair) h peek (ownSlices (isOne h) s .ring) (ownSlices (isOne h) s .table) buffer buffer′ r
+      → Reads (s .pair) h peek (ownSlices (isOne h) s .ring) (ownSlices (isOne h) s .table) buffer buffer′ r
       → Does s (input (plainRead h peek) base buffer) (withPair (r .pair) s) (gives r s (take (countOf (r .answer)) buffer′) buffer′)
   did-plain-dispose : {h a b base : ℕ} {memory : List ℕ} {r : Step}
       → PlainDisposes (s .pair) h a b r
@@ -104,8 +104,8 @@ CallsMatch = (s : State) (i : Input) (s′ : State) (o : Outcome) → Does s i s
 -- a whole run
 pub record RunMatches (c : Create) (one two : Slices) (is : List Input) (x : Seen) (os : List Outcome) (s : State) : Type 0 where
   pub create : x ≡ seenOf (createdBy c one two) (pairCreated c (createdBy c one two))
-  pub calls : os ≡ outcomes (start c one two) is
-  pub last : s ≡ afterAll (start c one two) is
+  pub calls : os ≡ outcomes (stateCreated c one two) is
+  pub last : s ≡ afterAll (stateCreated c one two) is
 
 abbrev pub RunsMatch : Type 0
 RunsMatch =
@@ -117,7 +117,7 @@ abbrev pub RunsExist : Type 0
 RunsExist =
     (c : Create) (one two : Slices) (is : List Input)
     → Run c one two is (seenOf (createdBy c one two) (pairCreated c (createdBy c one two)))
-    (outcomes (start c one two) is) (afterAll (start c one two) is)
+    (outcomes (stateCreated c one two) is) (afterAll (stateCreated c one two) is)
 
 -- a run of the code shows the computed lines
 abbrev pub LinesMatch : Type 0

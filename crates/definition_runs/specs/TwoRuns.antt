@@ -25,58 +25,58 @@ origins w o zero = []
 origins w o (suc m) = record { call = w; offset = o } ∷ origins w (suc o) m
 
 -- a line, one group for each write; only datagram pairs look at the groups
-abbrev pub Line : Type 0
-Line = List (List Origin)
+abbrev pub OriginLine : Type 0
+OriginLine = List (List Origin)
 
 -- the line without its groups
-unfoldable pub flat : Line → List Origin
+unfoldable pub flat : OriginLine → List Origin
 flat [] = []
 flat (g ∷ gs) = g ++ flat gs
 
 -- each end has a line
-pub record Lines : Type 0 where
-  pub one : Line
-  pub two : Line
+pub record OriginLines : Type 0 where
+  pub one : OriginLine
+  pub two : OriginLine
 
 -- at create both are empty
-abbrev pub noLines : Lines
+abbrev pub noLines : OriginLines
 noLines = record { one = []; two = [] }
 
-abbrev pub ownLine : Bool → Lines → Line
+abbrev pub ownLine : Bool → OriginLines → OriginLine
 ownLine true ln = ln .one
 ownLine false ln = ln .two
 
-abbrev pub peerLine : Bool → Lines → Line
+abbrev pub peerLine : Bool → OriginLines → OriginLine
 peerLine true ln = ln .two
 peerLine false ln = ln .one
 
-abbrev pub withOwn : Bool → Line → Lines → Lines
+abbrev pub withOwn : Bool → OriginLine → OriginLines → OriginLines
 withOwn true l ln = record { one = l; two = ln .two }
 withOwn false l ln = record { one = ln .one; two = l }
 
-abbrev pub withPeerLine : Bool → Line → Lines → Lines
+abbrev pub withPeerLine : Bool → OriginLine → OriginLines → OriginLines
 withPeerLine true l ln = record { one = ln .one; two = l }
 withPeerLine false l ln = record { one = l; two = ln .two }
 
 -- end t fed a group of origins, any: it is the last of the peer's line
-abbrev pub fed : (t : Bool) → (group : List Origin) → Lines → Lines
+abbrev pub fed : (t : Bool) → (group : List Origin) → OriginLines → OriginLines
 fed t group ln = withPeerLine t (peerLine t ln ++ (group ∷ [])) ln
 
 -- after a write of m bytes by end t, call number w: the m origins of the call, as one group
-unfoldable pub added : (t : Bool) → (w m : ℕ) → Lines → Lines
+unfoldable pub added : (t : Bool) → (w m : ℕ) → OriginLines → OriginLines
 added t w m ln = pick (eqb m 0) ln (fed t (origins w 0 m) ln)
 
 -- the line after k origins, more than 0, were read from its front: on datagram pairs the whole first group goes
-unfoldable pub shrunk : (datagram : Bool) → (k : ℕ) → Line → Line
+unfoldable pub shrunk : (datagram : Bool) → (k : ℕ) → OriginLine → OriginLine
 shrunk dg k l = pick dg (drop 1 l) (drop k (flat l) ∷ [])
 
 -- a read of end t that is done with k removes what it delivered; a peek removes nothing
-unfoldable pub removed : (datagram t peek : Bool) → (k : ℕ) → Lines → Lines
+unfoldable pub removed : (datagram t peek : Bool) → (k : ℕ) → OriginLines → OriginLines
 removed dg t peek k ln = pick peek ln (pick (eqb k 0) ln (withOwn t (shrunk dg k (ownLine t ln)) ln))
 
 -- the lines after call w and its answer. Writes, reads and close change them, and no refused call does: its count
 -- is 0, and a close counts only if it is done.
-unfoldable pub linesAfter : (datagram : Bool) → (w : ℕ) → Call → Answer → Lines → Lines
+unfoldable pub linesAfter : (datagram : Bool) → (w : ℕ) → Call → Answer → OriginLines → OriginLines
 linesAfter dg w (write h o a n at) r ln = added (isOne h) w (countOf r) ln
 linesAfter dg w (read h o a n at) r ln = removed dg (isOne h) (isPeek o) (countOf r) ln
 linesAfter dg w (plainWrite h) r ln = added (isOne h) w (countOf r) ln
@@ -85,7 +85,7 @@ linesAfter dg w (close h) r ln = pick (isDone r) (withOwn (isOne h) [] ln) ln
 linesAfter dg w (control c) r ln = ln
 
 -- the origins that a call delivers: a read or peek that is done with k gives the first k of its end's line
-unfoldable pub sourceOf : Lines → Call → Answer → List Origin
+unfoldable pub sourceOf : OriginLines → Call → Answer → List Origin
 sourceOf ln (write h o a n at) r = []
 sourceOf ln (read h o a n at) r = take (countOf r) (flat (ownLine (isOne h) ln))
 sourceOf ln (plainWrite h) r = []
@@ -94,7 +94,7 @@ sourceOf ln (close h) r = []
 sourceOf ln (control c) r = []
 
 -- the same of each call of a list, from call w on
-unfoldable pub sourcesFrom : (datagram : Bool) → (w : ℕ) → Lines → List Call → List Answer → List (List Origin)
+unfoldable pub sourcesFrom : (datagram : Bool) → (w : ℕ) → OriginLines → List Call → List Answer → List (List Origin)
 sourcesFrom dg w ln [] rs = []
 sourcesFrom dg w ln (c ∷ cs) [] = []
 sourcesFrom dg w ln (c ∷ cs) (r ∷ rs) = sourceOf ln c r ∷ sourcesFrom dg (suc w) (linesAfter dg w c r ln) cs rs
@@ -118,8 +118,8 @@ seen os = map (λ (o : Outcome). o .seen) os
 abbrev pub answers : List Outcome → List Answer
 answers os = map (λ (o : Outcome). o .seen .answer) os
 
-abbrev pub delivered : List Outcome → List (List ℕ)
-delivered os = map (λ (o : Outcome). o .delivered) os
+abbrev pub deliveries : List Outcome → List (List ℕ)
+deliveries os = map (λ (o : Outcome). o .delivered) os
 
 abbrev pub memoriesLeft : List Outcome → List (List ℕ)
 memoriesLeft os = map (λ (o : Outcome). o .memory) os
@@ -134,11 +134,11 @@ pub record Alike (datagram : Bool) (is js : List Input) (x y : Seen) (os os′ :
   -- after every call the answer, both signal words and the pair are the same,
   pub same : seen os ≡ seen os′
   -- the bytes delivered in each run are those found at the sources, one list of sources for both,
-  pub first : map (map some) (delivered os) ≡ map (map (found is)) (sources datagram (calls is) (answers os))
-  pub second : map (map some) (delivered os′) ≡ map (map (found js)) (sources datagram (calls is) (answers os))
+  pub first : map (map some) (deliveries os) ≡ map (map (found is)) (sources datagram (calls is) (answers os))
+  pub second : map (map some) (deliveries os′) ≡ map (map (found js)) (sources datagram (calls is) (answers os))
   -- and memory at exit of each call is told by what it held at entry, the call, its answer and the bytes delivered, in each run
-  pub memory : memoriesLeft os ≡ memoriesAfter is (answers os) (delivered os)
-  pub memory′ : memoriesLeft os′ ≡ memoriesAfter js (answers os) (delivered os′)
+  pub memory : memoriesLeft os ≡ memoriesAfter is (answers os) (deliveries os)
+  pub memory′ : memoriesLeft os′ ≡ memoriesAfter js (answers os) (deliveries os′)
 
 pub record SameLengths (l l′ : Slices) : Type 0 where
   pub ring : length (l .ring) ≡ length (l′ .ring)

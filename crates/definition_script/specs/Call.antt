@@ -8,7 +8,7 @@ use lib.Dec.{eqb, ltb}
 use Rattle.definition.specs.declared.Answer.{Answer}
 use Rattle.definition.specs.declared.Pair.{Pair}
 use Rattle.definition.specs.declared.Step.{Step}
-use Rattle.definition_script.specs.declared.Transfer.{Transfer}
+use Rattle.definition_script.specs.declared.TransferBody.{TransferBody}
 use Rattle.definition.specs.declared.Status.the-variants.{InvalidArgs}
 use Rattle.definition.specs.declared.Record.the-variants.{Count}
 use Rattle.definition.specs.declared.Answer.the-variants.{Done}
@@ -58,9 +58,9 @@ peerTable true z = z .table2
 peerTable false z = z .table1
 
 -- with those of the peer replaced
-unfoldable pub withPeer : Bool → (ring table : List ℕ) → Rings → Rings
-withPeer true ring table z = rings (z .ring1) (z .table1) ring table
-withPeer false ring table z = rings ring table (z .ring2) (z .table2)
+unfoldable pub withPeerRings : Bool → (ring table : List ℕ) → Rings → Rings
+withPeerRings true ring table z = rings (z .ring1) (z .table1) ring table
+withPeerRings false ring table z = rings ring table (z .ring2) (z .table2)
 
 -- where the memory begins
 abbrev pub BASE : ℕ
@@ -117,8 +117,8 @@ unfoldable pub takeStep : Pair → Step
 takeStep p = stepOf p (takeAnswer p) (took p)
 
 -- by the tag: 0, and 3 to 10; 1 and 2 are as 3, those above 10 as 10
-unfoldable pub plainStep : Rings → Pair → (tag : ℕ) → (body : List ℕ) → Step
-plainStep z p tag b =
+unfoldable pub controlStep : Rings → Pair → (tag : ℕ) → (body : List ℕ) → Step
+controlStep z p tag b =
     pick (ltb tag 1) (createStep z b)
     (pick (ltb tag 4) (dispositionStep p b)
     (pick (ltb tag 5) (shutdownStep p b)
@@ -142,37 +142,37 @@ pub record Called : Type 0 where
   pub lent : Rings
 
 -- the writer's answer, and what it leaves
-unfoldable pub writeAnswerOf : (memory : List ℕ) → Rings → Pair → Transfer → Answer
+unfoldable pub writeAnswerOf : (memory : List ℕ) → Rings → Pair → TransferBody → Answer
 writeAnswerOf memory z p t =
     let one = isOne (t .handle) in
     userWriteAnswer (endsOf p) (lentOf (p .datagram) (peer one (endsOf p) .queue) (peerRing one z) (peerTable one z)) (t .handle) BASE (length memory) (t .options)
     (t .address) (t .count) (t .«count_at»)
 
-unfoldable pub wroteBy : (memory : List ℕ) → Rings → Pair → Transfer → Answer → Called
-wroteBy memory z p t a =
+unfoldable pub writeLeaves : (memory : List ℕ) → Rings → Pair → TransferBody → Answer → Called
+writeLeaves memory z p t a =
     let one = isOne (t .handle) in
     record {
       step = record { pair = pairWritten p (t .handle) (countOf a); answer = a };
       memory = pick (isDone a) (countLanded BASE (t .«count_at») (countOf a) memory) memory;
       lent =
-          withPeer one (ringWritten (endsOf p) (t .handle) (countOf a) (drop (t .address - BASE) memory) (peerRing one z))
+          withPeerRings one (ringWritten (endsOf p) (t .handle) (countOf a) (drop (t .address - BASE) memory) (peerRing one z))
           (tableWritten (endsOf p) (t .handle) (countOf a) (peerTable one z))
           z;
     }
 
 -- 01 "Script program", tag 1
-unfoldable pub writeCall : (memory : List ℕ) → Rings → Pair → Transfer → Called
-writeCall memory z p t = wroteBy memory z p t (writeAnswerOf memory z p t)
+unfoldable pub writeCall : (memory : List ℕ) → Rings → Pair → TransferBody → Called
+writeCall memory z p t = writeLeaves memory z p t (writeAnswerOf memory z p t)
 
 -- the reader's answer, and what it leaves before its count lands
-unfoldable pub readAnswerOf : (memory : List ℕ) → Rings → Pair → Transfer → Answer
+unfoldable pub readAnswerOf : (memory : List ℕ) → Rings → Pair → TransferBody → Answer
 readAnswerOf memory z p t =
     let one = isOne (t .handle) in
     userReadAnswer (endsOf p) (lentOf (p .datagram) (own one (endsOf p) .queue) (ownRing one z) (ownTable one z)) (t .handle) BASE (length memory) (t .options)
     (t .address) (t .count) (t .«count_at»)
 
-unfoldable pub gotBy : (memory : List ℕ) → Rings → Pair → Transfer → Answer → Called
-gotBy memory z p t a =
+unfoldable pub readLeaves : (memory : List ℕ) → Rings → Pair → TransferBody → Answer → Called
+readLeaves memory z p t a =
     let one = isOne (t .handle) in
     record {
       step =
@@ -185,8 +185,8 @@ gotBy memory z p t a =
     }
 
 -- 01 "Script program", tag 2, but for the count
-unfoldable pub readCall : (memory : List ℕ) → Rings → Pair → Transfer → Called
-readCall memory z p t = gotBy memory z p t (readAnswerOf memory z p t)
+unfoldable pub readCall : (memory : List ℕ) → Rings → Pair → TransferBody → Called
+readCall memory z p t = readLeaves memory z p t (readAnswerOf memory z p t)
 
 -- fill is no call on the pair: its bytes land where their range fits
 unfoldable pub fillAnswer : (size address n : ℕ) → Answer
@@ -203,8 +203,8 @@ fillCall memory z p address bs =
 -- ---- by the tag
 
 -- a call that changes neither memory nor a ring
-abbrev pub plainCall : (memory : List ℕ) → Rings → Step → Called
-plainCall memory z s = record { step = s; memory = memory; lent = z }
+abbrev pub controlCall : (memory : List ℕ) → Rings → Step → Called
+controlCall memory z s = record { step = s; memory = memory; lent = z }
 
 -- by the tag; the count of a read has not landed yet
 unfoldable pub callOf : (memory : List ℕ) → Rings → Pair → (tag : ℕ) → (body : List ℕ) → Called
@@ -212,7 +212,7 @@ callOf memory z p tag b =
     pick (eqb tag 1) (writeCall memory z p (transferOf b))
     (pick (eqb tag READ) (readCall memory z p (transferOf b))
     (pick (ltb 10 tag) (fillCall memory z p (eight b 0) (drop 8 b))
-    (plainCall memory z (plainStep z p tag b))))
+    (controlCall memory z (controlStep z p tag b))))
 
 -- ---- the bytes that a read delivered, and its count
 
@@ -224,5 +224,5 @@ unfoldable pub delivered : (tag : ℕ) → (body : List ℕ) → Answer → (mem
 delivered tag b a memory = take (deliveredCount tag a) (drop (eight b 8 - BASE) memory)
 
 -- memory once the count of a done read has landed; its range fits
-unfoldable pub settled : (tag : ℕ) → (body : List ℕ) → Answer → (memory : List ℕ) → List ℕ
-settled tag b a memory = pick (eqb tag READ) (pick (isDone a) (countPut BASE (eight b 24) (countOf a) memory) memory) memory
+unfoldable pub afterCount : (tag : ℕ) → (body : List ℕ) → Answer → (memory : List ℕ) → List ℕ
+afterCount tag b a memory = pick (eqb tag READ) (pick (isDone a) (countPut BASE (eight b 24) (countOf a) memory) memory) memory

@@ -3,11 +3,11 @@ use Prim.Native.Nat.{ℕ, _+_, zero, suc}
 use mathlib.Core.Bool.{false, true, Bool}
 use mathlib.Core.List.{List, [], _∷_, _++_}
 use lib.ListN.{replicate, take, drop, length}
-use Rattle.definition_script.specs.declared.State.{State}
+use Rattle.definition_script.specs.declared.ScriptState.{ScriptState}
 use Rattle.definition_script.specs.declared.Decoded.{Decoded}
 use Rattle.definition_script.specs.declared.Decoded.the-variants.{Whole, Bad, Cut}
 use Rattle.definition.specs.Create.{noPair}
-use Rattle.definition_script.specs.Call.{Rings, rings, Called, settled, callOf, delivered}
+use Rattle.definition_script.specs.Call.{Rings, rings, Called, afterCount, callOf, delivered}
 use Rattle.definition_script.specs.Record.{isLast, isMisplaced, recordOf}
 use Rattle.definition.specs.Pair.{shownBy}
 use Rattle.definition_script.specs.Line.{lineOf, stopOf}
@@ -16,17 +16,17 @@ use Rattle.definition.specs.Status.{pick}
 -- ---- where a script stands
 
 -- no pair is made, and no record has been run
-unfoldable pub startState : State
+unfoldable pub startState : ScriptState
 startState = record { pair = noPair; number = 0; ended = false }
 
 -- the program's state, and the memory, rings and tables that it lends. The byte offset is no part of it: only the line that stops a script shows it.
 pub record Machine : Type 0 where
-  pub state : State
+  pub state : ScriptState
   pub memory : List ℕ
   pub lent : Rings
 
 -- the three together
-abbrev pub machine : State → (memory : List ℕ) → Rings → Machine
+abbrev pub machine : ScriptState → (memory : List ℕ) → Rings → Machine
 machine st memory z = record { state = st; memory = memory; lent = z }
 
 -- 01 "Script program": rings and tables have 4096 entries, memory 4096 bytes, all 0
@@ -34,18 +34,18 @@ abbrev pub zeros : List ℕ
 zeros = replicate 4096 0
 
 -- what a script finds before its first record
-unfoldable pub start : Machine
-start = machine startState zeros (rings zeros zeros zeros zeros)
+unfoldable pub startMachine : Machine
+startMachine = machine startState zeros (rings zeros zeros zeros zeros)
 
 -- after a call: its pair, one record more, and whether the script ends with it
-unfoldable pub steppedState : State → (tag : ℕ) → Called → State
+unfoldable pub steppedState : ScriptState → (tag : ℕ) → Called → ScriptState
 steppedState st tag d = record { pair = d .step .pair; number = st .number + 1; ended = isLast tag (d .step .answer) }
 
 -- 01 "Script program", tag and body: the machine after a record; the count of a read lands last
 unfoldable pub stepped : Machine → (tag : ℕ) → (body : List ℕ) → Machine
 stepped m tag b =
     let d = callOf (m .memory) (m .lent) (m .state .pair) tag b in
-    machine (steppedState (m .state) tag d) (settled tag b (d .step .answer) (d .memory)) (d .lent)
+    machine (steppedState (m .state) tag d) (afterCount tag b (d .step .answer) (d .memory)) (d .lent)
 
 -- 01 "Script program", line: a record's number, its answer, both signal words, and the bytes delivered as before the count landed
 unfoldable pub calledLine : (number tag : ℕ) → (body : List ℕ) → Called → List ℕ
@@ -57,7 +57,7 @@ unfoldable pub stepLine : Machine → (tag : ℕ) → (body : List ℕ) → List
 stepLine m tag b = calledLine (m .state .number) tag b (callOf (m .memory) (m .lent) (m .state .pair) tag b)
 
 -- 01 "Script program": a script that stops has ended, and all else is as it was
-unfoldable pub stoppedState : State → State
+unfoldable pub stoppedState : ScriptState → ScriptState
 stoppedState st = record { pair = st .pair; number = st .number; ended = true }
 
 -- what the bytes at hand make the machine do: nothing, where the record may be cut or the script has ended; stop; or go on, with a line, past so many bytes
@@ -105,4 +105,4 @@ header = 114 ∷ 101 ∷ 99 ∷ 111 ∷ 114 ∷ 100 ∷ 32 ∷ 119 ∷ 111 ∷ 1
 
 -- 01 "Script program": the header line, then what the records put out
 unfoldable pub listing : List ℕ → List ℕ
-listing s = header ++ run 0 start s
+listing s = header ++ run 0 startMachine s

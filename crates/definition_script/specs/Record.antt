@@ -4,7 +4,7 @@ use mathlib.Core.List.{List}
 use mathlib.Core.Bool.{Bool, false, not}
 use lib.ListN.{getD, length}
 use lib.Dec.{ltb, leb, eqb}
-use Rattle.definition_script.specs.declared.Transfer.{Transfer}
+use Rattle.definition_script.specs.declared.TransferBody.{TransferBody}
 use Rattle.definition_script.specs.declared.Decoded.{Decoded}
 use Rattle.definition_script.specs.declared.Decoded.the-variants.{Whole, Bad, Cut}
 use Rattle.definition.specs.declared.Answer.{Answer}
@@ -23,7 +23,7 @@ abbrev pub eight : List ℕ → ℕ → ℕ
 eight s at = four s at + 4294967296 * four s (at + 4)
 
 -- the body of write and read
-unfoldable pub transferOf : (body : List ℕ) → Transfer
+unfoldable pub transferOf : (body : List ℕ) → TransferBody
 transferOf b = record { handle = four b 0; options = four b 4; address = eight b 8; count = eight b 16; «count_at» = eight b 24 }
 
 -- ---- the record

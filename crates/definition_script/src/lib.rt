@@ -3,7 +3,7 @@
 use definition::Pair;
 
 // The body of a write or a read.
-pub struct Transfer {
+pub struct TransferBody {
     pub handle: u32,
     pub options: u32,
     pub address: u64,
@@ -19,7 +19,7 @@ pub enum Decoded {
 }
 
 // Where a script stands: the pair, how many records have been run, and whether the script has ended.
-pub struct State {
+pub struct ScriptState {
     pub pair: Pair,
     pub number: u64,
     pub ended: bool,

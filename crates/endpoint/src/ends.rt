@@ -47,7 +47,7 @@ pub struct Moved {
 
 // The two ends after a call, its answer, whether the waits are to be looked at, and the changes whose waits are then to be visited: those of
 // `visits`, then those of `more`, which only a disposition has. The waits are looked at where a wait can fire; by a close, where there are any.
-pub struct Outcome {
+pub struct EndsOutcome {
     pub one: Endpoint,
     pub two: Endpoint,
     pub answer: Answer,

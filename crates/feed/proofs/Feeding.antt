@@ -11,7 +11,7 @@ use Rattle.definition.specs.Status.{pick, _and_}
 use Rattle.definition_script.specs.Line.{stopOf}
 use Rattle.definition_script.specs.Call.{writtenAt, Rings}
 use Rattle.text.proofs.Place.{place-none, place-length, place-front, place-behind}
-use Rattle.definition_script.specs.declared.State.{State}
+use Rattle.definition_script.specs.declared.ScriptState.{ScriptState}
 use Rattle.feed.specs.declared.turn.Turned.{Turned}
 use Rattle.line.specs.line.LineDone.{LINE}
 use Rattle.definition_script.specs.Listing.{Machine, machine, Move, stay, halt, go, moveOf}
@@ -25,7 +25,7 @@ never e = let z : _≡_ {A = ℕ} 1 0 = ap (λ (b : Bool). cond b 1 0) e in omeg
 
 -- ---- what a block that can be fed tells
 
-pub record Ready (st : State) (o i k : ℕ) : Type 0 where
+pub record Ready (st : ScriptState) (o i k : ℕ) : Type 0 where
   pub number : st .number ≤ LIMIT
   pub offset : o ≤ LIMIT
   pub input : i ≤ LIMIT
@@ -36,7 +36,7 @@ unfolding _and_
 both true b e = (refl, e)
 both false b e = absurd (never (sym e))
 
-pub ready : (st : State) (offset input memory : ℕ) → isReady st offset input memory ≡ true → Ready st offset input memory
+pub ready : (st : ScriptState) (offset input memory : ℕ) → isReady st offset input memory ≡ true → Ready st offset input memory
 unfolding isReady
 ready st offset input memory e =
     let a = both _ _ e in
@@ -180,7 +180,7 @@ falls m offset input from at memory′ z′ out out′ r w d = rw (d .next, d .m
 -- ---- the end of a block
 
 -- nothing is left to do
-done-by : (m₀ : Machine) (offset : ℕ) (input out₀ : List ℕ) (st : State) (memory : List ℕ) (z : Rings) (out : List ℕ) (from at : ℕ) (more : Bool)
+done-by : (m₀ : Machine) (offset : ℕ) (input out₀ : List ℕ) (st : ScriptState) (memory : List ℕ) (z : Rings) (out : List ℕ) (from at : ℕ) (more : Bool)
     → SoFar m₀ offset input out₀ (machine st memory z) out from at more
     → fedFrom LINE (offset + from) (length out₀ - at) (machine st memory z) (drop from input) ≡ noBlock (machine st memory z)
     → isReady (m₀ .state) offset (length input) (length (m₀ .memory)) ≡ true
@@ -211,7 +211,7 @@ done-by m₀ offset input out₀ st memory z out from at more f e g =
       fits = f .fits;
     }
 
-pub done-full : (m₀ : Machine) (offset : ℕ) (input out₀ : List ℕ) (st : State) (memory : List ℕ) (z : Rings) (out : List ℕ) (from at : ℕ) (more : Bool)
+pub done-full : (m₀ : Machine) (offset : ℕ) (input out₀ : List ℕ) (st : ScriptState) (memory : List ℕ) (z : Rings) (out : List ℕ) (from at : ℕ) (more : Bool)
     → SoFar m₀ offset input out₀ (machine st memory z) out from at more → length out - at < LINE
     → isReady (m₀ .state) offset (length input) (length (m₀ .memory)) ≡ true
     → FeedDone (m₀ .state) offset input (m₀ .memory) memory (m₀ .lent) z out₀ out (record { state = st; taken = from; written = at })
@@ -219,7 +219,7 @@ done-full m₀ offset input out₀ st memory z out from at more f h g =
     done-by m₀ offset input out₀ st memory z out from at more f
     (fed-full LINE (offset + from) (length out₀ - at) (machine st memory z) (drop from input) (omega (arith, f .same))) g
 
-pub done-stay : (m₀ : Machine) (offset : ℕ) (input out₀ : List ℕ) (st : State) (memory : List ℕ) (z : Rings) (out : List ℕ) (from at : ℕ) (more : Bool)
+pub done-stay : (m₀ : Machine) (offset : ℕ) (input out₀ : List ℕ) (st : ScriptState) (memory : List ℕ) (z : Rings) (out : List ℕ) (from at : ℕ) (more : Bool)
     → SoFar m₀ offset input out₀ (machine st memory z) out from at more → more ≡ false
     → isReady (m₀ .state) offset (length input) (length (m₀ .memory)) ≡ true
     → FeedDone (m₀ .state) offset input (m₀ .memory) memory (m₀ .lent) z out₀ out (record { state = st; taken = from; written = at })
@@ -228,7 +228,7 @@ done-stay m₀ offset input out₀ st memory z out from at more f h g =
     (fed-stay LINE (offset + from) (length out₀ - at) (machine st memory z) (drop from input) (f .idle h)) g
 
 -- a block that cannot be fed is left whole
-pub unready : (st : State) (offset : ℕ) (input memory : List ℕ) (z : Rings) (out : List ℕ) → isReady st offset (length input) (length memory) ≡ false
+pub unready : (st : ScriptState) (offset : ℕ) (input memory : List ℕ) (z : Rings) (out : List ℕ) → isReady st offset (length input) (length memory) ≡ false
     → FeedDone st offset input memory memory z z out out (record { state = st; taken = 0; written = 0 })
 unready st offset input memory z out e =
     record {

@@ -14,7 +14,7 @@ use Rattle.text.proofs.Place.{nothing, upTo, same}
 use Rattle.definition.specs.declared.Pair.{Pair}
 use Rattle.definition.specs.declared.Step.{Step}
 use Rattle.script_call.proofs.fill.Fills.{part-all}
-use Rattle.definition_script.specs.declared.State.{State}
+use Rattle.definition_script.specs.declared.ScriptState.{ScriptState}
 use Rattle.feed.specs.declared.turn.Stepped.{Stepped}
 use Rattle.feed.specs.declared.turn.Turned.{Turned}
 use Rattle.definition_script.specs.declared.Decoded.{Decoded}
@@ -23,7 +23,7 @@ use Rattle.definition_script.specs.Record.{isBody, recordOf, isMisplaced, isLas
 use Rattle.script_call.proofs.record.Records.{cases, Full, full}
 use Rattle.line.specs.line.LineDone.{LINE, LineDone}
 use Rattle.definition_script.specs.Line.{lineOf}
-use Rattle.definition_script.specs.Call.{Rings, rings, delivered, settled, callOf}
+use Rattle.definition_script.specs.Call.{Rings, rings, delivered, afterCount, callOf}
 use Rattle.script_call.specs.call.CallDone.{CallDone}
 use Rattle.definition_script.specs.Listing.{Machine, machine, Move, stay, halt, go, moveOf, steppedState, stepped, calledLine, stepLine}
 use Rattle.line.proofs.call_line.Lines.{delivered-small}
@@ -96,7 +96,7 @@ body-length from n l h =
     ap (λ (k : ℕ). length (take k (drop (from + 3) l))) e ∙ length-take-le n (drop (from + 3) l) (omega (arith, length-drop (from + 3) l))
 
 -- a record that is all there lies in the input, and its body is right for its tag
-module _ (st : State) (from : ℕ) (l : List ℕ) (r : Decoded) (tag n : ℕ) (h : from ≤ length l) (e : r ≡ nextOf (st .ended) (st .number) (drop from l))
+module _ (st : ScriptState) (from : ℕ) (l : List ℕ) (r : Decoded) (tag n : ℕ) (h : from ≤ length l) (e : r ≡ nextOf (st .ended) (st .number) (drop from l))
     (f : r ≡ Whole tag n) where
   whole : Full (drop from l) tag n
   whole = next-whole (machine st [] (rings [] [] [] [])) (drop from l) r e tag n f .0
@@ -162,11 +162,11 @@ shown-two : (p : Pair) → shown (p .two) ≡ shownBy p 2
 unfolding shownBy isHandle pick _or_
 shown-two p = refl
 
-module _ (st : State) (tag at to : ℕ) (b memory memory₁ memory₂ out out′ : List ℕ) (z z₁ : Rings) (r : Step) (last : Bool)
+module _ (st : ScriptState) (tag at to : ℕ) (b memory memory₁ memory₂ out out′ : List ℕ) (z z₁ : Rings) (r : Step) (last : Bool)
     (w : CallDone (callOf memory z (st .pair) tag b) memory₁ z₁ r)
     (small : length memory ≤ 4096) (kept : length memory₁ ≡ length memory)
     (f : LineDone (st .number) (r .answer) (shown (r .pair .one)) (shown (r .pair .two)) (delivered tag b (r .answer) memory₁) at to out out′)
-    (l : memory₂ ≡ settled tag b (r .answer) memory₁) (i : last ≡ isLast tag (r .answer)) where
+    (l : memory₂ ≡ afterCount tag b (r .answer) memory₁) (i : last ≡ isLast tag (r .answer)) where
   -- the answer and the pair are those of the call
   answer-is : r .answer ≡ callOf memory z (st .pair) tag b .step .answer
   answer-is = ap (λ (x : Step). x .answer) (w .step)
@@ -180,10 +180,10 @@ module _ (st : State) (tag at to : ℕ) (b memory memory₁ memory₂ out out′
       ap (λ (x : Bool). mkState (r .pair) (st .number + 1) x) (i ∙ ap (isLast tag) answer-is)
       ∙ ap (λ (x : Pair). mkState x (st .number + 1) (isLast tag (callOf memory z (st .pair) tag b .step .answer))) pair-is
 
-  step-memory : memory₂ ≡ settled tag b (callOf memory z (st .pair) tag b .step .answer) (callOf memory z (st .pair) tag b .memory)
+  step-memory : memory₂ ≡ afterCount tag b (callOf memory z (st .pair) tag b .step .answer) (callOf memory z (st .pair) tag b .memory)
   step-memory =
-      l ∙ ap (λ (x : Answer). settled tag b x memory₁) answer-is
-      ∙ ap (λ (x : List ℕ). settled tag b (callOf memory z (st .pair) tag b .step .answer) x) (w .memory)
+      l ∙ ap (λ (x : Answer). afterCount tag b x memory₁) answer-is
+      ∙ ap (λ (x : List ℕ). afterCount tag b (callOf memory z (st .pair) tag b .step .answer) x) (w .memory)
 
   step-text : lineOf (st .number) (r .answer) (shown (r .pair .one)) (shown (r .pair .two)) (delivered tag b (r .answer) memory₁)
       ≡ calledLine (st .number) tag b (callOf memory z (st .pair) tag b)

@@ -5,7 +5,7 @@ use mathlib.Core.List.{List, [], _++_}
 use mathlib.Core.Path.{_≡_}
 use lib.Dec.{leb}
 use lib.ListN.{length, drop}
-use Rattle.definition_script.specs.declared.State.{State}
+use Rattle.definition_script.specs.declared.ScriptState.{ScriptState}
 use Rattle.feed.specs.declared.Fed.{Fed}
 use Rattle.definition.specs.Status.{_and_, pick}
 use Rattle.feed.specs.Turn.{LIMIT, machineAfter}
@@ -15,7 +15,7 @@ use Rattle.line.specs.line.LineDone.{LINE}
 use Rattle.definition_script.specs.Call.{writtenAt, Rings}
 
 -- whether a block can be fed: the numbers are far from 2 ^ 64, and memory is such that no line is longer than LINE
-unfoldable pub isReady : State → (offset input memory : ℕ) → Bool
+unfoldable pub isReady : ScriptState → (offset input memory : ℕ) → Bool
 isReady st offset input memory = leb (st .number) LIMIT and leb offset LIMIT and leb input LIMIT and leb memory 4096
 
 -- ---- what a block does
@@ -67,7 +67,7 @@ pub record BlockDone (b : Block) (memory′ : List ℕ) (z′ : Rings) (out out�
   pub text : out′ ≡ writtenAt 0 (b .text) out
 
 -- a block is fed; what is taken lies in the input, and the text in the output
-pub record FeedDone (st : State) (offset : ℕ) (input memory memory′ : List ℕ) (z z′ : Rings) (out out′ : List ℕ) (r : Fed) : Type 0 where
+pub record FeedDone (st : ScriptState) (offset : ℕ) (input memory memory′ : List ℕ) (z z′ : Rings) (out out′ : List ℕ) (r : Fed) : Type 0 where
   pub block : BlockDone (fedOf offset (length out) (machine st memory z) input) memory′ z′ out out′ r
   pub within : r .taken ≤ length input
   pub fits : r .written ≤ length out′

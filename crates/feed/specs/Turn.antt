@@ -4,7 +4,7 @@ use mathlib.Core.Path.{_≡_}
 use mathlib.Core.Bool.{true, false, Bool}
 use mathlib.Core.List.{List, []}
 use lib.ListN.{length}
-use Rattle.definition_script.specs.declared.State.{State}
+use Rattle.definition_script.specs.declared.ScriptState.{ScriptState}
 use Rattle.feed.specs.declared.turn.Stepped.{Stepped}
 use Rattle.feed.specs.declared.turn.Turned.{Turned}
 use Rattle.definition_script.specs.declared.Decoded.{Decoded}
@@ -24,7 +24,7 @@ LIMIT = 4611686018427387904
 -- ---- what the functions say
 
 -- what a step asks for: a body that is right for its tag, so that a record is run and its line put out
-pub record StepMay (st : State) (tag : ℕ) (b memory : List ℕ) : Type 0 where
+pub record StepMay (st : ScriptState) (tag : ℕ) (b memory : List ℕ) : Type 0 where
   pub body : isBody tag (length b) ≡ true
   pub size : length memory ≤ 4096
   pub number : st .number ≤ LIMIT + LIMIT
@@ -37,7 +37,7 @@ pub record StepDone (m : Machine) (tag : ℕ) (body : List ℕ) (at : ℕ) (memo
   pub text : Fit LINE at (stepLine m tag body) (r .at) out out′
 
 -- the line that stops a script
-pub record StopDone (st : State) (offset from at : ℕ) (out out′ : List ℕ) (r : Turned) : Type 0 where
+pub record StopDone (st : ScriptState) (offset from at : ℕ) (out out′ : List ℕ) (r : Turned) : Type 0 where
   pub state : r .state ≡ stoppedState st
   pub next : r .from ≡ from
   pub more : r .more ≡ false
@@ -80,7 +80,7 @@ goesOn halt = false
 goesOn (go m l n) = true
 
 -- what a turn asks for, at a place of the input: offset is the number of bytes before the input
-pub record TurnMay (st : State) (o : ℕ) (s : List ℕ) (from : ℕ) (memory : List ℕ) : Type 0 where
+pub record TurnMay (st : ScriptState) (o : ℕ) (s : List ℕ) (from : ℕ) (memory : List ℕ) : Type 0 where
   pub within : from ≤ length s
   pub input : length s ≤ LIMIT
   pub offset : o ≤ LIMIT

@@ -1,5 +1,5 @@
 // One block of a script is fed to the machine that it drives: the pair, memory, rings and tables.
-use definition_script::State;
+use definition_script::ScriptState;
 ghost use mathlib.Core.Path.{_≡_};
 ghost use mathlib.Core.Bool.{true};
 ghost use lib.ListN.{length};
@@ -11,12 +11,12 @@ mod turn;
 
 // After a block: the state, how many bytes of the input are done with, and how many of the output are written.
 pub struct Fed {
-    pub state: State,
+    pub state: ScriptState,
     pub taken: usize,
     pub written: usize,
 }
 
-fn is_ready(st: State, offset: u64, input: usize, memory: usize) -> bool
+fn is_ready(st: ScriptState, offset: u64, input: usize, memory: usize) -> bool
     ensures { λ r. ⌜ r ≡ isReady st offset input memory ⌝ }
 {
     if st.number > 4611686018427387904 {
@@ -33,7 +33,7 @@ fn is_ready(st: State, offset: u64, input: usize, memory: usize) -> bool
 
 // Moves as long as there is one to make and room for its line.
 fn feed_ready(
-    st: State,
+    st: ScriptState,
     offset: u64,
     input: &[u8],
     memory: &mut [u8],
@@ -80,7 +80,7 @@ fn feed_ready(
 // Feeds a block before which `offset` bytes came. The caller puts out the text, and feeds again from the first byte that is not done with: at once
 // if there was text, else with more bytes behind.
 pub fn feed(
-    st: State,
+    st: ScriptState,
     offset: u64,
     input: &[u8],
     memory: &mut [u8],

@@ -1,6 +1,6 @@
 // One move of the machine that a script drives: a record is run and its line put out, or the script stops.
 use definition_script::Decoded;
-use definition_script::State;
+use definition_script::ScriptState;
 ghost use Prim.Native.Nat.{_+_, _≤_};
 ghost use mathlib.Core.Path.{_≡_};
 ghost use lib.ListN.{length, drop};
@@ -10,13 +10,13 @@ ghost use Rattle.feed.specs.Turn.{LIMIT, nextOf, StepMay, StepDone, Stop
 
 // After a step: the state, and the place in the output.
 pub struct Stepped {
-    pub state: State,
+    pub state: ScriptState,
     pub at: usize,
 }
 
 // After a move: the state, the place in the input, the place in the output, and whether another move may follow.
 pub struct Turned {
-    pub state: State,
+    pub state: ScriptState,
     pub from: usize,
     pub at: usize,
     pub more: bool,
@@ -24,7 +24,7 @@ pub struct Turned {
 
 // Runs a record and puts out its line.
 fn step(
-    st: State,
+    st: ScriptState,
     tag: u8,
     body: &[u8],
     memory: &mut [u8],
@@ -57,7 +57,7 @@ fn step(
     script_call::delivered::settle(tag, body, a, memory);
     let number = st.number + 1;
     Stepped {
-        state: State {
+        state: ScriptState {
             pair,
             number,
             ended: script_call::record::is_last(tag, a),
@@ -67,14 +67,14 @@ fn step(
 }
 
 // The line that stops the script.
-fn stop(st: State, offset: u64, from: usize, out: &mut [u8], at: usize) -> Turned
+fn stop(st: ScriptState, offset: u64, from: usize, out: &mut [u8], at: usize) -> Turned
     requires { ⌜ (offset ≤ LIMIT) × (from ≤ LIMIT) ⌝ }
     ensures { λ r. ⌜ StopDone st offset from at (now (out .entry)) (now (out .exit)) r ⌝ }
 {
     let to = text::stop(out, at, offset + from as u64);
     let pair = st.pair;
     Turned {
-        state: State {
+        state: ScriptState {
             pair,
             number: st.number,
             ended: true,
@@ -108,7 +108,7 @@ fn next(ended: bool, number: u64, input: &[u8], from: usize) -> Decoded
 
 // The move that the bytes of the input make from a place on.
 pub(crate) fn turn(
-    st: State,
+    st: ScriptState,
     offset: u64,
     input: &[u8],
     from: usize,

@@ -30,15 +30,15 @@ use Rattle.kept.proofs.steps.Steps.{Asked, told, Handed, told-last}
 use Rattle.definition.specs.declared.Answer.{Answer}
 use Rattle.definition.specs.Status.{answerWord, isDone}
 use Rattle.definition.specs.declared.Ends.{Ends}
-use Rattle.endpoint.specs.declared.ends.Outcome.{Outcome}
+use Rattle.endpoint.specs.declared.ends.EndsOutcome.{EndsOutcome}
 use Rattle.transfer.specs.declared.change.Transfer.{Transfer}
 use Rattle.transfer.proofs.change.Transfer as X
 use Rattle.transfer.proofs.change.Transfer.Laws as X′
 use Rattle.definition.specs.declared.Pair.{Pair}
 use Rattle.definition.proofs.Pair as T
 use Rattle.definition.proofs.Pair.Laws as T′
-use Rattle.endpoint.proofs.ends.Outcome as K
-use Rattle.endpoint.proofs.ends.Outcome.Laws as K′
+use Rattle.endpoint.proofs.ends.EndsOutcome as K
+use Rattle.endpoint.proofs.ends.EndsOutcome.Laws as K′
 use Rattle.definition.proofs.Ends as E
 use Rattle.definition.proofs.Ends.Laws as E′
 use Rattle.definition.proofs.Answer as N
@@ -130,7 +130,7 @@ module _ {M : Type 1} (𝓤 : URA M) (H : Heap 𝓤) (A : Atoms 𝓤) (at-mem : 
   abbrev pub close-contract : Contract 𝓤
   close-contract = tripleOf 𝓤 H A close.signature (close.spec 𝓤 H A at-mem run)
 
-  abbrev pub to-close : Lft → Share → ℕ → ℕ → GName → Pair → ℕ → Outcome → Val → close-contract .Ghost
+  abbrev pub to-close : Lft → Share → ℕ → ℕ → GName → Pair → ℕ → EndsOutcome → Val → close-contract .Ghost
   to-close κ q b o γ h a₁ a₂ v₂ = (((κ, tt), (q, tt), tt, (record { ptr = (b, o); name = γ; now = h }, (a₁, (a₂, tt))), (vptr b o ∷ [], (vint w32 a₁ ∷ [], (v₂ ∷ [], tt)))), tt)
 
   abbrev pub create-contract : Contract 𝓤
@@ -182,73 +182,73 @@ module _ {M : Type 1} (𝓤 : URA M) (H : Heap 𝓤) (A : Atoms 𝓤) (at-mem : 
     pub goes-shutdown-ends : (a₁ : Ends) (a₂ : ℕ) (a₃ : Bool) (a₄ : Bool) (v₁ : Val) → Is E.the-row a₁ (v₁ ∷ []) → Is u32 a₂ (vint w32 a₂ ∷ []) → ent 𝓤 (sem 𝓤 H A ftrue) (shutdown-ends-contract .pre (to-shutdown-ends a₁ a₂ a₃ a₄ v₁))
     goes-shutdown-ends a₁ a₂ a₃ a₄ v₁ i₁ i₂ = qed W (‵ ftrue ∷ []) ∵ owned ! bool (Is bool) (bool-makes 𝓤 H A W) a₄ _ refl $ join ! $ owned ! bool (Is bool) (bool-makes 𝓤 H A W) a₃ _ refl $ join ! $ owned ! u32 (Is u32) (uint-makes 𝓤 H A W w32) a₂ _ i₂ $ join ! $ owned ! E.the-row (Is E.the-row) ((LL.makes E.the-type E′.the-plain) 𝓤 H A) a₁ (v₁ ∷ []) i₁ $ join ! $ nothing ! $ join ! $ frame ! $ done !
 
-    pub gives-shutdown-ends : (a₁ : Ends) (a₂ : ℕ) (a₃ : Bool) (a₄ : Bool) (v₁ : Val) (v : Val) → ent 𝓤 (shutdown-ends-contract .post (to-shutdown-ends a₁ a₂ a₃ a₄ v₁) v) (mean 𝓤 H A (later (some (λ (y : Outcome). ‵ (K.the-row .own y (v ∷ [])) ⊛ raw (fact 𝓤 (y ≡ shutEnds a₁ a₂ a₃ a₄))))))
+    pub gives-shutdown-ends : (a₁ : Ends) (a₂ : ℕ) (a₃ : Bool) (a₄ : Bool) (v₁ : Val) (v : Val) → ent 𝓤 (shutdown-ends-contract .post (to-shutdown-ends a₁ a₂ a₃ a₄ v₁) v) (mean 𝓤 H A (later (some (λ (y : EndsOutcome). ‵ (K.the-row .own y (v ∷ [])) ⊛ raw (fact 𝓤 (y ≡ shutEnds a₁ a₂ a₃ a₄))))))
     gives-shutdown-ends a₁ a₂ a₃ a₄ v₁ = told W K.the-row (λ y. ensured 𝓤 H A shutdown-ends.ended (shutdown-ends.clauses 𝓤 H A at-mem run) tt (a₁, (a₂, (a₃, (a₄, tt)))) tt y) (λ y. y ≡ shutEnds a₁ a₂ a₃ a₄) (λ y. exE 𝓤 _ (λ ws. snd∗ 𝓤 (sem 𝓤 H A (lasts shutdown-ends.ended tt (a₁, (a₂, (a₃, (a₄, tt)))) ws)) (fact 𝓤 (y ≡ shutEnds a₁ a₂ a₃ a₄))))
 
     abbrev pub ask-shutdown-ends : (a₁ : Ends) (a₂ : ℕ) (a₃ : Bool) (a₄ : Bool) (v₁ : Val) → Is E.the-row a₁ (v₁ ∷ []) → Is u32 a₂ (vint w32 a₂ ∷ []) → Asked 𝓤 H A
-    ask-shutdown-ends a₁ a₂ a₃ a₄ v₁ i₁ i₂ = record { contract = shutdown-ends-contract; ghost = to-shutdown-ends a₁ a₂ a₃ a₄ v₁; row = K.the-row; says = λ (y : Outcome). y ≡ shutEnds a₁ a₂ a₃ a₄; needs = goes-shutdown-ends a₁ a₂ a₃ a₄ v₁ i₁ i₂; gives = gives-shutdown-ends a₁ a₂ a₃ a₄ v₁ }
+    ask-shutdown-ends a₁ a₂ a₃ a₄ v₁ i₁ i₂ = record { contract = shutdown-ends-contract; ghost = to-shutdown-ends a₁ a₂ a₃ a₄ v₁; row = K.the-row; says = λ (y : EndsOutcome). y ≡ shutEnds a₁ a₂ a₃ a₄; needs = goes-shutdown-ends a₁ a₂ a₃ a₄ v₁ i₁ i₂; gives = gives-shutdown-ends a₁ a₂ a₃ a₄ v₁ }
 
     pub goes-read-threshold-ends : (a₁ : Ends) (a₂ : ℕ) (a₃ : ℕ) (v₁ : Val) → Is E.the-row a₁ (v₁ ∷ []) → Is u32 a₂ (vint w32 a₂ ∷ []) → Is u64 a₃ (vint w64 a₃ ∷ []) → ent 𝓤 (sem 𝓤 H A ftrue) (read-threshold-ends-contract .pre (to-read-threshold-ends a₁ a₂ a₃ v₁))
     goes-read-threshold-ends a₁ a₂ a₃ v₁ i₁ i₂ i₃ = qed W (‵ ftrue ∷ []) ∵ owned ! u64 (Is u64) (uint-makes 𝓤 H A W w64) a₃ _ i₃ $ join ! $ owned ! u32 (Is u32) (uint-makes 𝓤 H A W w32) a₂ _ i₂ $ join ! $ owned ! E.the-row (Is E.the-row) ((LL.makes E.the-type E′.the-plain) 𝓤 H A) a₁ (v₁ ∷ []) i₁ $ join ! $ nothing ! $ join ! $ frame ! $ done !
 
-    pub gives-read-threshold-ends : (a₁ : Ends) (a₂ : ℕ) (a₃ : ℕ) (v₁ : Val) (v : Val) → ent 𝓤 (read-threshold-ends-contract .post (to-read-threshold-ends a₁ a₂ a₃ v₁) v) (mean 𝓤 H A (later (some (λ (y : Outcome). ‵ (K.the-row .own y (v ∷ [])) ⊛ raw (fact 𝓤 (y ≡ readThresholdEnds a₁ a₂ a₃))))))
+    pub gives-read-threshold-ends : (a₁ : Ends) (a₂ : ℕ) (a₃ : ℕ) (v₁ : Val) (v : Val) → ent 𝓤 (read-threshold-ends-contract .post (to-read-threshold-ends a₁ a₂ a₃ v₁) v) (mean 𝓤 H A (later (some (λ (y : EndsOutcome). ‵ (K.the-row .own y (v ∷ [])) ⊛ raw (fact 𝓤 (y ≡ readThresholdEnds a₁ a₂ a₃))))))
     gives-read-threshold-ends a₁ a₂ a₃ v₁ = told W K.the-row (λ y. ensured 𝓤 H A read-threshold-ends.ended (read-threshold-ends.clauses 𝓤 H A at-mem run) tt (a₁, (a₂, (a₃, tt))) tt y) (λ y. y ≡ readThresholdEnds a₁ a₂ a₃) (λ y. exE 𝓤 _ (λ ws. snd∗ 𝓤 (sem 𝓤 H A (lasts read-threshold-ends.ended tt (a₁, (a₂, (a₃, tt))) ws)) (fact 𝓤 (y ≡ readThresholdEnds a₁ a₂ a₃))))
 
     abbrev pub ask-read-threshold-ends : (a₁ : Ends) (a₂ : ℕ) (a₃ : ℕ) (v₁ : Val) → Is E.the-row a₁ (v₁ ∷ []) → Is u32 a₂ (vint w32 a₂ ∷ []) → Is u64 a₃ (vint w64 a₃ ∷ []) → Asked 𝓤 H A
-    ask-read-threshold-ends a₁ a₂ a₃ v₁ i₁ i₂ i₃ = record { contract = read-threshold-ends-contract; ghost = to-read-threshold-ends a₁ a₂ a₃ v₁; row = K.the-row; says = λ (y : Outcome). y ≡ readThresholdEnds a₁ a₂ a₃; needs = goes-read-threshold-ends a₁ a₂ a₃ v₁ i₁ i₂ i₃; gives = gives-read-threshold-ends a₁ a₂ a₃ v₁ }
+    ask-read-threshold-ends a₁ a₂ a₃ v₁ i₁ i₂ i₃ = record { contract = read-threshold-ends-contract; ghost = to-read-threshold-ends a₁ a₂ a₃ v₁; row = K.the-row; says = λ (y : EndsOutcome). y ≡ readThresholdEnds a₁ a₂ a₃; needs = goes-read-threshold-ends a₁ a₂ a₃ v₁ i₁ i₂ i₃; gives = gives-read-threshold-ends a₁ a₂ a₃ v₁ }
 
     pub goes-write-threshold-ends : (a₁ : Ends) (a₂ : ℕ) (a₃ : ℕ) (v₁ : Val) → Is E.the-row a₁ (v₁ ∷ []) → Is u32 a₂ (vint w32 a₂ ∷ []) → Is u64 a₃ (vint w64 a₃ ∷ []) → ent 𝓤 (sem 𝓤 H A ftrue) (write-threshold-ends-contract .pre (to-write-threshold-ends a₁ a₂ a₃ v₁))
     goes-write-threshold-ends a₁ a₂ a₃ v₁ i₁ i₂ i₃ = qed W (‵ ftrue ∷ []) ∵ owned ! u64 (Is u64) (uint-makes 𝓤 H A W w64) a₃ _ i₃ $ join ! $ owned ! u32 (Is u32) (uint-makes 𝓤 H A W w32) a₂ _ i₂ $ join ! $ owned ! E.the-row (Is E.the-row) ((LL.makes E.the-type E′.the-plain) 𝓤 H A) a₁ (v₁ ∷ []) i₁ $ join ! $ nothing ! $ join ! $ frame ! $ done !
 
-    pub gives-write-threshold-ends : (a₁ : Ends) (a₂ : ℕ) (a₃ : ℕ) (v₁ : Val) (v : Val) → ent 𝓤 (write-threshold-ends-contract .post (to-write-threshold-ends a₁ a₂ a₃ v₁) v) (mean 𝓤 H A (later (some (λ (y : Outcome). ‵ (K.the-row .own y (v ∷ [])) ⊛ raw (fact 𝓤 (y ≡ writeThresholdEnds a₁ a₂ a₃))))))
+    pub gives-write-threshold-ends : (a₁ : Ends) (a₂ : ℕ) (a₃ : ℕ) (v₁ : Val) (v : Val) → ent 𝓤 (write-threshold-ends-contract .post (to-write-threshold-ends a₁ a₂ a₃ v₁) v) (mean 𝓤 H A (later (some (λ (y : EndsOutcome). ‵ (K.the-row .own y (v ∷ [])) ⊛ raw (fact 𝓤 (y ≡ writeThresholdEnds a₁ a₂ a₃))))))
     gives-write-threshold-ends a₁ a₂ a₃ v₁ = told W K.the-row (λ y. ensured 𝓤 H A write-threshold-ends.ended (write-threshold-ends.clauses 𝓤 H A at-mem run) tt (a₁, (a₂, (a₃, tt))) tt y) (λ y. y ≡ writeThresholdEnds a₁ a₂ a₃) (λ y. exE 𝓤 _ (λ ws. snd∗ 𝓤 (sem 𝓤 H A (lasts write-threshold-ends.ended tt (a₁, (a₂, (a₃, tt))) ws)) (fact 𝓤 (y ≡ writeThresholdEnds a₁ a₂ a₃))))
 
     abbrev pub ask-write-threshold-ends : (a₁ : Ends) (a₂ : ℕ) (a₃ : ℕ) (v₁ : Val) → Is E.the-row a₁ (v₁ ∷ []) → Is u32 a₂ (vint w32 a₂ ∷ []) → Is u64 a₃ (vint w64 a₃ ∷ []) → Asked 𝓤 H A
-    ask-write-threshold-ends a₁ a₂ a₃ v₁ i₁ i₂ i₃ = record { contract = write-threshold-ends-contract; ghost = to-write-threshold-ends a₁ a₂ a₃ v₁; row = K.the-row; says = λ (y : Outcome). y ≡ writeThresholdEnds a₁ a₂ a₃; needs = goes-write-threshold-ends a₁ a₂ a₃ v₁ i₁ i₂ i₃; gives = gives-write-threshold-ends a₁ a₂ a₃ v₁ }
+    ask-write-threshold-ends a₁ a₂ a₃ v₁ i₁ i₂ i₃ = record { contract = write-threshold-ends-contract; ghost = to-write-threshold-ends a₁ a₂ a₃ v₁; row = K.the-row; says = λ (y : EndsOutcome). y ≡ writeThresholdEnds a₁ a₂ a₃; needs = goes-write-threshold-ends a₁ a₂ a₃ v₁ i₁ i₂ i₃; gives = gives-write-threshold-ends a₁ a₂ a₃ v₁ }
 
     pub goes-close-ends : (a₁ : Ends) (a₂ : ℕ) (v₁ : Val) → Is E.the-row a₁ (v₁ ∷ []) → Is u32 a₂ (vint w32 a₂ ∷ []) → ent 𝓤 (sem 𝓤 H A ftrue) (close-ends-contract .pre (to-close-ends a₁ a₂ v₁))
     goes-close-ends a₁ a₂ v₁ i₁ i₂ = qed W (‵ ftrue ∷ []) ∵ owned ! u32 (Is u32) (uint-makes 𝓤 H A W w32) a₂ _ i₂ $ join ! $ owned ! E.the-row (Is E.the-row) ((LL.makes E.the-type E′.the-plain) 𝓤 H A) a₁ (v₁ ∷ []) i₁ $ join ! $ nothing ! $ join ! $ frame ! $ done !
 
-    pub gives-close-ends : (a₁ : Ends) (a₂ : ℕ) (v₁ : Val) (v : Val) → ent 𝓤 (close-ends-contract .post (to-close-ends a₁ a₂ v₁) v) (mean 𝓤 H A (later (some (λ (y : Outcome). ‵ (K.the-row .own y (v ∷ [])) ⊛ raw (fact 𝓤 (y ≡ closeEnds a₁ a₂))))))
+    pub gives-close-ends : (a₁ : Ends) (a₂ : ℕ) (v₁ : Val) (v : Val) → ent 𝓤 (close-ends-contract .post (to-close-ends a₁ a₂ v₁) v) (mean 𝓤 H A (later (some (λ (y : EndsOutcome). ‵ (K.the-row .own y (v ∷ [])) ⊛ raw (fact 𝓤 (y ≡ closeEnds a₁ a₂))))))
     gives-close-ends a₁ a₂ v₁ = told W K.the-row (λ y. ensured 𝓤 H A close-ends.ended (close-ends.clauses 𝓤 H A at-mem run) tt (a₁, (a₂, tt)) tt y) (λ y. y ≡ closeEnds a₁ a₂) (λ y. exE 𝓤 _ (λ ws. snd∗ 𝓤 (sem 𝓤 H A (lasts close-ends.ended tt (a₁, (a₂, tt)) ws)) (fact 𝓤 (y ≡ closeEnds a₁ a₂))))
 
     abbrev pub ask-close-ends : (a₁ : Ends) (a₂ : ℕ) (v₁ : Val) → Is E.the-row a₁ (v₁ ∷ []) → Is u32 a₂ (vint w32 a₂ ∷ []) → Asked 𝓤 H A
-    ask-close-ends a₁ a₂ v₁ i₁ i₂ = record { contract = close-ends-contract; ghost = to-close-ends a₁ a₂ v₁; row = K.the-row; says = λ (y : Outcome). y ≡ closeEnds a₁ a₂; needs = goes-close-ends a₁ a₂ v₁ i₁ i₂; gives = gives-close-ends a₁ a₂ v₁ }
+    ask-close-ends a₁ a₂ v₁ i₁ i₂ = record { contract = close-ends-contract; ghost = to-close-ends a₁ a₂ v₁; row = K.the-row; says = λ (y : EndsOutcome). y ≡ closeEnds a₁ a₂; needs = goes-close-ends a₁ a₂ v₁ i₁ i₂; gives = gives-close-ends a₁ a₂ v₁ }
 
     pub goes-dispose-ends : (a₁ : Ends) (a₂ : ℕ) (a₃ : ℕ) (a₄ : ℕ) (v₁ : Val) → Is E.the-row a₁ (v₁ ∷ []) → Is u32 a₂ (vint w32 a₂ ∷ []) → Is u32 a₃ (vint w32 a₃ ∷ []) → Is u32 a₄ (vint w32 a₄ ∷ []) → ent 𝓤 (sem 𝓤 H A ftrue) (dispose-ends-contract .pre (to-dispose-ends a₁ a₂ a₃ a₄ v₁))
     goes-dispose-ends a₁ a₂ a₃ a₄ v₁ i₁ i₂ i₃ i₄ = qed W (‵ ftrue ∷ []) ∵ owned ! u32 (Is u32) (uint-makes 𝓤 H A W w32) a₄ _ i₄ $ join ! $ owned ! u32 (Is u32) (uint-makes 𝓤 H A W w32) a₃ _ i₃ $ join ! $ owned ! u32 (Is u32) (uint-makes 𝓤 H A W w32) a₂ _ i₂ $ join ! $ owned ! E.the-row (Is E.the-row) ((LL.makes E.the-type E′.the-plain) 𝓤 H A) a₁ (v₁ ∷ []) i₁ $ join ! $ nothing ! $ join ! $ frame ! $ done !
 
-    pub gives-dispose-ends : (a₁ : Ends) (a₂ : ℕ) (a₃ : ℕ) (a₄ : ℕ) (v₁ : Val) (v : Val) → ent 𝓤 (dispose-ends-contract .post (to-dispose-ends a₁ a₂ a₃ a₄ v₁) v) (mean 𝓤 H A (later (some (λ (y : Outcome). ‵ (K.the-row .own y (v ∷ [])) ⊛ raw (fact 𝓤 (y ≡ plainDisposeEnds a₁ a₂ a₃ a₄))))))
+    pub gives-dispose-ends : (a₁ : Ends) (a₂ : ℕ) (a₃ : ℕ) (a₄ : ℕ) (v₁ : Val) (v : Val) → ent 𝓤 (dispose-ends-contract .post (to-dispose-ends a₁ a₂ a₃ a₄ v₁) v) (mean 𝓤 H A (later (some (λ (y : EndsOutcome). ‵ (K.the-row .own y (v ∷ [])) ⊛ raw (fact 𝓤 (y ≡ plainDisposeEnds a₁ a₂ a₃ a₄))))))
     gives-dispose-ends a₁ a₂ a₃ a₄ v₁ = told W K.the-row (λ y. ensured 𝓤 H A dispose-ends.ended (dispose-ends.clauses 𝓤 H A at-mem run) tt (a₁, (a₂, (a₃, (a₄, tt)))) tt y) (λ y. y ≡ plainDisposeEnds a₁ a₂ a₃ a₄) (λ y. exE 𝓤 _ (λ ws. snd∗ 𝓤 (sem 𝓤 H A (lasts dispose-ends.ended tt (a₁, (a₂, (a₃, (a₄, tt)))) ws)) (fact 𝓤 (y ≡ plainDisposeEnds a₁ a₂ a₃ a₄))))
 
     abbrev pub ask-dispose-ends : (a₁ : Ends) (a₂ : ℕ) (a₃ : ℕ) (a₄ : ℕ) (v₁ : Val) → Is E.the-row a₁ (v₁ ∷ []) → Is u32 a₂ (vint w32 a₂ ∷ []) → Is u32 a₃ (vint w32 a₃ ∷ []) → Is u32 a₄ (vint w32 a₄ ∷ []) → Asked 𝓤 H A
-    ask-dispose-ends a₁ a₂ a₃ a₄ v₁ i₁ i₂ i₃ i₄ = record { contract = dispose-ends-contract; ghost = to-dispose-ends a₁ a₂ a₃ a₄ v₁; row = K.the-row; says = λ (y : Outcome). y ≡ plainDisposeEnds a₁ a₂ a₃ a₄; needs = goes-dispose-ends a₁ a₂ a₃ a₄ v₁ i₁ i₂ i₃ i₄; gives = gives-dispose-ends a₁ a₂ a₃ a₄ v₁ }
+    ask-dispose-ends a₁ a₂ a₃ a₄ v₁ i₁ i₂ i₃ i₄ = record { contract = dispose-ends-contract; ghost = to-dispose-ends a₁ a₂ a₃ a₄ v₁; row = K.the-row; says = λ (y : EndsOutcome). y ≡ plainDisposeEnds a₁ a₂ a₃ a₄; needs = goes-dispose-ends a₁ a₂ a₃ a₄ v₁ i₁ i₂ i₃ i₄; gives = gives-dispose-ends a₁ a₂ a₃ a₄ v₁ }
 
     pub goes-user-dispose-ends : (a₁ : Ends) (a₂ : ℕ) (a₃ : ℕ) (a₄ : ℕ) (v₁ : Val) → Is E.the-row a₁ (v₁ ∷ []) → Is u32 a₂ (vint w32 a₂ ∷ []) → Is u32 a₃ (vint w32 a₃ ∷ []) → Is u32 a₄ (vint w32 a₄ ∷ []) → ent 𝓤 (sem 𝓤 H A ftrue) (user-dispose-ends-contract .pre (to-user-dispose-ends a₁ a₂ a₃ a₄ v₁))
     goes-user-dispose-ends a₁ a₂ a₃ a₄ v₁ i₁ i₂ i₃ i₄ = qed W (‵ ftrue ∷ []) ∵ owned ! u32 (Is u32) (uint-makes 𝓤 H A W w32) a₄ _ i₄ $ join ! $ owned ! u32 (Is u32) (uint-makes 𝓤 H A W w32) a₃ _ i₃ $ join ! $ owned ! u32 (Is u32) (uint-makes 𝓤 H A W w32) a₂ _ i₂ $ join ! $ owned ! E.the-row (Is E.the-row) ((LL.makes E.the-type E′.the-plain) 𝓤 H A) a₁ (v₁ ∷ []) i₁ $ join ! $ nothing ! $ join ! $ frame ! $ done !
 
-    pub gives-user-dispose-ends : (a₁ : Ends) (a₂ : ℕ) (a₃ : ℕ) (a₄ : ℕ) (v₁ : Val) (v : Val) → ent 𝓤 (user-dispose-ends-contract .post (to-user-dispose-ends a₁ a₂ a₃ a₄ v₁) v) (mean 𝓤 H A (later (some (λ (y : Outcome). ‵ (K.the-row .own y (v ∷ [])) ⊛ raw (fact 𝓤 (y ≡ userDisposeEnds a₁ a₂ a₃ a₄))))))
+    pub gives-user-dispose-ends : (a₁ : Ends) (a₂ : ℕ) (a₃ : ℕ) (a₄ : ℕ) (v₁ : Val) (v : Val) → ent 𝓤 (user-dispose-ends-contract .post (to-user-dispose-ends a₁ a₂ a₃ a₄ v₁) v) (mean 𝓤 H A (later (some (λ (y : EndsOutcome). ‵ (K.the-row .own y (v ∷ [])) ⊛ raw (fact 𝓤 (y ≡ userDisposeEnds a₁ a₂ a₃ a₄))))))
     gives-user-dispose-ends a₁ a₂ a₃ a₄ v₁ = told W K.the-row (λ y. ensured 𝓤 H A user-dispose-ends.ended (user-dispose-ends.clauses 𝓤 H A at-mem run) tt (a₁, (a₂, (a₃, (a₄, tt)))) tt y) (λ y. y ≡ userDisposeEnds a₁ a₂ a₃ a₄) (λ y. exE 𝓤 _ (λ ws. snd∗ 𝓤 (sem 𝓤 H A (lasts user-dispose-ends.ended tt (a₁, (a₂, (a₃, (a₄, tt)))) ws)) (fact 𝓤 (y ≡ userDisposeEnds a₁ a₂ a₃ a₄))))
 
     abbrev pub ask-user-dispose-ends : (a₁ : Ends) (a₂ : ℕ) (a₃ : ℕ) (a₄ : ℕ) (v₁ : Val) → Is E.the-row a₁ (v₁ ∷ []) → Is u32 a₂ (vint w32 a₂ ∷ []) → Is u32 a₃ (vint w32 a₃ ∷ []) → Is u32 a₄ (vint w32 a₄ ∷ []) → Asked 𝓤 H A
-    ask-user-dispose-ends a₁ a₂ a₃ a₄ v₁ i₁ i₂ i₃ i₄ = record { contract = user-dispose-ends-contract; ghost = to-user-dispose-ends a₁ a₂ a₃ a₄ v₁; row = K.the-row; says = λ (y : Outcome). y ≡ userDisposeEnds a₁ a₂ a₃ a₄; needs = goes-user-dispose-ends a₁ a₂ a₃ a₄ v₁ i₁ i₂ i₃ i₄; gives = gives-user-dispose-ends a₁ a₂ a₃ a₄ v₁ }
+    ask-user-dispose-ends a₁ a₂ a₃ a₄ v₁ i₁ i₂ i₃ i₄ = record { contract = user-dispose-ends-contract; ghost = to-user-dispose-ends a₁ a₂ a₃ a₄ v₁; row = K.the-row; says = λ (y : EndsOutcome). y ≡ userDisposeEnds a₁ a₂ a₃ a₄; needs = goes-user-dispose-ends a₁ a₂ a₃ a₄ v₁ i₁ i₂ i₃ i₄; gives = gives-user-dispose-ends a₁ a₂ a₃ a₄ v₁ }
 
     pub goes-user-shutdown-ends : (a₁ : Ends) (a₂ : ℕ) (a₃ : ℕ) (v₁ : Val) → Is E.the-row a₁ (v₁ ∷ []) → Is u32 a₂ (vint w32 a₂ ∷ []) → Is u32 a₃ (vint w32 a₃ ∷ []) → ent 𝓤 (sem 𝓤 H A ftrue) (user-shutdown-ends-contract .pre (to-user-shutdown-ends a₁ a₂ a₃ v₁))
     goes-user-shutdown-ends a₁ a₂ a₃ v₁ i₁ i₂ i₃ = qed W (‵ ftrue ∷ []) ∵ owned ! u32 (Is u32) (uint-makes 𝓤 H A W w32) a₃ _ i₃ $ join ! $ owned ! u32 (Is u32) (uint-makes 𝓤 H A W w32) a₂ _ i₂ $ join ! $ owned ! E.the-row (Is E.the-row) ((LL.makes E.the-type E′.the-plain) 𝓤 H A) a₁ (v₁ ∷ []) i₁ $ join ! $ nothing ! $ join ! $ frame ! $ done !
 
-    pub gives-user-shutdown-ends : (a₁ : Ends) (a₂ : ℕ) (a₃ : ℕ) (v₁ : Val) (v : Val) → ent 𝓤 (user-shutdown-ends-contract .post (to-user-shutdown-ends a₁ a₂ a₃ v₁) v) (mean 𝓤 H A (later (some (λ (y : Outcome). ‵ (K.the-row .own y (v ∷ [])) ⊛ raw (fact 𝓤 (y ≡ userShutEnds a₁ a₂ a₃))))))
+    pub gives-user-shutdown-ends : (a₁ : Ends) (a₂ : ℕ) (a₃ : ℕ) (v₁ : Val) (v : Val) → ent 𝓤 (user-shutdown-ends-contract .post (to-user-shutdown-ends a₁ a₂ a₃ v₁) v) (mean 𝓤 H A (later (some (λ (y : EndsOutcome). ‵ (K.the-row .own y (v ∷ [])) ⊛ raw (fact 𝓤 (y ≡ userShutEnds a₁ a₂ a₃))))))
     gives-user-shutdown-ends a₁ a₂ a₃ v₁ = told W K.the-row (λ y. ensured 𝓤 H A user-shutdown-ends.ended (user-shutdown-ends.clauses 𝓤 H A at-mem run) tt (a₁, (a₂, (a₃, tt))) tt y) (λ y. y ≡ userShutEnds a₁ a₂ a₃) (λ y. exE 𝓤 _ (λ ws. snd∗ 𝓤 (sem 𝓤 H A (lasts user-shutdown-ends.ended tt (a₁, (a₂, (a₃, tt))) ws)) (fact 𝓤 (y ≡ userShutEnds a₁ a₂ a₃))))
 
     abbrev pub ask-user-shutdown-ends : (a₁ : Ends) (a₂ : ℕ) (a₃ : ℕ) (v₁ : Val) → Is E.the-row a₁ (v₁ ∷ []) → Is u32 a₂ (vint w32 a₂ ∷ []) → Is u32 a₃ (vint w32 a₃ ∷ []) → Asked 𝓤 H A
-    ask-user-shutdown-ends a₁ a₂ a₃ v₁ i₁ i₂ i₃ = record { contract = user-shutdown-ends-contract; ghost = to-user-shutdown-ends a₁ a₂ a₃ v₁; row = K.the-row; says = λ (y : Outcome). y ≡ userShutEnds a₁ a₂ a₃; needs = goes-user-shutdown-ends a₁ a₂ a₃ v₁ i₁ i₂ i₃; gives = gives-user-shutdown-ends a₁ a₂ a₃ v₁ }
+    ask-user-shutdown-ends a₁ a₂ a₃ v₁ i₁ i₂ i₃ = record { contract = user-shutdown-ends-contract; ghost = to-user-shutdown-ends a₁ a₂ a₃ v₁; row = K.the-row; says = λ (y : EndsOutcome). y ≡ userShutEnds a₁ a₂ a₃; needs = goes-user-shutdown-ends a₁ a₂ a₃ v₁ i₁ i₂ i₃; gives = gives-user-shutdown-ends a₁ a₂ a₃ v₁ }
 
-    pub goes-close : (κ : Lft) (q : Share) (b o : ℕ) (γ : GName) (h : Pair) (a₁ : ℕ) (a₂ : Outcome) (v₂ : Val) → Is u32 a₁ (vint w32 a₁ ∷ []) → Is K.the-row a₂ (v₂ ∷ []) → ent 𝓤 (⋆ 𝓤 H A ((‵ (MutRef (named 0) κ T.the-row .own (record { ptr = (b, o); name = γ; now = h }) (vptr b o ∷ [])) ⊛ (‵ (flft κ q) ⊛ ‵ ftrue)) ∷ [])) (close-contract .pre (to-close κ q b o γ h a₁ a₂ v₂))
+    pub goes-close : (κ : Lft) (q : Share) (b o : ℕ) (γ : GName) (h : Pair) (a₁ : ℕ) (a₂ : EndsOutcome) (v₂ : Val) → Is u32 a₁ (vint w32 a₁ ∷ []) → Is K.the-row a₂ (v₂ ∷ []) → ent 𝓤 (⋆ 𝓤 H A ((‵ (MutRef (named 0) κ T.the-row .own (record { ptr = (b, o); name = γ; now = h }) (vptr b o ∷ [])) ⊛ (‵ (flft κ q) ⊛ ‵ ftrue)) ∷ [])) (close-contract .pre (to-close κ q b o γ h a₁ a₂ v₂))
     goes-close κ q b o γ h a₁ a₂ v₂ i₁ i₂ = qed W ((‵ (MutRef (named 0) κ T.the-row .own (record { ptr = (b, o); name = γ; now = h }) (vptr b o ∷ [])) ⊛ (‵ (flft κ q) ⊛ ‵ ftrue)) ∷ []) ∵ split ! $ nothing ! $ owned ! K.the-row (Is K.the-row) ((LL.makes K.the-type K′.the-plain) 𝓤 H A) a₂ (v₂ ∷ []) i₂ $ join ! $ owned ! u32 (Is u32) (uint-makes 𝓤 H A W w32) a₁ _ i₁ $ join ! $ move ! (1 ∷ 0 ∷ []) $ join ! $ move ! (1 ∷ 0 ∷ []) $ join ! $ frame ! $ done !
 
-    pub gives-close : (κ : Lft) (q : Share) (b o : ℕ) (γ : GName) (h : Pair) (a₁ : ℕ) (a₂ : Outcome) (v₂ : Val) (v : Val) → ent 𝓤 (close-contract .post (to-close κ q b o γ h a₁ a₂ v₂) v) (mean 𝓤 H A (later (some (λ (y : ℤ). some (λ (w : (Pair × (Unit {0} × (Unit {0} × Unit {0})))). ((‵ (flft κ q) ⊛ ‵ ftrue) ⊛ ‵ (i64 .own y (v ∷ []))) ⊛ (‵ (fres γ (T.the-row .coded .code (w .0))) ⊛ raw (fact 𝓤 ((y ≡ answerWord (a₂ .answer)) × (w .0 ≡ settledClose (isOne a₁) a₂ h .pair)))))))))
+    pub gives-close : (κ : Lft) (q : Share) (b o : ℕ) (γ : GName) (h : Pair) (a₁ : ℕ) (a₂ : EndsOutcome) (v₂ : Val) (v : Val) → ent 𝓤 (close-contract .post (to-close κ q b o γ h a₁ a₂ v₂) v) (mean 𝓤 H A (later (some (λ (y : ℤ). some (λ (w : (Pair × (Unit {0} × (Unit {0} × Unit {0})))). ((‵ (flft κ q) ⊛ ‵ ftrue) ⊛ ‵ (i64 .own y (v ∷ []))) ⊛ (‵ (fres γ (T.the-row .coded .code (w .0))) ⊛ raw (fact 𝓤 ((y ≡ answerWord (a₂ .answer)) × (w .0 ≡ settledClose (isOne a₁) a₂ h .pair)))))))))
     gives-close κ q b o γ h a₁ a₂ v₂ = told-last W i64 (‵ (flft κ q) ⊛ ‵ ftrue) (Pair × (Unit {0} × (Unit {0} × Unit {0}))) (lasts close.ended (κ, tt) (record { ptr = (b, o); name = γ; now = h }, (a₁, (a₂, tt)))) (λ w. fres γ (T.the-row .coded .code (w .0))) (λ y w. (y ≡ answerWord (a₂ .answer)) × (w .0 ≡ settledClose (isOne a₁) a₂ h .pair)) (λ w. qed W (‵ (lasts close.ended (κ, tt) (record { ptr = (b, o); name = γ; now = h }, (a₁, (a₂, tt))) w) ∷ []) ∵ fsplit ! $ keep ! (0 ∷ []) $ done !)
 
-    abbrev pub hand-close : (κ : Lft) (q : Share) (b o : ℕ) (γ : GName) (h : Pair) (a₁ : ℕ) (a₂ : Outcome) (v₂ : Val) → Is u32 a₁ (vint w32 a₁ ∷ []) → Is K.the-row a₂ (v₂ ∷ []) → Handed 𝓤 H A T.the-row κ q b o γ h
+    abbrev pub hand-close : (κ : Lft) (q : Share) (b o : ℕ) (γ : GName) (h : Pair) (a₁ : ℕ) (a₂ : EndsOutcome) (v₂ : Val) → Is u32 a₁ (vint w32 a₁ ∷ []) → Is K.the-row a₂ (v₂ ∷ []) → Handed 𝓤 H A T.the-row κ q b o γ h
     hand-close κ q b o γ h a₁ a₂ v₂ i₁ i₂ = record { contract = close-contract; ghost = to-close κ q b o γ h a₁ a₂ v₂; row = i64; Lasts = (Pair × (Unit {0} × (Unit {0} × Unit {0}))); last = λ w. w .0; says = λ y w. (y ≡ answerWord (a₂ .answer)) × (w .0 ≡ settledClose (isOne a₁) a₂ h .pair); needs = goes-close κ q b o γ h a₁ a₂ v₂ i₁ i₂; gives = gives-close κ q b o γ h a₁ a₂ v₂ }
 
     pub goes-create : (κ : Lft) (q : Share) (b o : ℕ) (γ : GName) (h : Pair) (a₁ : Answer) (a₂ : ℕ) (a₃ : ℕ) (a₄ : ℕ) (a₅ : ℕ) → Is N.the-row a₁ ((EL.vals N.the-type N′.the-laws) a₁) → Is u32 a₂ (vint w32 a₂ ∷ []) → Is u32 a₃ (vint w32 a₃ ∷ []) → Is u32 a₄ (vint w32 a₄ ∷ []) → Is u32 a₅ (vint w32 a₅ ∷ []) → ent 𝓤 (⋆ 𝓤 H A ((‵ (MutRef (named 0) κ T.the-row .own (record { ptr = (b, o); name = γ; now = h }) (vptr b o ∷ [])) ⊛ (‵ (flft κ q) ⊛ ‵ ftrue)) ∷ [])) (create-contract .pre (to-create κ q b o γ h a₁ a₂ a₃ a₄ a₅))

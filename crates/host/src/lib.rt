@@ -5,8 +5,8 @@ ghost use mathlib.Core.Path.{_≡_};
 ghost use lib.ListN.{length};
 ghost use lib.Dec.{eqb};
 ghost use Rattle.definition.specs.Create.{Creates};
-ghost use Rattle.definition.specs.Write.{Wrote};
-ghost use Rattle.definition.specs.Read.{Read};
+ghost use Rattle.definition.specs.Write.{Writes};
+ghost use Rattle.definition.specs.Read.{Reads};
 ghost use Rattle.definition.specs.Disposition.{PlainDisposes};
 ghost use Rattle.definition.specs.Shutdown.{Shuts};
 ghost use Rattle.definition.specs.Threshold.{SetsReadThreshold, SetsWriteThreshold};
@@ -55,7 +55,7 @@ pub extern "C" fn murgwethan_write(
     table: &mut [u32],
     bytes: &[u8],
 ) -> i64
-    ensures { λ w. ⌜ Answered (Wrote (now (p .entry)) handle (now (bytes .entry)) (now (ring .entry)) (now (ring .exit)) (now (table .entry)) (now (table .exit))) (now (p .exit)) w ⌝ }
+    ensures { λ w. ⌜ Answered (Writes (now (p .entry)) handle (now (bytes .entry)) (now (ring .entry)) (now (ring .exit)) (now (table .entry)) (now (table .exit))) (now (p .exit)) w ⌝ }
 {
     let t = transfer::write::write_transfer(socket::ends_of(*p), handle, ring, table, bytes);
     kept::transfers::wrote(p, handle, t)
@@ -71,7 +71,7 @@ pub extern "C" fn murgwethan_read(
     table: &[u32],
     buffer: &mut [u8],
 ) -> i64
-    ensures { λ w. ⌜ Answered (Read (now (p .entry)) handle peek (now (ring .entry)) (now (table .entry)) (now (buffer .entry)) (now (buffer .exit))) (now (p .exit)) w ⌝ }
+    ensures { λ w. ⌜ Answered (Reads (now (p .entry)) handle peek (now (ring .entry)) (now (table .entry)) (now (buffer .entry)) (now (buffer .exit))) (now (p .exit)) w ⌝ }
 {
     let t = transfer::read::read_transfer(socket::ends_of(*p), handle, peek, ring, table, buffer);
     kept::transfers::read(p, handle, t)

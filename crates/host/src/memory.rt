@@ -2,8 +2,8 @@
 use definition::Pair;
 ghost use Rattle.definition.specs.Disposition.{UserDisposes};
 ghost use Rattle.definition.specs.Shutdown.{UserShuts};
-ghost use Rattle.definition.specs.Write.{UserWrote};
-ghost use Rattle.definition.specs.Read.{UserRead};
+ghost use Rattle.definition.specs.Write.{UserWrites};
+ghost use Rattle.definition.specs.Read.{UserReads};
 ghost use Rattle.definition_runs.specs.Exported.{Answered};
 
 // Writes the bytes of user memory to the peer's queue, and lands the count of those taken. The ring and the table are the peer's.
@@ -20,7 +20,7 @@ pub extern "C" fn murgwethan_user_write(
     ring: &mut [u8],
     table: &mut [u32],
 ) -> i64
-    ensures { λ w. ⌜ Answered (UserWrote (now (p .entry)) handle base options address count «count_at» (now (memory .entry)) (now (memory .exit)) (now (ring .entry)) (now (ring .exit)) (now (table .entry)) (now (table .exit))) (now (p .exit)) w ⌝ }
+    ensures { λ w. ⌜ Answered (UserWrites (now (p .entry)) handle base options address count «count_at» (now (memory .entry)) (now (memory .exit)) (now (ring .entry)) (now (ring .exit)) (now (table .entry)) (now (table .exit))) (now (p .exit)) w ⌝ }
 {
     let r = syscall::write_ends(
         socket::ends_of(*p),
@@ -51,7 +51,7 @@ pub extern "C" fn murgwethan_user_read(
     ring: &[u8],
     table: &[u32],
 ) -> i64
-    ensures { λ w. ⌜ Answered (UserRead (now (p .entry)) handle base options address count «count_at» (now (ring .entry)) (now (table .entry)) (now (memory .entry)) (now (memory .exit))) (now (p .exit)) w ⌝ }
+    ensures { λ w. ⌜ Answered (UserReads (now (p .entry)) handle base options address count «count_at» (now (ring .entry)) (now (table .entry)) (now (memory .entry)) (now (memory .exit))) (now (p .exit)) w ⌝ }
 {
     let r = syscall::read_ends(
         socket::ends_of(*p),

@@ -6,7 +6,7 @@ use definition::Ends;
 use definition::Pair;
 use definition::Record;
 use definition::Status;
-use endpoint::ends::Outcome;
+use endpoint::ends::EndsOutcome;
 use socket::SocketPair;
 use user_answers::lookup::disposition_of;
 ghost use mathlib.Core.Path.{_≡_};
@@ -26,7 +26,7 @@ ghost use Rattle.definition_runs.specs.Exported.{signalNumber, thresholdNumbers
 ghost use Rattle.host.specs.values.Disposition.{plainDisposeEnds};
 
 // A number above 2 is refused; the record and the handle are tested before it.
-fn bad_number(e: Ends, handle: u32) -> Outcome
+fn bad_number(e: Ends, handle: u32) -> EndsOutcome
     ensures { λ r. ⌜ r ≡ unchangedEnds e (openingTest e handle then Refused InvalidArgs) ⌝ }
 {
     let a = opening_test(e, handle);
@@ -37,7 +37,7 @@ fn bad_number(e: Ends, handle: u32) -> Outcome
 }
 
 // Disposition by its numbers, but for the visit of the waits.
-pub fn dispose_ends(e: Ends, handle: u32, disposition: u32, peer_disposition: u32) -> Outcome
+pub fn dispose_ends(e: Ends, handle: u32, disposition: u32, peer_disposition: u32) -> EndsOutcome
     ensures { λ r. ⌜ r ≡ plainDisposeEnds e handle disposition «peer_disposition» ⌝ }
 {
     if disposition > 2 {

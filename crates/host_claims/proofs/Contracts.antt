@@ -42,8 +42,8 @@ use Rattle.definition.specs.Threshold.{SetsReadThreshold, SetsWriteThreshold, A
 use Rattle.definition.specs.Info.{AsksInfo}
 use Rattle.definition.specs.Port.{Waits, Takes}
 use Rattle.definition.specs.Close.{Closes}
-use Rattle.definition.specs.Write.{Wrote, UserWrote}
-use Rattle.definition.specs.Read.{Read, UserRead}
+use Rattle.definition.specs.Write.{Writes, UserWrites}
+use Rattle.definition.specs.Read.{Reads, UserReads}
 
 module _ {M : Type 1} (𝓤 : URA M) (H : Heap 𝓤) (A : Atoms 𝓤) (at-mem : Memory → SProp 𝓤) (run : Routine → Fun 𝓤) where
   -- what a contract c ensures of the arguments a, the values ws at exit of the slices and references that are written, and the result
@@ -55,11 +55,11 @@ module _ {M : Type 1} (𝓤 : URA M) (H : Heap 𝓤) (A : Atoms 𝓤) (at-mem : 
   create-ensures κs p kind capacity rights1 rights2 ring1 table1 ring2 table2 p′ w = refl
 
   write-ensures : (κs : Lfts 4) (p : RefT Pair) (h : ℕ) (ring table bytes : RefT (List ℕ)) (p′ : Pair) (ring′ table′ : List ℕ) (w : ℤ)
-      → Ensures write.ended (write.clauses 𝓤 H A at-mem run) κs (p, (h, (ring, (table, (bytes, tt))))) (p′, (tt, (ring′, (table′, (tt, tt))))) tt w ≡ fact 𝓤 (Answered (Wrote (p .now) h (bytes .now) (ring .now) ring′ (table .now) table′) p′ w)
+      → Ensures write.ended (write.clauses 𝓤 H A at-mem run) κs (p, (h, (ring, (table, (bytes, tt))))) (p′, (tt, (ring′, (table′, (tt, tt))))) tt w ≡ fact 𝓤 (Answered (Writes (p .now) h (bytes .now) (ring .now) ring′ (table .now) table′) p′ w)
   write-ensures κs p h ring table bytes p′ ring′ table′ w = refl
 
   read-ensures : (κs : Lfts 4) (p : RefT Pair) (h : ℕ) (peek : Bool) (ring table buffer : RefT (List ℕ)) (p′ : Pair) (buffer′ : List ℕ) (w : ℤ)
-      → Ensures read.ended (read.clauses 𝓤 H A at-mem run) κs (p, (h, (peek, (ring, (table, (buffer, tt)))))) (p′, (tt, (tt, (tt, (tt, (buffer′, tt)))))) tt w ≡ fact 𝓤 (Answered (Read (p .now) h peek (ring .now) (table .now) (buffer .now) buffer′) p′ w)
+      → Ensures read.ended (read.clauses 𝓤 H A at-mem run) κs (p, (h, (peek, (ring, (table, (buffer, tt)))))) (p′, (tt, (tt, (tt, (tt, (buffer′, tt)))))) tt w ≡ fact 𝓤 (Answered (Reads (p .now) h peek (ring .now) (table .now) (buffer .now) buffer′) p′ w)
   read-ensures κs p h peek ring table buffer p′ buffer′ w = refl
 
   set-disposition-ensures : (κs : Lfts 1) (p : RefT Pair) (h a b : ℕ) (p′ : Pair) (w : ℤ)
@@ -103,11 +103,11 @@ module _ {M : Type 1} (𝓤 : URA M) (H : Heap 𝓤) (A : Atoms 𝓤) (at-mem : 
   take-ensures κs p out p′ out′ w = refl
 
   user-write-ensures : (κs : Lfts 4) (p : RefT Pair) (h o base : ℕ) (memory : RefT (List ℕ)) (a n at : ℕ) (ring table : RefT (List ℕ)) (p′ : Pair) (memory′ ring′ table′ : List ℕ) (w : ℤ)
-      → Ensures user-write.ended (user-write.clauses 𝓤 H A at-mem run) κs (p, (h, (o, (base, (memory, (a, (n, (at, (ring, (table, tt)))))))))) (p′, (tt, (tt, (tt, (memory′, (tt, (tt, (tt, (ring′, (table′, tt)))))))))) tt w ≡ fact 𝓤 (Answered (UserWrote (p .now) h base o a n at (memory .now) memory′ (ring .now) ring′ (table .now) table′) p′ w)
+      → Ensures user-write.ended (user-write.clauses 𝓤 H A at-mem run) κs (p, (h, (o, (base, (memory, (a, (n, (at, (ring, (table, tt)))))))))) (p′, (tt, (tt, (tt, (memory′, (tt, (tt, (tt, (ring′, (table′, tt)))))))))) tt w ≡ fact 𝓤 (Answered (UserWrites (p .now) h base o a n at (memory .now) memory′ (ring .now) ring′ (table .now) table′) p′ w)
   user-write-ensures κs p h o base memory a n at ring table p′ memory′ ring′ table′ w = refl
 
   user-read-ensures : (κs : Lfts 4) (p : RefT Pair) (h o base : ℕ) (memory : RefT (List ℕ)) (a n at : ℕ) (ring table : RefT (List ℕ)) (p′ : Pair) (memory′ : List ℕ) (w : ℤ)
-      → Ensures user-read.ended (user-read.clauses 𝓤 H A at-mem run) κs (p, (h, (o, (base, (memory, (a, (n, (at, (ring, (table, tt)))))))))) (p′, (tt, (tt, (tt, (memory′, (tt, (tt, (tt, (tt, (tt, tt)))))))))) tt w ≡ fact 𝓤 (Answered (UserRead (p .now) h base o a n at (ring .now) (table .now) (memory .now) memory′) p′ w)
+      → Ensures user-read.ended (user-read.clauses 𝓤 H A at-mem run) κs (p, (h, (o, (base, (memory, (a, (n, (at, (ring, (table, tt)))))))))) (p′, (tt, (tt, (tt, (memory′, (tt, (tt, (tt, (tt, (tt, tt)))))))))) tt w ≡ fact 𝓤 (Answered (UserReads (p .now) h base o a n at (ring .now) (table .now) (memory .now) memory′) p′ w)
   user-read-ensures κs p h o base memory a n at ring table p′ memory′ w = refl
 
   user-set-disposition-ensures : (κs : Lfts 1) (p : RefT Pair) (h a b : ℕ) (p′ : Pair) (w : ℤ)

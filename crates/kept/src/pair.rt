@@ -2,7 +2,7 @@
 // code the table of places is copied where it is rebuilt, and where more than eight waits, or waits behind packets, are looked through. A wait that
 // stands alone is visited where it stands.
 use definition::Pair;
-use endpoint::ends::Outcome;
+use endpoint::ends::EndsOutcome;
 ghost use mathlib.Core.Path.{_≡_};
 ghost use lib.Dec.{eqb};
 ghost use Rattle.definition.specs.Status.{pick, answerWord};
@@ -10,7 +10,7 @@ ghost use Rattle.definition.specs.Pair.{isOne};
 ghost use Rattle.socket.specs.Deferred.{visitedAll, settledStep, closedWaits, settledClose};
 
 // The word of an outcome's answer.
-fn outcome_word(r: Outcome) -> i64
+fn outcome_word(r: EndsOutcome) -> i64
     ensures { λ w. ⌜ w ≡ answerWord (r .answer) ⌝ }
 {
     let a = r.answer;
@@ -18,14 +18,14 @@ fn outcome_word(r: Outcome) -> i64
 }
 
 // Whether the waits are to be looked at.
-fn fires(r: Outcome) -> bool
+fn fires(r: EndsOutcome) -> bool
     ensures { λ f. ⌜ f ≡ r .fires ⌝ }
 {
     r.fires
 }
 
 // Visits the waits of an outcome, where one can fire, and gives the answer's word.
-fn visit(p: &mut Pair, r: Outcome) -> i64
+fn visit(p: &mut Pair, r: EndsOutcome) -> i64
     ensures { λ w. ⌜ (w ≡ answerWord (r .answer)) × (now (p .exit) ≡ pick (r .fires) (visitedAll r (now (p .entry))) (now (p .entry))) ⌝ }
 {
     let w = outcome_word(r);
@@ -40,7 +40,7 @@ fn visit(p: &mut Pair, r: Outcome) -> i64
 }
 
 // Both ends of an outcome; then the waits are visited.
-pub fn outcome(p: &mut Pair, r: Outcome) -> i64
+pub fn outcome(p: &mut Pair, r: EndsOutcome) -> i64
     ensures { λ w. ⌜ (w ≡ answerWord (r .answer)) × (now (p .exit) ≡ settledStep r (now (p .entry)) .pair) ⌝ }
 {
     *p = socket::with_outcome(*p, r);
@@ -48,7 +48,7 @@ pub fn outcome(p: &mut Pair, r: Outcome) -> i64
 }
 
 // Drops the waits of the end of a handle, where there are any, then visits the others.
-fn close_waits(p: &mut Pair, handle: u32, r: Outcome) -> i64
+fn close_waits(p: &mut Pair, handle: u32, r: EndsOutcome) -> i64
     ensures { λ w. ⌜ (w ≡ answerWord (r .answer)) × (now (p .exit) ≡ closedWaits (isOne handle) r (now (p .entry))) ⌝ }
 {
     let w = outcome_word(r);
@@ -59,7 +59,7 @@ fn close_waits(p: &mut Pair, handle: u32, r: Outcome) -> i64
 }
 
 // Both ends of the outcome of a close; then the waits.
-pub fn close(p: &mut Pair, handle: u32, r: Outcome) -> i64
+pub fn close(p: &mut Pair, handle: u32, r: EndsOutcome) -> i64
     ensures { λ w. ⌜ (w ≡ answerWord (r .answer)) × (now (p .exit) ≡ settledClose (isOne handle) r (now (p .entry)) .pair) ⌝ }
 {
     *p = socket::with_outcome(*p, r);

@@ -3,7 +3,7 @@
 use definition::Endpoint;
 use definition::Pair;
 use definition::Queue;
-use endpoint::ends::Outcome;
+use endpoint::ends::EndsOutcome;
 use endpoint::ends::queue_if;
 use endpoint::signal::changed;
 use endpoint::signal::word_if;
@@ -86,14 +86,14 @@ pub fn is_read_without_visit(p: Pair, handle: u32, t: Transfer) -> bool
 }
 
 // The outcome of a write.
-pub fn write_outcome(p: Pair, handle: u32, t: Transfer) -> Outcome
+pub fn write_outcome(p: Pair, handle: u32, t: Transfer) -> EndsOutcome
     ensures { λ r. ⌜ r ≡ wroteBy (endsOf p) handle t ⌝ }
 {
     transfer::write::write_outcome(socket::ends_of(p), handle, t)
 }
 
 // The outcome of a read.
-pub fn read_outcome(p: Pair, handle: u32, t: Transfer) -> Outcome
+pub fn read_outcome(p: Pair, handle: u32, t: Transfer) -> EndsOutcome
     ensures { λ r. ⌜ r ≡ readBy (endsOf p) handle t ⌝ }
 {
     transfer::read::read_outcome(socket::ends_of(p), handle, t)

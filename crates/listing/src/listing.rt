@@ -2,7 +2,7 @@
 ghost use Prim.Native.Nat.{_≤_};
 ghost use lib.ListN.{length};
 ghost use Rattle.definition_script.specs.Call.{rings};
-ghost use Rattle.definition_script.specs.Listing.{startState, machine, start};
+ghost use Rattle.definition_script.specs.Listing.{startState, machine, startMachine};
 ghost use Rattle.listing.specs.listing.Ran.{Ran, RanLent};
 
 // The header, the lines of the whole script as one block, and its end. Gives how many bytes were written.
@@ -41,7 +41,7 @@ fn run_on(
 
 // Memory, rings and tables are made anew: all 0.
 pub fn run_script(script: &[u8], out: &mut [u8]) -> usize
-    ensures { λ r. ⌜ Ran start (now (script .entry)) r (now (out .entry)) (now (out .exit)) ⌝ }
+    ensures { λ r. ⌜ Ran startMachine (now (script .entry)) r (now (out .entry)) (now (out .exit)) ⌝ }
 {
     let mut memory_array = [0u8; 4096];
     let mut ring_one_array = [0u8; 4096];

@@ -1,5 +1,5 @@
 // What comes before the first block of a script and behind its last: the header, the end of the input.
-use definition_script::State;
+use definition_script::ScriptState;
 ghost use mathlib.Core.Path.{_≡_};
 ghost use Rattle.text.specs.Put.{Written};
 ghost use Rattle.definition_script.specs.Listing.{closing, header as Listing·header};
@@ -13,7 +13,7 @@ pub fn header(out: &mut [u8]) -> usize
 }
 
 // The end of the input: bytes that are left are a record that is cut.
-pub fn finish(st: State, offset: u64, left: &[u8], out: &mut [u8]) -> usize
+pub fn finish(st: ScriptState, offset: u64, left: &[u8], out: &mut [u8]) -> usize
     ensures { λ r. ⌜ Written 26 0 (closing offset (st .ended) (now (left .entry))) r (now (out .entry)) (now (out .exit)) ⌝ }
 {
     if left.len() == 0 {

@@ -1,6 +1,6 @@
-// The visits of the waits after a call has changed words, over the table of places alone. The changes stand in the call's `Outcome`.
+// The visits of the waits after a call has changed words, over the table of places alone. The changes stand in the call's `EndsOutcome`.
 use definition::Places;
-use endpoint::ends::Outcome;
+use endpoint::ends::EndsOutcome;
 use endpoint::ends::Pending;
 use endpoint::signal::changed;
 ghost use mathlib.Core.Path.{_≡_};
@@ -22,7 +22,7 @@ fn is_due(t: Places, a: Pending) -> bool
 }
 
 // One of the four changes of a call, by its place in their order.
-fn change_at(r: Outcome, i: usize) -> Pending
+fn change_at(r: EndsOutcome, i: usize) -> Pending
     requires { ⌜ i < 4 ⌝ }
     ensures { λ a. ⌜ a ≡ getD (changesOf r) i noVisit ⌝ }
 {
@@ -43,7 +43,7 @@ fn change_at(r: Outcome, i: usize) -> Pending
 }
 
 // Whether one of all changes of a call fires a wait. `is_due` is asked in one place, in a loop, so that the compiler inlines it.
-pub fn any_due(t: Places, r: Outcome) -> bool
+pub fn any_due(t: Places, r: EndsOutcome) -> bool
     ensures { λ d. ⌜ d ≡ anyDue r t ⌝ }
 {
     let mut i = 0;
@@ -73,7 +73,7 @@ fn visited_only(t: Places, a: Pending) -> Places
 }
 
 // Visits the waits of all changes of a call, in a table whose only place used is a wait. Any other table stays as it is.
-pub fn visited_alone(t: Places, r: Outcome) -> Places
+pub fn visited_alone(t: Places, r: EndsOutcome) -> Places
     ensures { λ u. ⌜ u ≡ pick (onlyWait t) (visitedEach r t) t ⌝ }
 {
     let mut u = t;

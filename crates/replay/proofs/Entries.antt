@@ -9,15 +9,15 @@ use Rattle.definition.specs.Status.{pick}
 use mathlib.Core.List.{List, _++_}
 use lib.ListN.{length, take, getD, length-take, length-drop}
 use Rattle.text.specs.Put.{Put, Written}
-use Rattle.definition_script.specs.Listing.{start, header, run, listing}
+use Rattle.definition_script.specs.Listing.{startMachine, header, run, listing}
 use Rattle.report.specs.declared.tally.Comparison.{Comparison}
 use Rattle.report.specs.declared.tally.Comparison.the-variants.{Agrees, DiffersAt, NoRoom}
 use Rattle.report.specs.declared.tally.Tally.{Tally}
-use Rattle.report.specs.tally.Count.{missed, countedOf}
+use Rattle.report.specs.tally.Count.{missedEntry, countedOf}
 use Rattle.report.proofs.tally.Counts.{counted-again, counted-first}
 use Rattle.report.specs.report.Report.{REPORT, reportText}
 use Rattle.replay.specs.declared.entry.Replayed.{Replayed}
-use Rattle.replay.specs.Entry.{fieldEnd, entryEnd, bytesOf, FirstDifference, Compares, EntryIn, roomFor, Agreement}
+use Rattle.replay.specs.Entry.{fieldEnd, entryEnd, entryBytes, FirstDifference, Compares, EntryIn, roomFor, Agreement}
 use Rattle.replay.specs.Replay.{firstName, noTally, Tallied, begun, next, AllAgree, FirstMissed, AgreeTo, ReplayMay, Replays}
 
 -- what is cut in the second field, or in the third, is a cut entry
@@ -29,16 +29,16 @@ pub cut-third :
 cut-third s at nameEnd scriptEnd e f h =
     subst (λ (k : ℕ). length s < fieldEnd s (fieldEnd s k)) e (subst (λ (k : ℕ). length s < fieldEnd s k) f h)
 
-pub listing-is : (s : List ℕ) → header ++ run 0 start s ≡ listing s
+pub listing-is : (s : List ℕ) → header ++ run 0 startMachine s ≡ listing s
 unfolding listing
 listing-is s = refl
 
 -- the text compared is the script's listing
 pub agreement :
-    (room : ℕ) (s : List ℕ) (at scriptEnd end : ℕ) (text : List ℕ) (o : Comparison) → roomFor room s at scriptEnd ≤ room → text ≡ listing (bytesOf s at scriptEnd)
-    → Compares text (bytesOf s scriptEnd end) o → Agreement room s at scriptEnd end o
+    (room : ℕ) (s : List ℕ) (at scriptEnd end : ℕ) (text : List ℕ) (o : Comparison) → roomFor room s at scriptEnd ≤ room → text ≡ listing (entryBytes s at scriptEnd)
+    → Compares text (entryBytes s scriptEnd end) o → Agreement room s at scriptEnd end o
 agreement room s at scriptEnd end text Agrees k e h = (sym e ∙ h, k)
-agreement room s at scriptEnd end text (DiffersAt i) k e h = (subst (λ (x : List ℕ). FirstDifference x (bytesOf s scriptEnd end) i) e h, k)
+agreement room s at scriptEnd end text (DiffersAt i) k e h = (subst (λ (x : List ℕ). FirstDifference x (entryBytes s scriptEnd end) i) e h, k)
 agreement room s at scriptEnd end text NoRoom k e h = absurd h
 
 -- ---- just one comparison is so of an entry
@@ -85,19 +85,19 @@ one-comparison room s at scriptEnd end NoRoom NoRoom h k = refl
 -- ---- what the loop needs of a tally
 
 pub counted-total : (t : Tally) (from to : ℕ) (o : Comparison) → countedOf t from to o .total ≡ t .total + 1
-unfolding countedOf missed
+unfolding countedOf missedEntry
 counted-total t from to Agrees = refl
 counted-total t from to (DiffersAt i) = refl
 counted-total t from to NoRoom = refl
 
 pub counted-most : (t : Tally) (from to : ℕ) (o : Comparison) → t .agree ≤ t .total → countedOf t from to o .agree ≤ countedOf t from to o .total
-unfolding countedOf missed
+unfolding countedOf missedEntry
 counted-most t from to Agrees h = omega arith
 counted-most t from to (DiffersAt i) h = omega arith
 counted-most t from to NoRoom h = omega arith
 
 pub counted-all : (t : Tally) (from to : ℕ) (o : Comparison) → t .agree ≤ t .total → countedOf t from to o .agree ≡ countedOf t from to o .total → (t .agree ≡ t .total) × (o ≡ Agrees)
-unfolding countedOf missed
+unfolding countedOf missedEntry
 counted-all t from to Agrees h e = (omega arith, refl)
 counted-all t from to (DiffersAt i) h e = absurd (let z : ⊥ = omega arith in z)
 counted-all t from to NoRoom h e = absurd (let z : ⊥ = omega arith in z)
@@ -113,7 +113,7 @@ pick-within from′ to′ n false h g = g
 
 counted-within : (t : Tally) (from to n : ℕ) (o : Comparison) → (t .from ≤ t .to) × (t .to ≤ n) → (from ≤ to) × (to ≤ n)
     → (countedOf t from to o .from ≤ countedOf t from to o .to) × (countedOf t from to o .to ≤ n)
-unfolding countedOf missed
+unfolding countedOf missedEntry
 counted-within t from to n Agrees h g = h
 counted-within t from to n (DiffersAt i) h g = pick-within from to n (ltb (t .agree) (t .total)) h g
 counted-within t from to n NoRoom h g = pick-within from to n (ltb (t .agree) (t .total)) h g
@@ -134,7 +134,7 @@ Holds-none t = (t .first ≡ Agrees) × (t .from ≡ t .to)
 -- where as many agree as were run, it holds none
 none-counted : (t : Tally) (from to : ℕ) (o : Comparison) → t .agree ≤ t .total → (t .agree ≡ t .total → Holds-none t)
     → countedOf t from to o .agree ≡ countedOf t from to o .total → Holds-none (countedOf t from to o)
-unfolding countedOf missed
+unfolding countedOf missedEntry
 none-counted t from to Agrees h k e = k (omega (arith, e))
 none-counted t from to (DiffersAt i) h k e = absurd (let z : ⊥ = omega (arith, e, h) in z)
 none-counted t from to NoRoom h k e = absurd (let z : ⊥ = omega (arith, e, h) in z)

@@ -11,7 +11,7 @@ use Rattle.replay.specs.declared.entry.Found.the-variants as Found
 use Rattle.report.specs.declared.tally.Comparison.{Comparison}
 use Rattle.report.specs.declared.tally.Comparison.the-variants.{Agrees, DiffersAt, NoRoom}
 use Rattle.definition_script.specs.Record.{four}
-use Rattle.definition_script.specs.Listing.{listing, start}
+use Rattle.definition_script.specs.Listing.{listing, startMachine}
 use Rattle.line.specs.line.LineDone.{LINE}
 use Rattle.listing.specs.listing.Ran.{ranText}
 use Rattle.definition_script.specs.Call.{writtenAt}
@@ -46,8 +46,8 @@ EntryAt s at (Found.Whole nameEnd scriptEnd end) = EntryIn s at nameEnd scriptEn
 EntryAt s at Found.Cut = length s < entryEnd s at
 
 -- the bytes of a field that begins at a place and ends at another
-abbrev pub bytesOf : List ℕ → (at end : ℕ) → List ℕ
-bytesOf s at end = take (end - (at + 4)) (drop (at + 4) s)
+abbrev pub entryBytes : List ℕ → (at end : ℕ) → List ℕ
+entryBytes s at end = take (end - (at + 4)) (drop (at + 4) s)
 
 -- two lists are equal before a place, where both have an element and the elements differ, or just one of the lists ends
 pub record FirstDifference (a b : List ℕ) (i : ℕ) : Type 0 where
@@ -65,21 +65,21 @@ Compares a b NoRoom = ⊥
 
 -- the stored listing is that of the script, which begins at a place
 abbrev pub Agreed : List ℕ → (at scriptEnd end : ℕ) → Type 0
-Agreed s at scriptEnd end = listing (bytesOf s at scriptEnd) ≡ bytesOf s scriptEnd end
+Agreed s at scriptEnd end = listing (entryBytes s at scriptEnd) ≡ entryBytes s scriptEnd end
 
 -- how many bytes the text of a script takes that begins at a place, with room for one more line behind it
 abbrev pub roomFor : (room : ℕ) → List ℕ → (at scriptEnd : ℕ) → ℕ
-roomFor room s at scriptEnd = length (ranText room start (bytesOf s at scriptEnd)) + LINE
+roomFor room s at scriptEnd = length (ranText room startMachine (entryBytes s at scriptEnd)) + LINE
 
 -- what a comparison says: that the stored listing is right, or where it first differs, or that another line might not have fit into so much room. Just
 -- one comparison is so of an entry (`one-comparison` in proofs/)
 abbrev pub Agreement : (room : ℕ) → List ℕ → (at scriptEnd end : ℕ) → Comparison → Type 0
 Agreement room s at scriptEnd end Agrees = Agreed s at scriptEnd end × (roomFor room s at scriptEnd ≤ room)
 Agreement room s at scriptEnd end (DiffersAt i) =
-    FirstDifference (listing (bytesOf s at scriptEnd)) (bytesOf s scriptEnd end) i × (roomFor room s at scriptEnd ≤ room)
+    FirstDifference (listing (entryBytes s at scriptEnd)) (entryBytes s scriptEnd end) i × (roomFor room s at scriptEnd ≤ room)
 Agreement room s at scriptEnd end NoRoom = room < roomFor room s at scriptEnd
 
 -- a script is run: its comparison, and its text at the front of the buffer
 pub record EntryRun (s : List ℕ) (at scriptEnd end : ℕ) (out out′ : List ℕ) (r : Comparison) : Type 0 where
   pub comparison : Agreement (length out) s at scriptEnd end r
-  pub text : out′ ≡ writtenAt 0 (ranText (length out) start (bytesOf s at scriptEnd)) out
+  pub text : out′ ≡ writtenAt 0 (ranText (length out) startMachine (entryBytes s at scriptEnd)) out

@@ -9,7 +9,7 @@ use Rattle.report.specs.declared.tally.Comparison.the-variants.{Agrees}
 use Rattle.report.specs.declared.tally.Comparison.{Comparison}
 use Rattle.replay.specs.declared.entry.Replayed.{Replayed}
 use Rattle.report.specs.tally.Count.{countedOf}
-use Rattle.replay.specs.Entry.{EntryIn, EntryRun, Agreed, bytesOf, Agreement, entryEnd}
+use Rattle.replay.specs.Entry.{EntryIn, EntryRun, Agreed, entryBytes, Agreement, entryEnd}
 use Rattle.report.specs.report.Report.{REPORT, reportText}
 use Rattle.definition_script.specs.Call.{writtenAt}
 
@@ -43,7 +43,7 @@ pub record FirstMissed (room : ℕ) (s : List ℕ) (t : Tally) : Type 0 where
   pub end : ℕ
   pub before : AllAgree s (t .number) at
   pub entry : EntryIn s at (t .to) scriptEnd end
-  pub name : firstName s t ≡ bytesOf s at (t .to)
+  pub name : firstName s t ≡ entryBytes s at (t .to)
   pub comparison : Agreement room s (t .to) scriptEnd end (t .first)
   pub misses : t .first ≡ Agrees → ⊥
 

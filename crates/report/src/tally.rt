@@ -2,7 +2,7 @@
 ghost use Prim.Native.Nat.{_<_};
 ghost use mathlib.Core.Path.{_≡_};
 ghost use Rattle.definition.specs.Status.{pick};
-ghost use Rattle.report.specs.tally.Count.{isFull, missed, countedOf};
+ghost use Rattle.report.specs.tally.Count.{isFull, missedEntry, countedOf};
 
 // What came of an entry: its listing agrees, or first differs at a byte, or another line might not have fit behind it.
 pub enum Comparison {
@@ -25,7 +25,7 @@ pub struct Tally {
 // An entry is counted that does not agree, whose name begins and ends at the two places.
 fn missed(t: Tally, from: usize, to: usize, o: Comparison) -> Tally
     requires { ⌜ t .total < 9223372036854775808 ⌝ }
-    ensures { λ r. ⌜ r ≡ missed t from to o ⌝ }
+    ensures { λ r. ⌜ r ≡ missedEntry t from to o ⌝ }
 {
     let first = t.first;
     if t.agree < t.total {

@@ -5,7 +5,7 @@ use mathlib.Core.List.{List}
 use Rattle.definition.specs.Status.{countOf}
 use Rattle.definition.specs.declared.Pair.{Pair}
 use Rattle.definition.specs.declared.Step.{Step}
-use Rattle.definition.specs.Read.{bytesLanded, BytesRead, UserRead}
+use Rattle.definition.specs.Read.{bytesLanded, BytesRead, UserReads}
 use Rattle.definition.specs.Calls.{Slices}
 use Rattle.definition_runs.specs.Run.{did-read}
 use Rattle.definition_runs.specs.Exported.{slicesOf}
@@ -21,7 +21,7 @@ module _ {p : Pair} {h o a n at base : ℕ} {ring table memory memory′ : List 
   -- from what its two parts ensure
   pub in-parts : {landed : List ℕ}
       → BytesRead p h base o a n at ring table memory landed r
-      → UserRead p h base o a n at ring table memory memory′ r
+      → UserReads p h base o a n at ring table memory memory′ r
       → ReadLent p h o a n at (slicesOf ring table) base memory memory′ r
   in-parts {landed} b u =
       record {
@@ -31,6 +31,6 @@ module _ {p : Pair} {h o a n at base : ℕ} {ring table memory memory′ : List 
       }
 
   -- from what the whole ensures: the memory before its count is the one that its contract computes with
-  pub in-whole : UserRead p h base o a n at ring table memory memory′ r → ReadLent p h o a n at (slicesOf ring table) base memory memory′ r
+  pub in-whole : UserReads p h base o a n at ring table memory memory′ r → ReadLent p h o a n at (slicesOf ring table) base memory memory′ r
   in-whole u =
       in-parts {landed = bytesLanded p h base a (countOf (r .answer)) ring memory} (record { answer = u .answer; pair = u .pair; user = refl }) u

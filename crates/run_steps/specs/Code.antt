@@ -6,7 +6,7 @@ use mathlib.Core.Path.{_≡_}
 use lib.ListN.{take, drop}
 use Rattle.definition.specs.declared.Pair.{Pair}
 use Rattle.definition.specs.declared.Step.{Step}
-use Rattle.definition.specs.Calls.{Call, input, Slices, state, withPair, gives, Input, ownSlices, read, peerSlices, withPeer, Create, State, seenOf, Outcome}
+use Rattle.definition.specs.Calls.{Call, input, Slices, state, withPair, gives, Input, ownSlices, read, peerSlices, withPeerSlices, Create, State, seenOf, Outcome}
 use Rattle.definition_runs.specs.Run.{Does, Chain, Run}
 use Rattle.definition.specs.Pair.{isOne}
 use Rattle.definition.specs.Status.{countOf}
@@ -36,8 +36,8 @@ pub record ReadLent (p : Pair) (h options address n countAt : ℕ) (lent : Slice
 abbrev pub PeerLent : Pair → (h : ℕ) → (lent left : Slices) → Input → Step → (memory : List ℕ) → Type 0
 PeerLent p h lent left i r memory =
     (one two : Slices) → peerSlices (isOne h) (state p one two) ≡ lent
-    → Does (state p one two) i (withPeer (isOne h) (r .pair) left (state p one two))
-    (gives r (withPeer (isOne h) (r .pair) left (state p one two)) [] memory)
+    → Does (state p one two) i (withPeerSlices (isOne h) (r .pair) left (state p one two))
+    (gives r (withPeerSlices (isOne h) (r .pair) left (state p one two)) [] memory)
 
 -- create: a run begins with its answer and its pair, whatever calls follow
 abbrev pub Starts : Create → (one two : Slices) → Step → Type 0

@@ -144,7 +144,13 @@ pub fn shutdown(p: Pair, handle: u32, options: u32) -> Step
     syscall::shutdown(p, handle, options)
 }
 
-pub fn plain_write(p: SocketPair, handle: u32, ring: &mut [u8], table: &mut [u32], bytes: &[u8]) -> SocketStep
+pub fn plain_write(
+    p: SocketPair,
+    handle: u32,
+    ring: &mut [u8],
+    table: &mut [u32],
+    bytes: &[u8],
+) -> SocketStep
     ensures { λ r. ⌜ ((base : ℕ) → PeerLent (p .inner) handle (slicesOf (now (ring .entry)) (now (table .entry))) (slicesOf (now (ring .exit)) (now (table .exit))) (input (plainWrite handle) base (now (bytes .entry))) (innerStep r) (now (bytes .entry))) ⌝ }
 {
     p.write(handle, ring, table, bytes)

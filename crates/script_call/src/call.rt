@@ -5,7 +5,7 @@ use definition::Answer;
 use definition::Pair;
 use definition::Status;
 use definition::Step;
-use definition_script::Transfer;
+use definition_script::TransferBody;
 ghost use Rattle.definition_script.specs.Call.{rings, writeCall, readCall};
 ghost use Rattle.script_call.specs.call.CallDone.{CallDone};
 ghost use Rattle.script_call.specs.call.CallMade.{CallMade};
@@ -13,7 +13,7 @@ ghost use Rattle.script_call.specs.call.CallMade.{CallMade};
 // A write is lent the ring and the table of the peer.
 fn write(
     p: Pair,
-    t: Transfer,
+    t: TransferBody,
     memory: &mut [u8],
     ring_one: &mut [u8],
     table_one: &mut [u32],
@@ -53,7 +53,7 @@ fn write(
 // A read is lent the ring and the table of its own end. Its count does not land yet.
 fn read(
     p: Pair,
-    t: Transfer,
+    t: TransferBody,
     memory: &mut [u8],
     ring_one: &[u8],
     table_one: &[u32],

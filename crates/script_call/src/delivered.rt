@@ -4,7 +4,7 @@ use definition::Answer;
 ghost use Prim.Native.Nat.{_-_};
 ghost use mathlib.Core.Path.{_≡_};
 ghost use lib.ListN.{take, drop};
-ghost use Rattle.definition_script.specs.Call.{BASE, deliveredCount, settled};
+ghost use Rattle.definition_script.specs.Call.{BASE, deliveredCount, afterCount};
 
 // Where the memory begins.
 const MEMORY: u64 = 65536;
@@ -46,7 +46,7 @@ pub fn count(tag: u8, a: Answer) -> usize
 
 // The count of a done read lands, behind its call.
 pub fn settle(tag: u8, body: &[u8], a: Answer, memory: &mut [u8])
-    ensures { λ _. ⌜ now (memory .exit) ≡ settled tag (now (body .entry)) a (now (memory .entry)) ⌝ }
+    ensures { λ _. ⌜ now (memory .exit) ≡ afterCount tag (now (body .entry)) a (now (memory .entry)) ⌝ }
 {
     if tag == 2 {
         if endpoint::answer::is_done(a) {

@@ -5,7 +5,7 @@ use definition::Step;
 use socket::SocketPair;
 use socket::inner_step;
 ghost use mathlib.Core.Path.{_≡_};
-ghost use Rattle.definition_script.specs.Call.{rings, createStep, dispositionStep, shutdownStep, readThresholdStep, writeThresholdStep, infoBy, closeStep, waitStep, takeStep, plainStep};
+ghost use Rattle.definition_script.specs.Call.{rings, createStep, dispositionStep, shutdownStep, readThresholdStep, writeThresholdStep, infoBy, closeStep, waitStep, takeStep, controlStep};
 
 fn create(
     body: &[u8],
@@ -121,7 +121,7 @@ pub fn plain(
     ring_two: &[u8],
     table_two: &[u32],
 ) -> Step
-    ensures { λ r. ⌜ r ≡ plainStep (rings (now («ring_one» .entry)) (now («table_one» .entry)) (now («ring_two» .entry)) (now («table_two» .entry))) p tag (now (body .entry)) ⌝ }
+    ensures { λ r. ⌜ r ≡ controlStep (rings (now («ring_one» .entry)) (now («table_one» .entry)) (now («ring_two» .entry)) (now («table_two» .entry))) p tag (now (body .entry)) ⌝ }
 {
     match tag {
         0 => create(body, ring_one, table_one, ring_two, table_two),

@@ -22,7 +22,7 @@ use Rattle.definition.specs.declared.Ends.{Ends}
 use Rattle.endpoint.specs.declared.ends.Moved.{Moved}
 use Rattle.endpoint.specs.declared.ends.Pending.{Pending}
 use Rattle.endpoint.specs.declared.ends.Visits.{Visits}
-use Rattle.endpoint.specs.declared.ends.Outcome.{Outcome}
+use Rattle.endpoint.specs.declared.ends.EndsOutcome.{EndsOutcome}
 use Rattle.endpoint.specs.ends.Outcome.{noVisit, noVisits, outcomeOf, keptEnds, unchangedEnds}
 use Rattle.endpoint.specs.ends.AtOnce.{visitsOf, firstTwo, movedBy}
 use Rattle.answers.proofs.tests.Sound.{opening-passed}
@@ -46,7 +46,7 @@ unfolding visitedPair
 one-visit v q e = ap (λ (a : Pending). withPlaces (visited a (visited (v .first) (q .places))) q) e ∙ ap (λ (u : Places). withPlaces u q) (visited-none _)
 
 -- the code's step: one change at most
-by-fires : (f t : Bool) (r : Outcome) (p : Pair) → r .fires ≡ f → r .more ≡ noVisits → r .visits .second ≡ noVisit
+by-fires : (f t : Bool) (r : EndsOutcome) (p : Pair) → r .fires ≡ f → r .more ≡ noVisits → r .visits .second ≡ noVisit
     → settledClose t r p ≡ record { pair = pick f (droppedVisited t (r .visits) (withOutcome r p)) (withOutcome r p); answer = r .answer }
 unfolding settledClose settledStep visitedAll droppedVisited withoutWaits withEnds withPlaces dropOf pick
 by-fires true t r p f m n =
@@ -107,7 +107,7 @@ unchanged-settled : (t : Bool) (p : Pair) (a : Answer) → settledClose t (uncha
 unfolding settledClose settledStep unchangedEnds withEnds pick
 unchanged-settled t p a = refl
 
-pub close-whole : (p : Pair) (h : ℕ) (e : Ends) (r : Outcome) → length (p .places .table) ≡ 128
+pub close-whole : (p : Pair) (h : ℕ) (e : Ends) (r : EndsOutcome) → length (p .places .table) ≡ 128
     → e ≡ endsOf p → r ≡ closeEnds e h → Steps p (closeAnswer p h) (closed (isOne h) p) (settledClose (isOne h) r p)
 unfolding closeEnds closeAnswer
 close-whole p h e r l i g = by (isDone (closeAnswer p h)) refl
@@ -118,15 +118,15 @@ close-whole p h e r l i g = by (isDone (closeAnswer p h)) refl
     by : (b : Bool) → isDone (closeAnswer p h) ≡ b → Steps p (closeAnswer p h) (closed (isOne h) p) (settledClose (isOne h) r p)
     by true c =
         subst (Steps p (closeAnswer p h) (closed (isOne h) p))
-        (sym (ap (λ (k : Outcome). settledClose (isOne h) k p) (is ∙ sym (pick-on _ _ _ _ _ c refl)) ∙ closed-settled p (isOne h) (closeAnswer p h) l (opening-passed (endsOf p) h c .places)))
+        (sym (ap (λ (k : EndsOutcome). settledClose (isOne h) k p) (is ∙ sym (pick-on _ _ _ _ _ c refl)) ∙ closed-settled p (isOne h) (closeAnswer p h) l (opening-passed (endsOf p) h c .places)))
         (steps-done p _ _ _ _ refl c refl)
     by false c =
         subst (Steps p (closeAnswer p h) (closed (isOne h) p))
-        (sym (ap (λ (k : Outcome). settledClose (isOne h) k p) (is ∙ sym (pick-off _ _ _ _ _ c refl)) ∙ unchanged-settled (isOne h) p (closeAnswer p h)))
+        (sym (ap (λ (k : EndsOutcome). settledClose (isOne h) k p) (is ∙ sym (pick-off _ _ _ _ _ c refl)) ∙ unchanged-settled (isOne h) p (closeAnswer p h)))
         (steps-refused p p _ _ _ refl c refl)
 
 -- the waits may be dropped once the ends are replaced
-pub closed-later : (t : Bool) (r : Outcome) (p : Pair) → closedWaits t r (withOutcome r p) ≡ settledClose t r p .pair
+pub closed-later : (t : Bool) (r : EndsOutcome) (p : Pair) → closedWaits t r (withOutcome r p) ≡ settledClose t r p .pair
 unfolding closedWaits settledClose settledStep withoutWaits withPlaces withEnds pick
 closed-later t r p = by (r .fires)
   where

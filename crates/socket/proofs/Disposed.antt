@@ -11,7 +11,7 @@ use Rattle.endpoint.proofs.answer.Rules.{pick-on, pick-off}
 use Rattle.definition.specs.Port.{sound}
 use Rattle.definition.specs.declared.Disposition.{Disposition}
 use Rattle.definition.specs.declared.Ends.{Ends}
-use Rattle.endpoint.specs.declared.ends.Outcome.{Outcome}
+use Rattle.endpoint.specs.declared.ends.EndsOutcome.{EndsOutcome}
 use Rattle.endpoint.specs.ends.AtOnce.{movedBy, moreBy}
 use Rattle.answers.proofs.tests.Sound.{opening-passed}
 use Rattle.control.specs.disposition.DispositionEnds.{disposedEnds, disposeEnds}
@@ -33,7 +33,7 @@ disposed-settled : (p : Pair) (t : Bool) (a : Answer) (d f : Disposition) → le
 unfolding disposed disposeEffect keepingWaits
 disposed-settled p t a d f l s =
     let e = disposeEffect (own t (endsOf p)) (peer t (endsOf p)) d f in
-    ap (λ (r : Outcome). settledStep r p) (dispose-by (endsOf p) t a d f)
+    ap (λ (r : EndsOutcome). settledStep r p) (dispose-by (endsOf p) t a d f)
     ∙ settled-last p t a (movedBy t e) (moreBy t e) l
     ∙ ap (λ (k : Pair). record { pair = k; answer = a }) (applied-last t e p refl (omega arith) s)
 
@@ -41,7 +41,7 @@ dispose-sound : (p : Pair) (h : ℕ) (d f : Disposition) → isDone (disposeAnsw
 unfolding disposeAnswer
 dispose-sound p h d f e = opening-passed (endsOf p) h (then-both _ _ e .0) .places
 
-pub dispose-whole : (p : Pair) (h : ℕ) (d f : Disposition) (e : Ends) (r : Outcome) → length (p .places .table) ≡ 128
+pub dispose-whole : (p : Pair) (h : ℕ) (d f : Disposition) (e : Ends) (r : EndsOutcome) → length (p .places .table) ≡ 128
     → e ≡ endsOf p → r ≡ disposeEnds e h d f → Steps p (disposeAnswer (endsOf p) h d f) (disposed (isOne h) d f p) (settledStep r p)
 unfolding disposeEnds
 dispose-whole p h d f e r l i g = by (isDone (disposeAnswer (endsOf p) h d f)) refl
@@ -52,9 +52,9 @@ dispose-whole p h d f e r l i g = by (isDone (disposeAnswer (endsOf p) h d f)) r
     by : (b : Bool) → isDone (disposeAnswer (endsOf p) h d f) ≡ b → Steps p (disposeAnswer (endsOf p) h d f) (disposed (isOne h) d f p) (settledStep r p)
     by true c =
         subst (Steps p (disposeAnswer (endsOf p) h d f) (disposed (isOne h) d f p))
-        (sym (ap (λ (k : Outcome). settledStep k p) (is ∙ sym (pick-on _ _ _ _ _ c refl)) ∙ disposed-settled p (isOne h) (disposeAnswer (endsOf p) h d f) d f l (dispose-sound p h d f c)))
+        (sym (ap (λ (k : EndsOutcome). settledStep k p) (is ∙ sym (pick-on _ _ _ _ _ c refl)) ∙ disposed-settled p (isOne h) (disposeAnswer (endsOf p) h d f) d f l (dispose-sound p h d f c)))
         (steps-done p _ _ _ _ refl c refl)
     by false c =
         subst (Steps p (disposeAnswer (endsOf p) h d f) (disposed (isOne h) d f p))
-        (sym (ap (λ (k : Outcome). settledStep k p) (is ∙ sym (pick-off _ _ _ _ _ c refl)) ∙ unchanged-settled p (disposeAnswer (endsOf p) h d f)))
+        (sym (ap (λ (k : EndsOutcome). settledStep k p) (is ∙ sym (pick-off _ _ _ _ _ c refl)) ∙ unchanged-settled p (disposeAnswer (endsOf p) h d f)))
         (steps-refused p p _ _ _ refl c refl)

@@ -13,15 +13,15 @@ use Rattle.definition.specs.Port.{sound}
 use Rattle.definition.specs.Tests.{firstLength, lentOf, Steps}
 use Rattle.definition.specs.declared.Ends.{Ends}
 use Rattle.endpoint.specs.declared.ends.Moved.{Moved}
-use Rattle.endpoint.specs.declared.ends.Outcome.{Outcome}
+use Rattle.endpoint.specs.declared.ends.EndsOutcome.{EndsOutcome}
 use Rattle.endpoint.specs.ends.Outcome.{keptEnds, unchangedEnds}
 use Rattle.transfer.specs.write.WriteEnds.{fedEnds, wroteEnds, EndsWrote}
-use Rattle.definition.specs.Read.{leaving, consumed, pairRead, Read, readAnswer}
+use Rattle.definition.specs.Read.{leaving, consumed, pairRead, Reads, readAnswer}
 use Rattle.transfer.specs.read.ReadEnds.{drainedEnds, readEnds, EndsRead}
 use Rattle.definition.specs.declared.Pair.{Pair}
 use Rattle.definition.specs.declared.Step.{Step}
 use Rattle.definition.specs.Pair.{isOne, own, peer, endsOf}
-use Rattle.definition.specs.Write.{wrote, pairWritten, Wrote, writeAnswer}
+use Rattle.definition.specs.Write.{wrote, pairWritten, Writes, writeAnswer}
 use Rattle.definition.specs.Threshold.{readThresholdAnswer, writeThresholdAnswer, readThresholdSet, writeThresholdSet}
 use Rattle.answers.proofs.tests.Sound.{passed, opening-passed}
 use Rattle.control.specs.ends.Changes.{movedIf}
@@ -46,12 +46,12 @@ unfolding pick
 moved-read true t n p s = kept-visited t p
 moved-read false t n p s = drained-visited t p (s refl) n
 
-module _ (p : Pair) (h : ℕ) (a : Answer) (r : Outcome) (l : length (p .places .table) ≡ 128)
+module _ (p : Pair) (h : ℕ) (a : Answer) (r : EndsOutcome) (l : length (p .places .table) ≡ 128)
     (s : (countOf a ≡ 0 → ⊥) → sound (p .places) ≡ true) where
   pub wrote-settled : r ≡ wroteEnds (endsOf p) h a → settledStep r p ≡ record { pair = pairWritten p h (countOf a); answer = a }
   unfolding wroteEnds pairWritten
   wrote-settled e =
-      ap (λ (k : Outcome). settledStep k p) e
+      ap (λ (k : EndsOutcome). settledStep k p) e
       ∙ settled-moved p (isOne h) a _ l
       ∙ ap (λ (q : Pair). record { pair = q; answer = a }) (moved-wrote (eqb (countOf a) 0) (isOne h) (countOf a) p (λ z. s (eqb-false _ _ z)))
 
@@ -59,24 +59,24 @@ module _ (p : Pair) (h : ℕ) (a : Answer) (r : Outcome) (l : length (p .places 
       → settledStep r p ≡ record { pair = pairRead p h peek first (countOf a); answer = a }
   unfolding readEnds pairRead
   read-settled peek first e =
-      ap (λ (k : Outcome). settledStep k p) e
+      ap (λ (k : EndsOutcome). settledStep k p) e
       ∙ settled-moved p (isOne h) a _ l
       ∙ ap (λ (q : Pair). record { pair = q; answer = a })
       (moved-read (peek or eqb (countOf a) 0) (isOne h) (leaving (p .datagram) first (countOf a)) p (λ z. s (eqb-false _ _ (neither _ _ z .1))))
 
-pub wrote-whole : (p : Pair) (h : ℕ) (src ring ring′ table table′ : List ℕ) (e : Ends) (r : Outcome) → length (p .places .table) ≡ 128
-    → e ≡ endsOf p → EndsWrote e h src ring ring′ table table′ r → Wrote p h src ring ring′ table table′ (settledStep r p)
+pub wrote-whole : (p : Pair) (h : ℕ) (src ring ring′ table table′ : List ℕ) (e : Ends) (r : EndsOutcome) → length (p .places .table) ≡ 128
+    → e ≡ endsOf p → EndsWrote e h src ring ring′ table table′ r → Writes p h src ring ring′ table table′ (settledStep r p)
 unfolding writeAnswer
 wrote-whole p h src ring ring′ table table′ e r l f v =
     let w = subst (λ (k : Ends). EndsWrote k h src ring ring′ table table′ r) f v in
     let z = lentOf (p .datagram) (peer (isOne h) (endsOf p) .queue) ring table in
     let s : (countOf (r .answer) ≡ 0 → ⊥) → sound (p .places) ≡ true
     = λ (n : countOf (r .answer) ≡ 0 → ⊥). passed (endsOf p) h (peer (isOne h) (endsOf p) .queue) z _ (r .answer) (w .answer) (counted (r .answer) n) .sound .places in
-    subst (λ (k : Step). Wrote p h src ring ring′ table table′ k) (sym (wrote-settled p h (r .answer) r l s (w .next)))
+    subst (λ (k : Step). Writes p h src ring ring′ table table′ k) (sym (wrote-settled p h (r .answer) r l s (w .next)))
     (record { answer = w .answer; pair = refl; bytes = w .bytes; lengths = w .lengths })
 
-pub read-whole : (p : Pair) (h : ℕ) (peek : Bool) (ring table buffer buffer′ : List ℕ) (e : Ends) (r : Outcome) → length (p .places .table) ≡ 128
-    → e ≡ endsOf p → EndsRead e h peek ring table buffer buffer′ r → Read p h peek ring table buffer buffer′ (settledStep r p)
+pub read-whole : (p : Pair) (h : ℕ) (peek : Bool) (ring table buffer buffer′ : List ℕ) (e : Ends) (r : EndsOutcome) → length (p .places .table) ≡ 128
+    → e ≡ endsOf p → EndsRead e h peek ring table buffer buffer′ r → Reads p h peek ring table buffer buffer′ (settledStep r p)
 unfolding readAnswer
 read-whole p h peek ring table buffer buffer′ e r l f v =
     let w = subst (λ (k : Ends). EndsRead k h peek ring table buffer buffer′ r) f v in
@@ -84,7 +84,7 @@ read-whole p h peek ring table buffer buffer′ e r l f v =
     let s : (countOf (r .answer) ≡ 0 → ⊥) → sound (p .places) ≡ true
     = λ (n : countOf (r .answer) ≡ 0 → ⊥). passed (endsOf p) h (own (isOne h) (endsOf p) .queue) z _ (r .answer) (w .answer) (counted (r .answer) n) .sound .places in
     let first = firstLength (p .datagram) (own (isOne h) (endsOf p) .queue) table in
-    subst (λ (k : Step). Read p h peek ring table buffer buffer′ k) (sym (read-settled p h (r .answer) r l s peek first (w .next)))
+    subst (λ (k : Step). Reads p h peek ring table buffer buffer′ k) (sym (read-settled p h (r .answer) r l s peek first (w .next)))
     (record { answer = w .answer; pair = refl; bytes = w .bytes })
 
 -- ---- a call that changes both ends or none
@@ -93,34 +93,34 @@ pub unchanged-settled : (p : Pair) (a : Answer) → settledStep (unchangedEnds (
 unfolding settledStep unchangedEnds withEnds pick
 unchanged-settled p a = refl
 
-pub moved-whole : (p : Pair) (h : ℕ) (a : Answer) (m : Moved) (q : Pair) (r : Outcome) → length (p .places .table) ≡ 128
+pub moved-whole : (p : Pair) (h : ℕ) (a : Answer) (m : Moved) (q : Pair) (r : EndsOutcome) → length (p .places .table) ≡ 128
     → r ≡ movedIf (endsOf p) h a m → (isDone a ≡ true → movedPair (isOne h) m p ≡ q) → Steps p a q (settledStep r p)
 moved-whole p h a m q r l g w = by (isDone a) refl
   where
     by : (b : Bool) → isDone a ≡ b → Steps p a q (settledStep r p)
     by true d =
-        subst (Steps p a q) (sym (ap (λ (k : Outcome). settledStep k p) (g ∙ done (endsOf p) h a a m refl d) ∙ settled-moved p (isOne h) a m l))
+        subst (Steps p a q) (sym (ap (λ (k : EndsOutcome). settledStep k p) (g ∙ done (endsOf p) h a a m refl d) ∙ settled-moved p (isOne h) a m l))
         (steps-done p q (movedPair (isOne h) m p) a a refl d (w d))
     by false d =
-        subst (Steps p a q) (sym (ap (λ (k : Outcome). settledStep k p) (g ∙ refused (endsOf p) h a a m refl d) ∙ unchanged-settled p a))
+        subst (Steps p a q) (sym (ap (λ (k : EndsOutcome). settledStep k p) (g ∙ refused (endsOf p) h a a m refl d) ∙ unchanged-settled p a))
         (steps-refused p p q a a refl d refl)
 
 module _ (p : Pair) (h : ℕ) where
-  pub shutdown-whole : (read write : Bool) (e : Ends) (r : Outcome) → length (p .places .table) ≡ 128 → e ≡ endsOf p → r ≡ shutEnds e h read write
+  pub shutdown-whole : (read write : Bool) (e : Ends) (r : EndsOutcome) → length (p .places .table) ≡ 128 → e ≡ endsOf p → r ≡ shutEnds e h read write
       → Steps p (shutdownAnswer p h) (shut (isOne h) read write p) (settledStep r p)
   unfolding shutEnds shutdownAnswer
   shutdown-whole read write e r l f g =
       moved-whole p h _ _ _ r l (g ∙ ap (λ (k : Ends). shutEnds k h read write) f)
       (λ d. shut-visited (isOne h) p (opening-passed (endsOf p) h d .places) read write)
 
-  pub read-threshold-whole : (n : ℕ) (e : Ends) (r : Outcome) → length (p .places .table) ≡ 128 → e ≡ endsOf p → r ≡ readThresholdEnds e h n
+  pub read-threshold-whole : (n : ℕ) (e : Ends) (r : EndsOutcome) → length (p .places .table) ≡ 128 → e ≡ endsOf p → r ≡ readThresholdEnds e h n
       → Steps p (readThresholdAnswer (endsOf p) h n) (readThresholdSet (isOne h) n p) (settledStep r p)
   unfolding readThresholdEnds readThresholdAnswer
   read-threshold-whole n e r l f g =
       moved-whole p h _ _ _ r l (g ∙ ap (λ (k : Ends). readThresholdEnds k h n) f)
       (λ d. read-threshold-visited (isOne h) p (opening-passed (endsOf p) h (then-both _ _ d .0) .places) n)
 
-  pub write-threshold-whole : (n : ℕ) (e : Ends) (r : Outcome) → length (p .places .table) ≡ 128 → e ≡ endsOf p → r ≡ writeThresholdEnds e h n
+  pub write-threshold-whole : (n : ℕ) (e : Ends) (r : EndsOutcome) → length (p .places .table) ≡ 128 → e ≡ endsOf p → r ≡ writeThresholdEnds e h n
       → Steps p (writeThresholdAnswer (endsOf p) h n) (writeThresholdSet (isOne h) n p) (settledStep r p)
   unfolding writeThresholdEnds writeThresholdAnswer
   write-threshold-whole n e r l f g =

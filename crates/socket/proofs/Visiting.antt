@@ -22,7 +22,7 @@ use Rattle.definition.specs.Pair.{withSignals, own, peer, withEnd, withPlaces, 
 use Rattle.endpoint.specs.declared.ends.Pending.{Pending}
 use Rattle.endpoint.specs.declared.ends.Visits.{Visits}
 use Rattle.endpoint.specs.declared.ends.Moved.{Moved}
-use Rattle.endpoint.specs.ends.Outcome.{noVisits, canFire, anyFires, outcomeOf, keptEnds}
+use Rattle.endpoint.specs.ends.Outcome.{noVisits, canFire, anyCanFire, outcomeOf, keptEnds}
 use Rattle.endpoint.specs.ends.AtOnce.{ownChanged, peerChanged, visitOf, ownAfter, peerAfter, visitsOf, firstTwo, movedBy, moreBy}
 use Rattle.definition.specs.declared.Pair.{Pair}
 use Rattle.definition.proofs.Pair as T
@@ -154,11 +154,11 @@ settled-pair false p q g = sym (g refl)
 -- the step of a call whose waits are visited where one can fire
 pub settled-last : (p : Pair) (t : Bool) (a : Answer) (d : Moved) (more : Visits) → length (p .places .table) ≡ 128
     → settledStep (outcomeOf (p .places .waits) t a d more) p ≡ record { pair = visitedPair more (movedPair t d p); answer = a }
-unfolding settledStep visitedAll outcomeOf withEnds anyFires
+unfolding settledStep visitedAll outcomeOf withEnds anyCanFire
 settled-last p t a d more l =
     let q = withEnds (pick t (d .own) (d .peer)) (pick t (d .peer) (d .own)) p in
     ap (λ (k : Pair). record { pair = k; answer = a })
-    (settled-pair (anyFires (p .places .waits) (d .visits) more) (visitedPair more (visitedPair (d .visits) q)) q
+    (settled-pair (anyCanFire (p .places .waits) (d .visits) more) (visitedPair more (visitedPair (d .visits) q)) q
     (λ f. ap (visitedPair more) (cannot-fire (d .visits) q l (neither _ _ f .0)) ∙ cannot-fire more q l (neither _ _ f .1)))
 
 pub settled-moved : (p : Pair) (t : Bool) (a : Answer) (d : Moved) → length (p .places .table) ≡ 128

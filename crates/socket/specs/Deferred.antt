@@ -7,7 +7,7 @@ use lib.Dec.{eqb}
 use Rattle.endpoint.specs.declared.ends.Pending.{Pending}
 use Rattle.endpoint.specs.declared.ends.Visits.{Visits}
 use Rattle.definition.specs.declared.Pair.{Pair}
-use Rattle.endpoint.specs.declared.ends.Outcome.{Outcome}
+use Rattle.endpoint.specs.declared.ends.EndsOutcome.{EndsOutcome}
 use Rattle.definition.specs.declared.Places.{Places}
 use Rattle.definition.specs.declared.Endpoint.{Endpoint}
 use Rattle.definition.specs.declared.Step.{Step}
@@ -27,11 +27,11 @@ unfoldable pub visitedPair : Visits → Pair → Pair
 visitedPair v p = withPlaces (visited (v .second) (visited (v .first) (p .places))) p
 
 -- of all changes of a call
-unfoldable pub visitedAll : Outcome → Pair → Pair
+unfoldable pub visitedAll : EndsOutcome → Pair → Pair
 visitedAll r p = visitedPair (r .more) (visitedPair (r .visits) p)
 
 -- whether the waits are to be visited: one fires, or the only place used is a wait
-unfoldable pub needsVisit : Outcome → Places → Bool
+unfoldable pub needsVisit : EndsOutcome → Places → Bool
 needsVisit r t = r .fires and (onlyWait t or anyDue r t)
 
 -- the pair with both ends replaced
@@ -39,11 +39,11 @@ unfoldable pub withEnds : (one two : Endpoint) → Pair → Pair
 withEnds a b p = record { datagram = p .datagram; spare1 = p .spare1; spare2 = p .spare2; capacity = p .capacity; one = a; two = b; places = p .places }
 
 -- the pair with the ends of an outcome
-abbrev pub withOutcome : Outcome → Pair → Pair
+abbrev pub withOutcome : EndsOutcome → Pair → Pair
 withOutcome r p = withEnds (r .one) (r .two) p
 
 -- the step of a call with this outcome, once the waits are visited where one can fire
-unfoldable pub settledStep : Outcome → Pair → Step
+unfoldable pub settledStep : EndsOutcome → Pair → Step
 settledStep r p = record { pair = pick (r .fires) (visitedAll r (withOutcome r p)) (withOutcome r p); answer = r .answer }
 
 -- 01 "Delivered bytes", close: the waits of end t are gone
@@ -51,11 +51,11 @@ unfoldable pub withoutWaits : Bool → Pair → Pair
 withoutWaits t p = withPlaces (dropOf t (p .places) .places) p
 
 -- the pair without the waits of end t, where there are any, once the others are visited
-unfoldable pub closedWaits : Bool → Outcome → Pair → Pair
+unfoldable pub closedWaits : Bool → EndsOutcome → Pair → Pair
 closedWaits t r p = pick (r .fires) (visitedAll r (withoutWaits t p)) p
 
 -- the step of a close with this outcome, by end t: its waits are gone before those of its peer are visited
-unfoldable pub settledClose : Bool → Outcome → Pair → Step
+unfoldable pub settledClose : Bool → EndsOutcome → Pair → Step
 settledClose t r p = settledStep r (pick (r .fires) (withoutWaits t p) p)
 
 -- 01 "Signal word and packets": the pair with a wait of end t more, where that is asked

@@ -3,7 +3,7 @@
 use crate::parts;
 use definition::Pair;
 use definition::Step;
-use endpoint::ends::Outcome;
+use endpoint::ends::EndsOutcome;
 ghost use mathlib.Core.Path.{_≡_};
 ghost use Rattle.definition.specs.Status.{pick};
 ghost use Rattle.port.specs.places.Table.{onlyWait};
@@ -18,7 +18,7 @@ pub fn has_only_wait(p: Pair) -> bool
 }
 
 // Whether the waits are to be visited: where one fires, and where the only place used is a wait, which is as quickly visited as asked.
-pub fn needs_visit(p: Pair, r: Outcome) -> bool
+pub fn needs_visit(p: Pair, r: EndsOutcome) -> bool
     ensures { λ d. ⌜ d ≡ needsVisit r (p .places) ⌝ }
 {
     if !r.fires {
@@ -31,7 +31,7 @@ pub fn needs_visit(p: Pair, r: Outcome) -> bool
 }
 
 // Visits the waits of all changes of a call.
-pub fn visit_each(p: Pair, r: Outcome) -> Pair
+pub fn visit_each(p: Pair, r: EndsOutcome) -> Pair
     ensures { λ q. ⌜ q ≡ visitedAll r p ⌝ }
 {
     let mut t = p.places;
@@ -43,7 +43,7 @@ pub fn visit_each(p: Pair, r: Outcome) -> Pair
 }
 
 // The same for a pair whose only place used is a wait.
-pub fn visit_only(p: Pair, r: Outcome) -> Pair
+pub fn visit_only(p: Pair, r: EndsOutcome) -> Pair
     ensures { λ q. ⌜ q ≡ pick (onlyWait (p .places)) (visitedAll r p) p ⌝ }
 {
     let t = port::visits::visited_alone(p.places, r);
@@ -51,7 +51,7 @@ pub fn visit_only(p: Pair, r: Outcome) -> Pair
 }
 
 // The pair with the ends of an outcome.
-pub fn with_outcome(p: Pair, r: Outcome) -> Pair
+pub fn with_outcome(p: Pair, r: EndsOutcome) -> Pair
     ensures { λ q. ⌜ q ≡ withOutcome r p ⌝ }
 {
     let one = r.one;
@@ -68,7 +68,7 @@ pub fn with_outcome(p: Pair, r: Outcome) -> Pair
     }
 }
 
-fn visit(p: Pair, r: Outcome) -> Pair
+fn visit(p: Pair, r: EndsOutcome) -> Pair
     ensures { λ q. ⌜ q ≡ pick (needsVisit r (p .places)) (visitedAll r p) p ⌝ }
 {
     if !needs_visit(p, r) {
@@ -81,7 +81,7 @@ fn visit(p: Pair, r: Outcome) -> Pair
 }
 
 // The step of a call with this outcome: the waits are visited where one can fire.
-pub fn settle(p: Pair, r: Outcome) -> Step
+pub fn settle(p: Pair, r: EndsOutcome) -> Step
     ensures { λ s. ⌜ s ≡ settledStep r p ⌝ }
 {
     let answer = r.answer;
@@ -101,7 +101,7 @@ pub fn without_waits(p: Pair, handle: u32) -> Pair
 }
 
 // The pair without the waits of an end, once the others are visited.
-pub fn close_waits(p: Pair, handle: u32, r: Outcome) -> Pair
+pub fn close_waits(p: Pair, handle: u32, r: EndsOutcome) -> Pair
     ensures { λ q. ⌜ q ≡ visitedAll r (withoutWaits (isOne handle) p) ⌝ }
 {
     let n = port::waits::drop_waits(p.places, handle == 1);

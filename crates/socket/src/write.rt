@@ -3,13 +3,13 @@ use crate::SocketPair;
 use crate::SocketStep;
 use crate::deferred;
 use crate::parts;
-ghost use Rattle.definition.specs.Write.{Wrote};
+ghost use Rattle.definition.specs.Write.{Writes};
 ghost use Rattle.socket.specs.Step.{innerStep};
 
 impl SocketPair {
     // Writes to the peer's queue. The ring and the table are the peer's.
     pub fn write(self, handle: u32, ring: &mut [u8], table: &mut [u32], bytes: &[u8]) -> SocketStep
-        ensures { λ r. ⌜ Wrote (self .inner) handle (now (bytes .entry)) (now (ring .entry)) (now (ring .exit)) (now (table .entry)) (now (table .exit)) (innerStep r) ⌝ }
+        ensures { λ r. ⌜ Writes (self .inner) handle (now (bytes .entry)) (now (ring .entry)) (now (ring .exit)) (now (table .entry)) (now (table .exit)) (innerStep r) ⌝ }
     {
         let p = self.inner;
         let r = transfer::write::write_ends(parts::ends_of(p), handle, ring, table, bytes);

@@ -17,11 +17,11 @@ use Rattle.ring.proofs.copy.Laws.{length-front, put-take}
 use Rattle.definition.specs.Tests.{firstLength, lentOf}
 use Rattle.endpoint.specs.ends.Outcome.{outcomeOf}
 use Rattle.transfer.specs.read.ReadEnds.{readEnds, EndsRead}
-use Rattle.definition.specs.Read.{bufferRead as endsBufferRead, readAnswer, bufferRead, isPeek, userReadAnswer, bytesLanded, BytesRead, UserRead}
+use Rattle.definition.specs.Read.{bufferRead as endsBufferRead, readAnswer, bufferRead, isPeek, userReadAnswer, bytesLanded, BytesRead, UserReads}
 use Rattle.transfer.specs.write.WriteEnds.{wroteEnds, EndsWrote}
 use Rattle.definition.specs.Write.{ringFed, ringWritten as endsRingWritten, tableWritten as endsTableWritten, writeAnswer, ringWritten, tableWritten, userWriteAnswer}
 use Rattle.definition.specs.declared.Ends.{Ends}
-use Rattle.endpoint.specs.declared.ends.Outcome.{Outcome}
+use Rattle.endpoint.specs.declared.ends.EndsOutcome.{EndsOutcome}
 use Rattle.transfer.proofs.read.Moved.{read-drains}
 use Rattle.definition.specs.declared.Pair.{Pair}
 use Rattle.definition.specs.declared.Step.{Step}
@@ -54,7 +54,7 @@ unfolding endsRingWritten ringFed
 ring-part p h m src ring has = rw (put-take (p .capacity) _ m src ring has) refl
 
 -- the write of the part of memory that is taken takes it all
-pub taken-all : (e : Ends) (h k : ℕ) (a : Answer) (memory ring ring′ table table′ : List ℕ) (at : ℕ) (r : Outcome)
+pub taken-all : (e : Ends) (h k : ℕ) (a : Answer) (memory ring ring′ table table′ : List ℕ) (at : ℕ) (r : EndsOutcome)
     → EndsWrote e h (take k (drop at memory)) ring ring′ table table′ r
     → writeAnswer (endsOf (pairOf e)) (lentOf (e .datagram) (peer (isOne h) (endsOf (pairOf e)) .queue) ring table) h (countOf a) ≡ a
     → k ≡ countOf a → at + countOf a ≤ length memory
@@ -70,7 +70,7 @@ taken-all e h k a memory ring ring′ table table′ at r w whole same room =
     (w .next ∙ ap (wroteEnds e h) is, fed, w .lengths ∙ ap (λ (x : Answer). tableWritten (endsOf (pairOf e)) h (countOf x) table) is)
 
 -- a write that was answered x
-module _ (e : Ends) (h base options address n countAt : ℕ) (memory ring table : List ℕ) (x : Answer) (r : Outcome)
+module _ (e : Ends) (h base options address n countAt : ℕ) (memory ring table : List ℕ) (x : Answer) (r : EndsOutcome)
     (told : x ≡ userWriteAnswer (endsOf (pairOf e)) (lentOf (e .datagram) (peer (isOne h) (endsOf (pairOf e)) .queue) ring table) h base (length memory) options address n countAt)
     (next : r ≡ wroteEnds e h x) where
   wrote-by : (memory′ ring′ table′ : List ℕ) → ring′ ≡ ringWritten (endsOf (pairOf e)) h (countOf x) (drop (address - base) memory) ring
@@ -79,7 +79,7 @@ module _ (e : Ends) (h base options address n countAt : ℕ) (memory ring table 
       → EndsUserWrote e h base options address n countAt memory memory′ ring ring′ table table′ r
   unfolding wroteEnds outcomeOf
   wrote-by memory′ ring′ table′ b c u =
-      subst (λ (k : Outcome). EndsUserWrote e h base options address n countAt memory memory′ ring ring′ table table′ k) (sym next)
+      subst (λ (k : EndsOutcome). EndsUserWrote e h base options address n countAt memory memory′ ring ring′ table table′ k) (sym next)
       (record { answer = told; next = refl; bytes = b; lengths = c; user = u })
 
   pub wrote-none : isDone x ≡ false → EndsUserWrote e h base options address n countAt memory memory ring ring table table r
@@ -170,7 +170,7 @@ module _ (p : Pair) (h base options address n countAt : ℕ) (ring table memory 
 pub count-after : (p : Pair) (h base options address n countAt : ℕ) (ring table memory memory′ memory″ : List ℕ) (r : Step)
     → BytesRead p h base options address n countAt ring table memory memory′ r
     → memory″ ≡ pick (isDone (r .answer)) (countPut base countAt (countOf (r .answer)) memory′) memory′
-    → UserRead p h base options address n countAt ring table memory memory″ r
+    → UserReads p h base options address n countAt ring table memory memory″ r
 count-after p h base options address n countAt ring table memory memory′ memory″ r b u =
     record {
       answer = b .answer;
@@ -180,17 +180,17 @@ count-after p h base options address n countAt ring table memory memory′ memor
 
 -- the same of the two ends
 module _ (e : Ends) (h base options address n countAt : ℕ) (ring table memory : List ℕ) where
-  pub ends-none : (x : Answer) (r : Outcome)
+  pub ends-none : (x : Answer) (r : EndsOutcome)
       → x ≡ userReadAnswer (endsOf (pairOf e)) (lentOf (e .datagram) (own (isOne h) (endsOf (pairOf e)) .queue) ring table) h base (length memory) options address n countAt
       → countOf x ≡ 0
       → r ≡ readEnds e h (isPeek options) (firstLength (e .datagram) (own (isOne h) (endsOf (pairOf e)) .queue) table) x
       → EndsBytesRead e h base options address n countAt ring table memory memory r
   unfolding readEnds outcomeOf
   ends-none x r told z next =
-      subst (λ (k : Outcome). EndsBytesRead e h base options address n countAt ring table memory memory k) (sym next)
+      subst (λ (k : EndsOutcome). EndsBytesRead e h base options address n countAt ring table memory memory k) (sym next)
       (record { answer = told; next = refl; user = sym (none-landed (pairOf e) h base address (countOf x) ring memory z) })
 
-  pub ends-some : (x : Answer) (r : Outcome) (k : ℕ) (buffer′ : List ℕ)
+  pub ends-some : (x : Answer) (r : EndsOutcome) (k : ℕ) (buffer′ : List ℕ)
       → x ≡ userReadAnswer (endsOf (pairOf e)) (lentOf (e .datagram) (own (isOne h) (endsOf (pairOf e)) .queue) ring table) h base (length memory) options address n countAt
       → (countOf x ≡ 0 → ⊥) → k ≡ n
       → EndsRead e h (isPeek options) ring table (take k (drop (address - base) memory)) buffer′ r
@@ -201,7 +201,7 @@ module _ (e : Ends) (h base options address n countAt : ℕ) (ring table memory 
       let w = read-some (pairOf e) h base options address n countAt ring table memory x told k buffer′ (r .answer) z same (d .answer) (d .bytes) in
       record { answer = w .0 ∙ told; next = d .next; user = w .1 }
 
-  pub ends-after : (memory′ memory″ : List ℕ) (r : Outcome) → EndsBytesRead e h base options address n countAt ring table memory memory′ r
+  pub ends-after : (memory′ memory″ : List ℕ) (r : EndsOutcome) → EndsBytesRead e h base options address n countAt ring table memory memory′ r
       → memory″ ≡ pick (isDone (r .answer)) (countPut base countAt (countOf (r .answer)) memory′) memory′
       → EndsUserRead e h base options address n countAt ring table memory memory″ r
   ends-after memory′ memory″ r b u =

@@ -7,7 +7,7 @@ use Rattle.definition.specs.declared.Answer.{Answer}
 use Rattle.definition.specs.Status.{pick, isDone}
 use Rattle.endpoint.proofs.answer.Rules.{pick-on, pick-off}
 use Rattle.definition.specs.declared.Ends.{Ends}
-use Rattle.endpoint.specs.declared.ends.Outcome.{Outcome}
+use Rattle.endpoint.specs.declared.ends.EndsOutcome.{EndsOutcome}
 use Rattle.endpoint.specs.ends.Outcome.{unchangedEnds}
 use Rattle.answers.proofs.tests.Sound.{opening-passed}
 use Rattle.control.specs.disposition.DispositionEnds.{disposeEnds}
@@ -25,7 +25,7 @@ use Rattle.syscall.specs.Ends.{pairOf, userDisposeEnds, userShutEnds}
 use Rattle.syscall.proofs.Passed.{dispose-passed, shutdown-passed}
 use Rattle.syscall.proofs.Same.{told-dispose, told-shutdown}
 
-pub dispose-whole : (p : Pair) (h a b : ℕ) (e : Ends) (r : Outcome) → length (p .places .table) ≡ 128 → e ≡ endsOf p → r ≡ userDisposeEnds e h a b
+pub dispose-whole : (p : Pair) (h a b : ℕ) (e : Ends) (r : EndsOutcome) → length (p .places .table) ≡ 128 → e ≡ endsOf p → r ≡ userDisposeEnds e h a b
     → Steps p (userDisposeAnswer (endsOf p) h a b) (disposed (isOne h) (dispositionOf a) (dispositionOf b) p) (settledStep r p)
 unfolding userDisposeEnds
 dispose-whole p h a b e r l f g = by (isDone (userDisposeAnswer (endsOf (pairOf e)) h a b)) refl
@@ -41,10 +41,10 @@ dispose-whole p h a b e r l f g = by (isDone (userDisposeAnswer (endsOf (pairOf 
         (socket-dispose p h (dispositionOf a) (dispositionOf b) e r l f (g ∙ sym (pick-on _ _ _ _ _ d refl)))
     by false d =
         subst (Steps p (userDisposeAnswer (endsOf p) h a b) (disposed (isOne h) (dispositionOf a) (dispositionOf b) p))
-        (sym (ap (λ (k : Outcome). settledStep k p) (g ∙ sym (pick-off _ _ _ _ _ d refl) ∙ ap (λ (k : Ends). unchangedEnds k (userDisposeAnswer (endsOf (pairOf e)) h a b)) f) ∙ unchanged-settled p _))
+        (sym (ap (λ (k : EndsOutcome). settledStep k p) (g ∙ sym (pick-off _ _ _ _ _ d refl) ∙ ap (λ (k : Ends). unchangedEnds k (userDisposeAnswer (endsOf (pairOf e)) h a b)) f) ∙ unchanged-settled p _))
         (steps-refused p p _ _ _ told d refl)
 
-pub shutdown-whole : (p : Pair) (h options : ℕ) (e : Ends) (r : Outcome) → length (p .places .table) ≡ 128 → e ≡ endsOf p → r ≡ userShutEnds e h options
+pub shutdown-whole : (p : Pair) (h options : ℕ) (e : Ends) (r : EndsOutcome) → length (p .places .table) ≡ 128 → e ≡ endsOf p → r ≡ userShutEnds e h options
     → Steps p (userShutdownAnswer (endsOf p) h) (shut (isOne h) (shutsRead options) (shutsWrite options) p) (settledStep r p)
 unfolding userShutEnds
 shutdown-whole p h options e r l f g = by (isDone (userShutdownAnswer (endsOf (pairOf e)) h)) refl
@@ -60,5 +60,5 @@ shutdown-whole p h options e r l f g = by (isDone (userShutdownAnswer (endsOf (p
         (socket-shutdown p h (shutsRead options) (shutsWrite options) e r l f (g ∙ sym (pick-on _ _ _ _ _ d refl)))
     by false d =
         subst (Steps p (userShutdownAnswer (endsOf p) h) (shut (isOne h) (shutsRead options) (shutsWrite options) p))
-        (sym (ap (λ (k : Outcome). settledStep k p) (g ∙ sym (pick-off _ _ _ _ _ d refl) ∙ ap (λ (k : Ends). unchangedEnds k (userShutdownAnswer (endsOf (pairOf e)) h)) f) ∙ unchanged-settled p _))
+        (sym (ap (λ (k : EndsOutcome). settledStep k p) (g ∙ sym (pick-off _ _ _ _ _ d refl) ∙ ap (λ (k : Ends). unchangedEnds k (userShutdownAnswer (endsOf (pairOf e)) h)) f) ∙ unchanged-settled p _))
         (steps-refused p p _ _ _ told d refl)

@@ -10,31 +10,31 @@ use Rattle.definition.specs.Port.{sound}
 use Rattle.definition.specs.Tests.{firstLength, lentOf}
 use Rattle.transfer.specs.read.ReadEnds.{readEnds}
 use Rattle.definition.specs.declared.Ends.{Ends}
-use Rattle.endpoint.specs.declared.ends.Outcome.{Outcome}
+use Rattle.endpoint.specs.declared.ends.EndsOutcome.{EndsOutcome}
 use Rattle.definition.specs.declared.Pair.{Pair}
 use Rattle.definition.specs.declared.Step.{Step}
 use Rattle.definition.specs.Pair.{isOne, own, endsOf}
-use Rattle.definition.specs.Read.{pairRead, isPeek, userReadAnswer, bytesLanded, BytesRead, UserRead}
+use Rattle.definition.specs.Read.{pairRead, isPeek, userReadAnswer, bytesLanded, BytesRead, UserReads}
 use Rattle.socket.specs.Deferred.{settledStep}
 use Rattle.socket.proofs.Settled.{wrote-settled, read-settled}
 use Rattle.syscall.specs.Ends.{pairOf, EndsUserWrote, EndsBytesRead, EndsUserRead}
 use Rattle.definition.specs.Memory.{countLanded}
-use Rattle.definition.specs.Write.{UserWrote}
+use Rattle.definition.specs.Write.{UserWrites}
 use Rattle.syscall.proofs.Passed.{write-passed, read-passed}
 use Rattle.syscall.proofs.Same.{same-write, same-read, same-landed}
 
-module _ (p : Pair) (h base options address n countAt : ℕ) (e : Ends) (r : Outcome) (l : length (p .places .table) ≡ 128)
+module _ (p : Pair) (h base options address n countAt : ℕ) (e : Ends) (r : EndsOutcome) (l : length (p .places .table) ≡ 128)
     (f : e ≡ endsOf p) where
   pub wrote-whole : (memory memory′ ring ring′ table table′ : List ℕ)
       → EndsUserWrote e h base options address n countAt memory memory′ ring ring′ table table′ r
-      → UserWrote p h base options address n countAt memory memory′ ring ring′ table table′ (settledStep r p)
+      → UserWrites p h base options address n countAt memory memory′ ring ring′ table table′ (settledStep r p)
   wrote-whole memory memory′ ring ring′ table table′ u =
       let a = r .answer in
       let w = subst (λ (k : Ends). EndsUserWrote k h base options address n countAt memory memory′ ring ring′ table table′ r) f u in
       let x = w .answer ∙ same-write p h base (length memory) options address n countAt ring table in
       let s : (countOf a ≡ 0 → ⊥) → sound (p .places) ≡ true
       = λ (z : countOf a ≡ 0 → ⊥). write-passed p _ h base (length memory) options address n countAt a x (counted a z) .sound .places in
-      subst (λ (k : Step). UserWrote p h base options address n countAt memory memory′ ring ring′ table table′ k)
+      subst (λ (k : Step). UserWrites p h base options address n countAt memory memory′ ring ring′ table table′ k)
       (sym (wrote-settled p h a r l s (w .next)))
       (record {
         answer = x;
@@ -76,10 +76,10 @@ module _ (p : Pair) (h base options address n countAt : ℕ) (e : Ends) (r : Out
         (record { answer = x .0; pair = refl; user = w .user ∙ landed-is })
 
     pub read-whole : EndsUserRead e h base options address n countAt ring table memory memory′ r
-        → UserRead p h base options address n countAt ring table memory memory′ (settledStep r p)
+        → UserReads p h base options address n countAt ring table memory memory′ (settledStep r p)
     read-whole w =
         let x = read-is (w .answer) (w .next) in
-        subst (λ (k : Step). UserRead p h base options address n countAt ring table memory memory′ k) (sym (x .1))
+        subst (λ (k : Step). UserReads p h base options address n countAt ring table memory memory′ k) (sym (x .1))
         (record {
           answer = x .0;
           pair = refl;

@@ -5,7 +5,7 @@ use mathlib.Core.Path.{_≡_}
 use lib.ListN.{length, drop}
 use Rattle.definition.specs.declared.Ends.{Ends}
 use Rattle.definition.specs.declared.Pair.{Pair}
-use Rattle.endpoint.specs.declared.ends.Outcome.{Outcome}
+use Rattle.endpoint.specs.declared.ends.EndsOutcome.{EndsOutcome}
 use Rattle.definition.specs.Status.{pick, isDone, countOf}
 use Rattle.transfer.specs.write.WriteEnds.{wroteEnds}
 use Rattle.definition.specs.Pair.{isOne, peer, endsOf, own}
@@ -35,7 +35,7 @@ pairOf e =
 
 -- a write: its answer, the two ends by its answer, and each slice. The law `wrote-whole` of proofs/Settled: once the waits are visited this is
 -- `UserWrote`.
-pub record EndsUserWrote (e : Ends) (h base options address n countAt : ℕ) (memory memory′ ring ring′ table table′ : List ℕ) (r : Outcome) : Type 0 where
+pub record EndsUserWrote (e : Ends) (h base options address n countAt : ℕ) (memory memory′ ring ring′ table table′ : List ℕ) (r : EndsOutcome) : Type 0 where
   pub answer : r .answer ≡ userWriteAnswer (endsOf (pairOf e)) (lentOf (e .datagram) (peer (isOne h) (endsOf (pairOf e)) .queue) ring table) h base (length memory) options address n countAt
   pub next : r ≡ wroteEnds e h (r .answer)
   pub bytes : ring′ ≡ ringWritten (endsOf (pairOf e)) h (countOf (r .answer)) (drop (address - base) memory) ring
@@ -43,13 +43,13 @@ pub record EndsUserWrote (e : Ends) (h base options address n countAt : ℕ) (me
   pub user : memory′ ≡ pick (isDone (r .answer)) (countLanded base countAt (countOf (r .answer)) memory) memory
 
 -- a read or peek, but for its count. The law `bytes-whole` of proofs/Settled: once the waits are visited this is `BytesRead`.
-pub record EndsBytesRead (e : Ends) (h base options address n countAt : ℕ) (ring table memory memory′ : List ℕ) (r : Outcome) : Type 0 where
+pub record EndsBytesRead (e : Ends) (h base options address n countAt : ℕ) (ring table memory memory′ : List ℕ) (r : EndsOutcome) : Type 0 where
   pub answer : r .answer ≡ userReadAnswer (endsOf (pairOf e)) (lentOf (e .datagram) (own (isOne h) (endsOf (pairOf e)) .queue) ring table) h base (length memory) options address n countAt
   pub next : r ≡ readEnds e h (isPeek options) (firstLength (e .datagram) (own (isOne h) (endsOf (pairOf e)) .queue) table) (r .answer)
   pub user : memory′ ≡ bytesLanded (pairOf e) h base address (countOf (r .answer)) ring memory
 
 -- a read or peek. The law `read-whole` of proofs/Settled: once the waits are visited this is `UserRead`.
-pub record EndsUserRead (e : Ends) (h base options address n countAt : ℕ) (ring table memory memory′ : List ℕ) (r : Outcome) : Type 0 where
+pub record EndsUserRead (e : Ends) (h base options address n countAt : ℕ) (ring table memory memory′ : List ℕ) (r : EndsOutcome) : Type 0 where
   pub answer : r .answer ≡ userReadAnswer (endsOf (pairOf e)) (lentOf (e .datagram) (own (isOne h) (endsOf (pairOf e)) .queue) ring table) h base (length memory) options address n countAt
   pub next : r ≡ readEnds e h (isPeek options) (firstLength (e .datagram) (own (isOne h) (endsOf (pairOf e)) .queue) table) (r .answer)
   pub user :
@@ -57,13 +57,13 @@ pub record EndsUserRead (e : Ends) (h base options address n countAt : ℕ) (rin
       ≡ pick (isDone (r .answer)) (countLanded base countAt (countOf (r .answer)) (bytesLanded (pairOf e) h base address (countOf (r .answer)) ring memory)) memory
 
 -- the outcome of a disposition by the answer: a refused call changes nothing
-unfoldable pub userDisposeEnds : Ends → (h disposition peerDisposition : ℕ) → Outcome
+unfoldable pub userDisposeEnds : Ends → (h disposition peerDisposition : ℕ) → EndsOutcome
 userDisposeEnds e h a b =
     let x = userDisposeAnswer (endsOf (pairOf e)) h a b in
     pick (isDone x) (disposeEnds e h (dispositionOf a) (dispositionOf b)) (unchangedEnds e x)
 
 -- the outcome of a shutdown
-unfoldable pub userShutEnds : Ends → (h options : ℕ) → Outcome
+unfoldable pub userShutEnds : Ends → (h options : ℕ) → EndsOutcome
 userShutEnds e h options =
     let x = userShutdownAnswer (endsOf (pairOf e)) h in
     pick (isDone x) (shutEnds e h (shutsRead options) (shutsWrite options)) (unchangedEnds e x)

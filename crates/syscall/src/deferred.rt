@@ -1,7 +1,7 @@
 // The calls over user memory that change the two ends and leave the visit of the waits for later.
 use definition::Answer;
 use definition::Ends;
-use endpoint::ends::Outcome;
+use endpoint::ends::EndsOutcome;
 use endpoint::ends::unchanged;
 use user_answers::lookup::Buffer;
 use user_answers::memory::land_count;
@@ -32,7 +32,7 @@ fn write_bytes(
     a: Answer,
     ring: &mut [u8],
     table: &mut [u32],
-) -> Outcome
+) -> EndsOutcome
     requires { ⌜ Taking (pairOf p) handle base (length (now memory)) address a (lentOf (p .datagram) (peer (isOne handle) (endsOf (pairOf p)) .queue) (now ring) (now table)) ⌝ }
     ensures { λ r. ⌜ (r ≡ wroteEnds p handle a) × (now (ring .exit) ≡ ringWritten (endsOf (pairOf p)) handle (countOf a) (drop (address - base) (now (memory .entry))) (now (ring .entry))) × (now (table .exit) ≡ tableWritten (endsOf (pairOf p)) handle (countOf a) (now (table .entry))) ⌝ }
 {
@@ -57,7 +57,7 @@ pub fn write_ends(
     count_at: u64,
     ring: &mut [u8],
     table: &mut [u32],
-) -> Outcome
+) -> EndsOutcome
     ensures { λ r. ⌜ EndsUserWrote p handle base options address count «count_at» (now (memory .entry)) (now (memory .exit)) (now (ring .entry)) (now (ring .exit)) (now (table .entry)) (now (table .exit)) r ⌝ }
 {
     let b = Buffer {
@@ -88,7 +88,7 @@ pub fn read_bytes_ends(
     count_at: u64,
     ring: &[u8],
     table: &[u32],
-) -> Outcome
+) -> EndsOutcome
     ensures { λ r. ⌜ EndsBytesRead p handle base options address count «count_at» (now (ring .entry)) (now (table .entry)) (now (memory .entry)) (now (memory .exit)) r ⌝ }
 {
     let b = Buffer {
@@ -126,7 +126,7 @@ pub fn read_ends(
     count_at: u64,
     ring: &[u8],
     table: &[u32],
-) -> Outcome
+) -> EndsOutcome
     ensures { λ r. ⌜ EndsUserRead p handle base options address count «count_at» (now (ring .entry)) (now (table .entry)) (now (memory .entry)) (now (memory .exit)) r ⌝ }
 {
     let r = read_bytes_ends(
@@ -150,7 +150,7 @@ pub fn read_ends(
 }
 
 // Disables or enables the writing of an end and of its peer, by numbers, but leaves the visit of the waits for later.
-pub fn dispose_ends(e: Ends, handle: u32, disposition: u32, peer_disposition: u32) -> Outcome
+pub fn dispose_ends(e: Ends, handle: u32, disposition: u32, peer_disposition: u32) -> EndsOutcome
     ensures { λ r. ⌜ r ≡ userDisposeEnds e handle disposition «peer_disposition» ⌝ }
 {
     let a = user_answers::lookup::dispose_answer(e, handle, disposition, peer_disposition);
@@ -167,7 +167,7 @@ pub fn dispose_ends(e: Ends, handle: u32, disposition: u32, peer_disposition: u3
 
 // Prevents reading or writing by the end of a handle, by bits, with the negated flags for an open peer, but leaves the visit of the waits for
 // later.
-pub fn shutdown_ends(e: Ends, handle: u32, options: u32) -> Outcome
+pub fn shutdown_ends(e: Ends, handle: u32, options: u32) -> EndsOutcome
     ensures { λ r. ⌜ r ≡ userShutEnds e handle options ⌝ }
 {
     let a = user_answers::lookup::shutdown_answer(e, handle);

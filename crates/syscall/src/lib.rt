@@ -5,8 +5,8 @@ use socket::ends_of;
 use socket::settle;
 ghost use Rattle.definition.specs.Disposition.{UserDisposes};
 ghost use Rattle.definition.specs.Shutdown.{UserShuts};
-ghost use Rattle.definition.specs.Write.{UserWrote};
-ghost use Rattle.definition.specs.Read.{BytesRead, UserRead};
+ghost use Rattle.definition.specs.Write.{UserWrites};
+ghost use Rattle.definition.specs.Read.{BytesRead, UserReads};
 
 mod deferred;
 
@@ -29,7 +29,7 @@ pub fn write(
     ring: &mut [u8],
     table: &mut [u32],
 ) -> Step
-    ensures { λ r. ⌜ UserWrote p handle base options address count «count_at» (now (memory .entry)) (now (memory .exit)) (now (ring .entry)) (now (ring .exit)) (now (table .entry)) (now (table .exit)) r ⌝ }
+    ensures { λ r. ⌜ UserWrites p handle base options address count «count_at» (now (memory .entry)) (now (memory .exit)) (now (ring .entry)) (now (ring .exit)) (now (table .entry)) (now (table .exit)) r ⌝ }
 {
     let r = write_ends(
         ends_of(p),
@@ -89,7 +89,7 @@ pub fn read(
     ring: &[u8],
     table: &[u32],
 ) -> Step
-    ensures { λ r. ⌜ UserRead p handle base options address count «count_at» (now (ring .entry)) (now (table .entry)) (now (memory .entry)) (now (memory .exit)) r ⌝ }
+    ensures { λ r. ⌜ UserReads p handle base options address count «count_at» (now (ring .entry)) (now (table .entry)) (now (memory .entry)) (now (memory .exit)) r ⌝ }
 {
     let r = read_ends(
         ends_of(p),

@@ -10,9 +10,9 @@ use definition::Queue;
 use definition::Span;
 use endpoint::bits::gained_by_writer;
 use endpoint::bits::lost_by_reader;
+use endpoint::ends::EndsOutcome;
 use endpoint::ends::Moved;
 use endpoint::ends::NO_VISIT;
-use endpoint::ends::Outcome;
 use endpoint::ends::Pending;
 use endpoint::ends::Visits;
 use endpoint::signal::changed;
@@ -165,7 +165,7 @@ pub fn read_ends(
     ring: &[u8],
     table: &[u32],
     buffer: &mut [u8],
-) -> Outcome
+) -> EndsOutcome
     ensures { λ r. ⌜ EndsRead p handle peek (now (ring .entry)) (now (table .entry)) (now (buffer .entry)) (now (buffer .exit)) r ⌝ }
 {
     let a = read_answer(p, handle, ring, table, buffer.len());
@@ -302,7 +302,7 @@ fn drained_moved(one: bool, own: Endpoint, peer: Endpoint, t: Transfer) -> Moved
 }
 
 // The outcome of a read that changes this.
-pub fn read_outcome(p: Ends, handle: u32, t: Transfer) -> Outcome
+pub fn read_outcome(p: Ends, handle: u32, t: Transfer) -> EndsOutcome
     ensures { λ r. ⌜ r ≡ readBy p handle t ⌝ }
 {
     let answer = t.answer;

@@ -10,8 +10,8 @@ use definition::Queue;
 use definition::Span;
 use endpoint::bits::gained_by_peer;
 use endpoint::bits::lost_by_writer;
+use endpoint::ends::EndsOutcome;
 use endpoint::ends::Moved;
-use endpoint::ends::Outcome;
 use endpoint::ends::Pending;
 use endpoint::ends::Visits;
 use endpoint::signal::changed;
@@ -143,7 +143,13 @@ fn feed_ends(
 }
 
 // A write by the end of a handle, but for the visit of the waits. The ring and the table are the peer's.
-pub fn write_ends(p: Ends, handle: u32, ring: &mut [u8], table: &mut [u32], bytes: &[u8]) -> Outcome
+pub fn write_ends(
+    p: Ends,
+    handle: u32,
+    ring: &mut [u8],
+    table: &mut [u32],
+    bytes: &[u8],
+) -> EndsOutcome
     ensures { λ r. ⌜ EndsWrote p handle (now (bytes .entry)) (now (ring .entry)) (now (ring .exit)) (now (table .entry)) (now (table .exit)) r ⌝ }
 {
     let a = write_answer(p, handle, ring, table, bytes.len());
@@ -267,7 +273,7 @@ fn fed_moved(one: bool, own: Endpoint, peer: Endpoint, t: Transfer) -> Moved
 }
 
 // The outcome of a write that changes this.
-pub fn write_outcome(p: Ends, handle: u32, t: Transfer) -> Outcome
+pub fn write_outcome(p: Ends, handle: u32, t: Transfer) -> EndsOutcome
     ensures { λ r. ⌜ r ≡ wroteBy p handle t ⌝ }
 {
     let answer = t.answer;

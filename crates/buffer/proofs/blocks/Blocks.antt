@@ -8,7 +8,7 @@ use lib.ListN.{length, length-replicate}
 use lib.Seq.{length-take-le}
 use Rattle.definition_script.specs.Call.{writtenAt, Rings}
 use Rattle.buffer.specs.declared.buffer.Progress.{Progress}
-use Rattle.definition_script.specs.Listing.{header, startState, Machine, machine, start}
+use Rattle.definition_script.specs.Listing.{header, startState, Machine, machine, startMachine}
 use Rattle.definition.specs.Status.{pick}
 use Rattle.buffer.specs.blocks.Drain.{readsOn, ReadIn, Held, held, machineOf, inUse}
 use Rattle.buffer.specs.blocks.BlocksRun.{firstProgress, readsOnAt, Blocks, Stops, readsNoMore, inputEnded}
@@ -16,8 +16,8 @@ use Rattle.buffer.proofs.blocks.Short.{stay-short}
 use Rattle.buffer.proofs.blocks.Listed.{blocks-stay, first-stays}
 
 -- the memory that a script starts with is such that no line is longer than LINE
-pub first-memory : {memory : List ℕ} {z : Rings} → machine startState memory z ≡ start → length memory ≤ 4096
-unfolding start
+pub first-memory : {memory : List ℕ} {z : Rings} → machine startState memory z ≡ startMachine → length memory ≤ 4096
+unfolding startMachine
 first-memory {memory} e =
     let z : ℕ = 0 in
     let l : length memory ≡ 4096 = ap (λ (m : Machine). length (m .memory)) e ∙ length-replicate {A = ℕ} 4096 z in

@@ -13,7 +13,7 @@ use Rattle.definition_script.specs.Record.{recordOf}
 use Rattle.script_call.proofs.record.Records.{cases}
 use Rattle.definition_script.specs.Call.{Rings}
 use Rattle.feed.specs.declared.Fed.{Fed}
-use Rattle.definition_script.specs.Listing.{startState, Machine, machine, start, stay, moveBy, moveOf, run, closing, header, listing}
+use Rattle.definition_script.specs.Listing.{startState, Machine, machine, startMachine, stay, moveBy, moveOf, run, closing, header, listing}
 use Rattle.feed.specs.Feed.{Block, noBlock, fedOf, allOf}
 use Rattle.listing.proofs.script.Runs.{run-stay}
 use Rattle.listing.proofs.script.Tells.{tells, passes, shown}
@@ -128,7 +128,7 @@ stops-in-use (inputEnded e k r) = r .front
 
 -- the header, the text of the blocks and the end are the listing of the bytes read
 pub listed : {memory buffer out buffer′ : List ℕ} {z : Rings} {y : Held} (f : Blocks (held firstProgress buffer memory z out) y) → Stops y buffer′
-    → machine startState memory z ≡ start → header ++ (blocksText f ++ endText y buffer′) ≡ listing (inputRead f)
+    → machine startState memory z ≡ startMachine → header ++ (blocksText f ++ endText y buffer′) ≡ listing (inputRead f)
 unfolding listing
 listed {memory} {buffer} {out} {buffer′} {z} {y} f s e =
     let c : run (y .at .offset) (machineOf y) (inUse y) ≡ endText y buffer′ =

@@ -12,7 +12,7 @@ use Rattle.definition.specs.Status.{pick, _and_}
 use Rattle.port.proofs.places.Lists.{either}
 use Rattle.text.proofs.Place.{place-none}
 use Rattle.definition_script.specs.Call.{Rings}
-use Rattle.definition_script.specs.declared.State.{State}
+use Rattle.definition_script.specs.declared.ScriptState.{ScriptState}
 use Rattle.feed.specs.declared.Fed.{Fed}
 use Rattle.buffer.specs.declared.buffer.Progress.{Progress}
 use Rattle.definition_script.specs.Listing.{machine}
@@ -82,7 +82,7 @@ front-left from to buffer h g =
     ∙ ap (λ (k : ℕ). drop from (take k buffer)) (sym e))
 
 -- what is taken is 0, or else offset and input are LIMIT at most
-pub no-wrap : {st : State} {offset : ℕ} {input memory memory′ : List ℕ} {z z′ : Rings} {out out′ : List ℕ} {r : Fed}
+pub no-wrap : {st : ScriptState} {offset : ℕ} {input memory memory′ : List ℕ} {z z′ : Rings} {out out′ : List ℕ} {r : Fed}
     → FeedDone st offset input memory memory′ z z′ out out′ r → offset < 18446744073709551616 → offset + r .taken < 18446744073709551616
 no-wrap {st} {offset} {input} {memory} {memory′} {z} {z′} {out} {out′} {r} d h =
     ⊎-elim

@@ -7,13 +7,13 @@ use lib.ListN.{length, take, drop}
 use Rattle.buffer.specs.declared.buffer.Progress.{Progress}
 use Rattle.line.specs.line.LineDone.{LINE}
 use Rattle.definition_script.specs.Call.{Rings, writtenAt}
-use Rattle.definition_script.specs.Listing.{startState, machine, start, closing, header, listing}
+use Rattle.definition_script.specs.Listing.{startState, machine, startMachine, closing, header, listing}
 use Rattle.buffer.specs.blocks.Drain.{Held, held, readsOn, ReadIn, Drained, drainText}
 
 -- what it asks for: 01 "Script program", memory, rings and tables are as a script finds them before its first record; a record, of at most 4107 bytes, has
 -- room in the buffer, which has at most the 131072 bytes that `readsOn` leaves below LIMIT; and a line has room
 pub record RunMay (memory : List ℕ) (z : Rings) (buffer out : List ℕ) : Type 0 where
-  pub starts : machine startState memory z ≡ start
+  pub starts : machine startState memory z ≡ startMachine
   pub least : 4107 ≤ length buffer
   pub most : length buffer ≤ 131072
   pub room : LINE ≤ length out

@@ -8,7 +8,7 @@ use Rattle.definition.specs.declared.Disposition.{Disposition}
 use Rattle.definition.specs.declared.Disposition.the-variants.{Unchanged, Disable, Enable}
 use Rattle.definition.specs.declared.Answer.{Answer}
 use Rattle.definition.specs.declared.Ends.{Ends}
-use Rattle.endpoint.specs.declared.ends.Outcome.{Outcome}
+use Rattle.endpoint.specs.declared.ends.EndsOutcome.{EndsOutcome}
 use Rattle.definition.specs.Status.{pick, isDone}
 use Rattle.definition.specs.Signal.{WRITABLE, «WRITE_DISABLED», «PEER_WRITE_DISABLED»}
 use Rattle.definition.specs.Pair.{withReadDisabled, own, peer, isOne}
@@ -57,14 +57,14 @@ peerMoved t a b Disable = peerDisposed t a b true
 peerMoved t a b Enable = peerDisposed t a b false
 
 -- own first, then peer
-unfoldable pub disposedEnds : Ends → Bool → Answer → (disposition peerDisposition : Disposition) → Outcome
+unfoldable pub disposedEnds : Ends → Bool → Answer → (disposition peerDisposition : Disposition) → EndsOutcome
 disposedEnds e t a d f =
     let m : Moved = ownMoved t (own t e) (peer t e) d in
     let n : Moved = peerMoved t (m .own) (m .peer) f in
     outcomeOf (e .waits) t a (record { own = n .own; peer = n .peer; visits = m .visits }) (n .visits)
 
 -- the outcome by the answer: a refused call changes nothing
-unfoldable pub disposeEnds : Ends → (h : ℕ) → (disposition peerDisposition : Disposition) → Outcome
+unfoldable pub disposeEnds : Ends → (h : ℕ) → (disposition peerDisposition : Disposition) → EndsOutcome
 disposeEnds e h d f =
     let a = disposeAnswer e h d f in
     pick (isDone a) (disposedEnds e (isOne h) a d f) (unchangedEnds e a)

@@ -6,7 +6,7 @@ use Rattle.definition.specs.declared.Endpoint.{Endpoint}
 use Rattle.endpoint.specs.declared.ends.Moved.{Moved}
 use Rattle.definition.specs.declared.Answer.{Answer}
 use Rattle.definition.specs.declared.Ends.{Ends}
-use Rattle.endpoint.specs.declared.ends.Outcome.{Outcome}
+use Rattle.endpoint.specs.declared.ends.EndsOutcome.{EndsOutcome}
 use Rattle.definition.specs.Signal.{bitIf, changedWord}
 use Rattle.definition.specs.Pair.{withSignals, isOne}
 use Rattle.endpoint.specs.ends.Outcome.{noVisit, noVisits, outcomeOf, unchangedEnds}
@@ -25,5 +25,5 @@ unfoldable pub firstOnly : (own peer : Endpoint) → Pending → Moved
 firstOnly a b v = record { own = a; peer = b; visits = record { first = v; second = noVisit } }
 
 -- the outcome by the answer: a refused call changes nothing
-unfoldable pub movedIf : Ends → (h : ℕ) → Answer → Moved → Outcome
+unfoldable pub movedIf : Ends → (h : ℕ) → Answer → Moved → EndsOutcome
 movedIf e h a m = pick (isDone a) (outcomeOf (e .waits) (isOne h) a m noVisits) (unchangedEnds e a)

@@ -6,7 +6,7 @@ use Rattle.endpoint.specs.declared.ends.Pending.{Pending}
 use Rattle.definition.specs.declared.Endpoint.{Endpoint}
 use Rattle.endpoint.specs.declared.ends.Moved.{Moved}
 use Rattle.definition.specs.declared.Answer.{Answer}
-use Rattle.endpoint.specs.declared.ends.Outcome.{Outcome}
+use Rattle.endpoint.specs.declared.ends.EndsOutcome.{EndsOutcome}
 use Rattle.definition.specs.declared.Ends.{Ends}
 use Rattle.definition.specs.Signal.{WRITABLE, «PEER_CLOSED»}
 use Rattle.definition.specs.Status.{pick, isDone}
@@ -27,13 +27,13 @@ closeMoved t a b =
     pick (b .closed) (keptEnds (closedEnd a) b) (firstOnly (closedEnd a) (changedEnd first b) first)
 
 -- a close looks at the waits wherever there are any, since it removes those of its end
-unfoldable pub closeOutcome : (waits : ℕ) → Bool → Answer → Moved → Outcome
+unfoldable pub closeOutcome : (waits : ℕ) → Bool → Answer → Moved → EndsOutcome
 closeOutcome waits t a m =
-    let r : Outcome = outcomeOf waits t a m noVisits in
+    let r : EndsOutcome = outcomeOf waits t a m noVisits in
     record { one = r .one; two = r .two; answer = r .answer; fires = not (eqb waits 0); visits = r .visits; more = r .more }
 
 -- the outcome by the answer: a refused call changes nothing
-unfoldable pub closeEnds : Ends → (h : ℕ) → Outcome
+unfoldable pub closeEnds : Ends → (h : ℕ) → EndsOutcome
 closeEnds e h =
     let a = openingTest e h in
     pick (isDone a) (closeOutcome (e .waits) (isOne h) a (closeMoved (isOne h) (own (isOne h) e) (peer (isOne h) e))) (unchangedEnds e a)

@@ -6,7 +6,7 @@ use Rattle.endpoint.specs.declared.ends.Pending.{Pending}
 use Rattle.definition.specs.declared.Endpoint.{Endpoint}
 use Rattle.endpoint.specs.declared.ends.Moved.{Moved}
 use Rattle.definition.specs.declared.Ends.{Ends}
-use Rattle.endpoint.specs.declared.ends.Outcome.{Outcome}
+use Rattle.endpoint.specs.declared.ends.EndsOutcome.{EndsOutcome}
 use Rattle.definition.specs.Signal.{WRITABLE, «WRITE_DISABLED», «PEER_WRITE_DISABLED», bitIf}
 use Rattle.definition.specs.Status.{pick}
 use Rattle.definition.specs.Pair.{withReadDisabled, own, peer, isOne}
@@ -39,5 +39,5 @@ shutMoved t a b read write =
     })
 
 -- the outcome by the answer: a refused call changes nothing
-unfoldable pub shutEnds : Ends → (h : ℕ) → (read write : Bool) → Outcome
+unfoldable pub shutEnds : Ends → (h : ℕ) → (read write : Bool) → EndsOutcome
 shutEnds e h read write = movedIf e h (openingTest e h) (shutMoved (isOne h) (own (isOne h) e) (peer (isOne h) e) read write)

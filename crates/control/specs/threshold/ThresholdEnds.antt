@@ -4,7 +4,7 @@ use mathlib.Core.Bool.{Bool}
 use Rattle.definition.specs.declared.Endpoint.{Endpoint}
 use Rattle.endpoint.specs.declared.ends.Moved.{Moved}
 use Rattle.definition.specs.declared.Ends.{Ends}
-use Rattle.endpoint.specs.declared.ends.Outcome.{Outcome}
+use Rattle.endpoint.specs.declared.ends.EndsOutcome.{EndsOutcome}
 use Rattle.definition.specs.Signal.{«READ_THRESHOLD», reached, «WRITE_THRESHOLD»}
 use Rattle.definition.specs.Pair.{withThresholds, own, peer, isOne}
 use Rattle.control.specs.ends.Changes.{bitVisit, changedEnd, firstOnly, movedIf}
@@ -23,10 +23,10 @@ writeThresholdMoved C t a b n =
     firstOnly (changedEnd first (withThresholds (record { read = a .thresholds .read; write = n }) a)) b first
 
 -- the outcome of setting the read threshold, by the answer
-unfoldable pub readThresholdEnds : Ends → (h n : ℕ) → Outcome
+unfoldable pub readThresholdEnds : Ends → (h n : ℕ) → EndsOutcome
 readThresholdEnds e h n = movedIf e h (readThresholdAnswer e h n) (readThresholdMoved (isOne h) (own (isOne h) e) (peer (isOne h) e) n)
 
 -- the outcome of setting the write threshold, by the answer
-unfoldable pub writeThresholdEnds : Ends → (h n : ℕ) → Outcome
+unfoldable pub writeThresholdEnds : Ends → (h n : ℕ) → EndsOutcome
 writeThresholdEnds e h n =
     movedIf e h (writeThresholdAnswer e h n) (writeThresholdMoved (e .capacity) (isOne h) (own (isOne h) e) (peer (isOne h) e) n)

@@ -2,9 +2,9 @@
 use definition::Answer;
 use definition::Endpoint;
 use endpoint::bits::bit_if;
+use endpoint::ends::EndsOutcome;
 use endpoint::ends::Moved;
 use endpoint::ends::NO_VISIT;
-use endpoint::ends::Outcome;
 use endpoint::ends::Pending;
 use endpoint::ends::Visits;
 use endpoint::signal::changed;
@@ -50,7 +50,7 @@ pub fn first_only(own: Endpoint, peer: Endpoint, first: Pending) -> Moved
 }
 
 // The outcome of a call with at most two changes.
-pub fn put_both(waits: usize, one: bool, answer: Answer, moved: Moved) -> Outcome
+pub fn put_both(waits: usize, one: bool, answer: Answer, moved: Moved) -> EndsOutcome
     ensures { λ r. ⌜ r ≡ outcomeOf waits one answer moved noVisits ⌝ }
 {
     endpoint::ends::put_back(waits, one, answer, moved, endpoint::ends::no_visits())

@@ -3,8 +3,8 @@ use crate::ends::change;
 use definition::Answer;
 use definition::Endpoint;
 use definition::Ends;
+use endpoint::ends::EndsOutcome;
 use endpoint::ends::Moved;
-use endpoint::ends::Outcome;
 use endpoint::ends::Pending;
 use endpoint::signal::PEER_CLOSED;
 use endpoint::signal::WRITABLE;
@@ -35,7 +35,7 @@ fn close_moved(one: bool, own: Endpoint, peer: Endpoint) -> Moved
 }
 
 // A close looks at the waits wherever there are any, since it removes those of its end.
-fn close_outcome(waits: usize, one: bool, answer: Answer, moved: Moved) -> Outcome
+fn close_outcome(waits: usize, one: bool, answer: Answer, moved: Moved) -> EndsOutcome
     ensures { λ r. ⌜ r ≡ closeOutcome waits one answer moved ⌝ }
 {
     let mut r = change::put_both(waits, one, answer, moved);
@@ -44,7 +44,7 @@ fn close_outcome(waits: usize, one: bool, answer: Answer, moved: Moved) -> Outco
 }
 
 // Closes an end: its queue is gone, and an open peer gains PEER_CLOSED.
-pub fn close_ends(e: Ends, handle: u32) -> Outcome
+pub fn close_ends(e: Ends, handle: u32) -> EndsOutcome
     ensures { λ r. ⌜ r ≡ closeEnds e handle ⌝ }
 {
     let a = answers::tests::opening_test(e, handle);

@@ -3,8 +3,8 @@ use crate::ends::change;
 use definition::Endpoint;
 use definition::Ends;
 use endpoint::bits::bit_if;
+use endpoint::ends::EndsOutcome;
 use endpoint::ends::Moved;
-use endpoint::ends::Outcome;
 use endpoint::ends::Pending;
 use endpoint::signal::PEER_WRITE_DISABLED;
 use endpoint::signal::WRITABLE;
@@ -53,7 +53,7 @@ fn shut_moved(one: bool, own: Endpoint, peer: Endpoint, read: bool, write: bool)
 }
 
 // Ends reading, writing or both at this end; an open peer gets the same with both flags negated.
-pub fn shutdown_ends(e: Ends, handle: u32, read: bool, write: bool) -> Outcome
+pub fn shutdown_ends(e: Ends, handle: u32, read: bool, write: bool) -> EndsOutcome
     ensures { λ r. ⌜ r ≡ shutEnds e handle read write ⌝ }
 {
     let a = answers::tests::opening_test(e, handle);

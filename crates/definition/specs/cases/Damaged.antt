@@ -14,7 +14,7 @@ use Rattle.definition.specs.Status.{answerWord}
 use Rattle.definition.specs.Pair.{endsOf}
 use Rattle.definition.specs.Disposition.{disposeAnswer}
 use Rattle.definition.specs.Calls.{State, state, setDisposition, plainDisposition, plainWrite, write, control}
-use Rattle.definition.specs.cases.States.{datagram, empty, opened, pair, long, queued, eight, closed, stream, queue, end, slices, first, Row, is, no, rowWord}
+use Rattle.definition.specs.cases.States.{onDatagram, emptyQueue, opened, pair, long, queued, pairOfEight, closedWith, onStream, queue, end, lentSlices, first, Row, is, refusedWith, rowWord}
 use Rattle.definition.specs.cases.EveryCall.{everyCall, internal}
 
 -- ---- the edges
@@ -28,54 +28,54 @@ abbrev pub edge : (fine damaged : State) → Edge
 edge s s′ = record { fine = s; damaged = s′ }
 
 -- a pair with this C; with so many packets and waits
-abbrev pub capacity : (datagram : Bool) → ℕ → State
-capacity dg C = state (pair dg C 0 0 (opened empty) (opened empty)) long long
+abbrev pub capacity : (onDatagram : Bool) → ℕ → State
+capacity dg C = state (pair dg C 0 0 (opened emptyQueue) (opened emptyQueue)) long long
 
-abbrev pub places : (datagram : Bool) → (packets waits : ℕ) → State
+abbrev pub places : (onDatagram : Bool) → (packets waits : ℕ) → State
 places dg packets waits = state (pair dg 8 packets waits (opened (queued dg)) (opened (queued dg))) long long
 
 -- a queue at end 1, and at end 2, which is open or closed
-abbrev pub atOne : (Queue → Endpoint) → (datagram : Bool) → Queue → State
-atOne made dg q = state (eight dg (made q) (opened (queued dg))) long long
+abbrev pub atOne : (Queue → Endpoint) → (onDatagram : Bool) → Queue → State
+atOne made dg q = state (pairOfEight dg (made q) (opened (queued dg))) long long
 
-abbrev pub atTwo : (Queue → Endpoint) → (datagram : Bool) → Queue → State
-atTwo made dg q = state (eight dg (opened (queued dg)) (made q)) long long
+abbrev pub atTwo : (Queue → Endpoint) → (onDatagram : Bool) → Queue → State
+atTwo made dg q = state (pairOfEight dg (opened (queued dg)) (made q)) long long
 
 -- at either end, open and closed; on either kind of pair
-abbrev pub either : (datagram : Bool) → (fine damaged : Queue) → List Edge
+abbrev pub either : (onDatagram : Bool) → (fine damaged : Queue) → List Edge
 either dg q q′ =
     edge (atOne opened dg q) (atOne opened dg q′)
     ∷ edge (atTwo opened dg q) (atTwo opened dg q′)
-    ∷ edge (atOne closed dg q) (atOne closed dg q′)
-    ∷ edge (atTwo closed dg q) (atTwo closed dg q′)
+    ∷ edge (atOne closedWith dg q) (atOne closedWith dg q′)
+    ∷ edge (atTwo closedWith dg q) (atTwo closedWith dg q′)
     ∷ []
 
 abbrev pub both : (fine damaged : Queue) → List Edge
-both q q′ = either stream q q′ ++ either datagram q q′
+both q q′ = either onStream q q′ ++ either onDatagram q q′
 
 unfoldable pub edges : List Edge
 edges =
     -- C
-    edge (capacity stream 1) (capacity stream 0)
-    ∷ edge (capacity datagram 1) (capacity datagram 0)
-    ∷ edge (capacity stream 262144) (capacity stream 262145)
-    ∷ edge (capacity datagram 262144) (capacity datagram 262145)
+    edge (capacity onStream 1) (capacity onStream 0)
+    ∷ edge (capacity onDatagram 1) (capacity onDatagram 0)
+    ∷ edge (capacity onStream 262144) (capacity onStream 262145)
+    ∷ edge (capacity onDatagram 262144) (capacity onDatagram 262145)
     -- places: packets, waits, both
-    ∷ edge (places stream 128 0) (places stream 129 0)
-    ∷ edge (places datagram 128 0) (places datagram 129 0)
-    ∷ edge (places stream 0 128) (places stream 0 129)
-    ∷ edge (places datagram 0 128) (places datagram 0 129)
-    ∷ edge (places stream 60 68) (places stream 60 69)
-    ∷ edge (places datagram 60 68) (places datagram 60 69)
+    ∷ edge (places onStream 128 0) (places onStream 129 0)
+    ∷ edge (places onDatagram 128 0) (places onDatagram 129 0)
+    ∷ edge (places onStream 0 128) (places onStream 0 129)
+    ∷ edge (places onDatagram 0 128) (places onDatagram 0 129)
+    ∷ edge (places onStream 60 68) (places onStream 60 69)
+    ∷ edge (places onDatagram 60 68) (places onDatagram 60 69)
     -- the ring's start, the table's start, on stream pairs too
     ∷ both (queue 7 3 7 1) (queue 8 3 7 1)
     ++ both (queue 7 3 7 1) (queue 7 3 8 1)
     -- queued bytes
     ++ both (queue 7 8 7 1) (queue 7 9 7 1)
     -- lengths, on datagram pairs: more than the bytes, none with bytes, some without bytes
-    ++ either datagram (queue 7 3 7 3) (queue 7 3 7 4)
-    ++ either datagram (queue 7 3 7 1) (queue 7 3 7 0)
-    ++ either datagram (queue 7 0 7 0) (queue 7 0 7 1)
+    ++ either onDatagram (queue 7 3 7 3) (queue 7 3 7 4)
+    ++ either onDatagram (queue 7 3 7 1) (queue 7 3 7 0)
+    ++ either onDatagram (queue 7 0 7 0) (queue 7 0 7 1)
 
 -- an end whose rights and thresholds no run leaves
 abbrev odd : Queue → Endpoint
@@ -85,33 +85,33 @@ odd q = record { closed = false; «read_disabled» = false; rights = 8; signals 
 unfoldable pub unlisted : List State
 unlisted =
     -- stream pairs have no lengths
-    atOne opened stream (queue 7 3 0 4)
-    ∷ atTwo opened stream (queue 7 3 0 4)
-    ∷ atOne opened stream (queue 7 3 0 0)
-    ∷ atTwo opened stream (queue 7 3 0 0)
-    ∷ atOne opened stream (queue 7 0 0 1)
-    ∷ atTwo opened stream (queue 7 0 0 1)
+    atOne opened onStream (queue 7 3 0 4)
+    ∷ atTwo opened onStream (queue 7 3 0 4)
+    ∷ atOne opened onStream (queue 7 3 0 0)
+    ∷ atTwo opened onStream (queue 7 3 0 0)
+    ∷ atOne opened onStream (queue 7 0 0 1)
+    ∷ atTwo opened onStream (queue 7 0 0 1)
     -- rights above 7 and thresholds above C
-    ∷ atOne odd stream (queued stream)
-    ∷ atTwo odd datagram (queued datagram)
+    ∷ atOne odd onStream (queued onStream)
+    ∷ atTwo odd onDatagram (queued onDatagram)
     ∷ []
 
 -- ---- own enable
 
 -- End 2, open or closed, has a byte to read and PEER_WRITE_DISABLED, as no closed end has in a run: own enable looks at an open peer only.
 abbrev backlog : (closed : Bool) → State
-backlog closed = state (eight stream (opened empty) (end closed 16 (queue 0 1 0 0))) (slices 8 []) (slices 8 [])
+backlog closed = state (pairOfEight onStream (opened emptyQueue) (end closed 16 (queue 0 1 0 0))) (lentSlices 8 []) (lentSlices 8 [])
 
 -- the same by a caller that is closed: the handle comes before the checks
 abbrev backlogOfClosed : State
-backlogOfClosed = state (eight stream (closed empty) (end false 16 (queue 0 1 0 0))) (slices 8 []) (slices 8 [])
+backlogOfClosed = state (pairOfEight onStream (closedWith emptyQueue) (end false 16 (queue 0 1 0 0))) (lentSlices 8 []) (lentSlices 8 [])
 
 unfoldable pub backlogRows : List Row
 backlogRows =
-    no (backlog false) (control (plainDisposition 1 2 0)) 20
+    refusedWith (backlog false) (control (plainDisposition 1 2 0)) 20
     ∷ is (backlog true) (control (plainDisposition 1 2 0)) 0
-    ∷ no backlogOfClosed (control (plainDisposition 1 2 0)) 11
-    ∷ no backlogOfClosed (control (setDisposition 1 2 0)) 11
+    ∷ refusedWith backlogOfClosed (control (plainDisposition 1 2 0)) 11
+    ∷ refusedWith backlogOfClosed (control (setDisposition 1 2 0)) 11
     ∷ []
 
 -- the answer to a disposition by its cases, of which no call by numbers is made
@@ -128,14 +128,14 @@ byCases =
 -- ---- write
 
 -- a closed end whose queue is full, as no run leaves one: a closed peer comes before a full queue
-abbrev closedFull : (datagram : Bool) → Queue → State
-closedFull dg q = state (eight dg (opened empty) (closed q)) (slices 8 (first 8)) (slices 8 (first 8))
+abbrev closedFull : (onDatagram : Bool) → Queue → State
+closedFull dg q = state (pairOfEight dg (opened emptyQueue) (closedWith q)) (lentSlices 8 (first 8)) (lentSlices 8 (first 8))
 
 unfoldable pub closedRows : List Row
 closedRows =
-    no (closedFull stream (queue 7 8 7 0)) (plainWrite 1) 24
-    ∷ no (closedFull datagram (queue 7 8 7 1)) (plainWrite 1) 24
-    ∷ no (closedFull stream (queue 7 8 7 0)) (write 1 0 4096 3 0) 24
+    refusedWith (closedFull onStream (queue 7 8 7 0)) (plainWrite 1) 24
+    ∷ refusedWith (closedFull onDatagram (queue 7 8 7 1)) (plainWrite 1) 24
+    ∷ refusedWith (closedFull onStream (queue 7 8 7 0)) (write 1 0 4096 3 0) 24
     ∷ []
 
 -- ---- the claim

@@ -7,7 +7,7 @@ use Rattle.definition.specs.declared.Answer.{Answer}
 use Rattle.definition.specs.declared.Answer.the-variants.{Done, Refused}
 use Rattle.definition.specs.Calls.{setDisposition, shutdown, plainDisposition, plainShutdown, setReadThreshold, setWriteThreshold, getThresholds, getInfo, wait, Call, write, read, plainWrite, plainRead, close, control, takePacket, State, answerOf}
 use Rattle.definition.specs.Status.{statusNumber}
-use Rattle.definition.specs.cases.Lines.{wordOf}
+use Rattle.definition.specs.cases.Lines.{wordAnswered}
 use Rattle.definition.specs.cases.States.{finding}
 
 -- by one handle; most have more wrong with them, which is tested later
@@ -27,5 +27,5 @@ isInternal (Refused e) = eqb (statusNumber e) 1
 
 -- whether each call on a state is INTERNAL
 unfoldable pub internal : State → List Bool
-unfolding wordOf everyCall
+unfolding wordAnswered everyCall
 internal s = map (λ (c : Call). isInternal (answerOf s (finding c))) everyCall

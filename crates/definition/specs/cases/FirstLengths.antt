@@ -5,42 +5,42 @@ use mathlib.Core.Bool.{false}
 use mathlib.Core.Path.{_≡_}
 use lib.ListN.{replicate}
 use Rattle.definition.specs.Calls.{write, read, State, getInfo, Call, plainWrite, plainRead, control}
-use Rattle.definition.specs.cases.States.{stream, datagram, opened, closed, slices, none, first, Row, queued, empty, is, no, rowWord}
-use Rattle.definition.specs.cases.LentCalls.{each, writesTo, writes, reads, infos, done, refused, lent, noEnd, others}
+use Rattle.definition.specs.cases.States.{onStream, onDatagram, opened, closedWith, lentSlices, none, first, Row, queued, emptyQueue, is, refusedWith, rowWord}
+use Rattle.definition.specs.cases.LentCalls.{each, writesTo, writes, reads, infos, doneWord, refusedWord, lent, noSuchEnd, otherCalls}
 
 unfoldable pub firstRows : List Row
 firstRows =
-    writes opened datagram (slices 8 (first 0)) (refused 1) ++ writes opened datagram (slices 8 (first 1)) (done 3)
-    ++ writes opened datagram (slices 8 (first 3)) (done 3) ++ writes opened datagram (slices 8 (first 4)) (refused 1)
-    ++ reads opened datagram (slices 8 (first 0)) (refused 1) ++ reads opened datagram (slices 8 (first 1)) (done 1)
-    ++ reads opened datagram (slices 8 (first 3)) (done 3) ++ reads opened datagram (slices 8 (first 4)) (refused 1)
-    ++ infos opened datagram (first 0) (refused 1) ++ infos opened datagram (first 1) (done 0)
-    ++ infos opened datagram (first 3) (done 0) ++ infos opened datagram (first 4) (refused 1)
+    writes opened onDatagram (lentSlices 8 (first 0)) (refusedWord 1) ++ writes opened onDatagram (lentSlices 8 (first 1)) (doneWord 3)
+    ++ writes opened onDatagram (lentSlices 8 (first 3)) (doneWord 3) ++ writes opened onDatagram (lentSlices 8 (first 4)) (refusedWord 1)
+    ++ reads opened onDatagram (lentSlices 8 (first 0)) (refusedWord 1) ++ reads opened onDatagram (lentSlices 8 (first 1)) (doneWord 1)
+    ++ reads opened onDatagram (lentSlices 8 (first 3)) (doneWord 3) ++ reads opened onDatagram (lentSlices 8 (first 4)) (refusedWord 1)
+    ++ infos opened onDatagram (first 0) (refusedWord 1) ++ infos opened onDatagram (first 1) (doneWord 0)
+    ++ infos opened onDatagram (first 3) (doneWord 0) ++ infos opened onDatagram (first 4) (refusedWord 1)
     -- before the handle, a closed peer and the arguments
-    ++ writes closed datagram (slices 8 (first 0)) (refused 1) ++ writes closed datagram (slices 8 (first 4)) (refused 1)
-    ++ reads closed datagram (slices 8 (first 0)) (refused 1) ++ reads closed datagram (slices 8 (first 4)) (refused 1)
-    ++ infos closed datagram (first 0) (refused 1) ++ infos closed datagram (first 4) (refused 1)
-    ++ writesTo opened closed datagram (slices 8 (first 0)) (refused 1) ++ writesTo opened closed datagram (slices 8 (first 4)) (refused 1)
-    ++ each opened opened datagram none (slices 8 (first 4)) (refused 1) (λ h. write h 1 0 1 0)
-    ++ each opened opened datagram (slices 8 (first 4)) none (refused 1) (λ h. read h 5 0 1 0)
+    ++ writes closedWith onDatagram (lentSlices 8 (first 0)) (refusedWord 1) ++ writes closedWith onDatagram (lentSlices 8 (first 4)) (refusedWord 1)
+    ++ reads closedWith onDatagram (lentSlices 8 (first 0)) (refusedWord 1) ++ reads closedWith onDatagram (lentSlices 8 (first 4)) (refusedWord 1)
+    ++ infos closedWith onDatagram (first 0) (refusedWord 1) ++ infos closedWith onDatagram (first 4) (refusedWord 1)
+    ++ writesTo opened closedWith onDatagram (lentSlices 8 (first 0)) (refusedWord 1) ++ writesTo opened closedWith onDatagram (lentSlices 8 (first 4)) (refusedWord 1)
+    ++ each opened opened onDatagram none (lentSlices 8 (first 4)) (refusedWord 1) (λ h. write h 1 0 1 0)
+    ++ each opened opened onDatagram (lentSlices 8 (first 4)) none (refusedWord 1) (λ h. read h 5 0 1 0)
     -- after the slices
-    ++ writes opened datagram (slices 7 (first 0)) (refused 10) ++ reads opened datagram (slices 7 (first 4)) (refused 10)
+    ++ writes opened onDatagram (lentSlices 7 (first 0)) (refusedWord 10) ++ reads opened onDatagram (lentSlices 7 (first 4)) (refusedWord 10)
     -- not on stream pairs
-    ++ writes opened stream (slices 8 (first 0)) (done 3) ++ reads opened stream (slices 8 (first 0)) (done 3) ++ infos opened stream (first 0) (done 0)
+    ++ writes opened onStream (lentSlices 8 (first 0)) (doneWord 3) ++ reads opened onStream (lentSlices 8 (first 0)) (doneWord 3) ++ infos opened onStream (first 0) (doneWord 0)
 
 -- a first length of 0 at both ends; and two empty queues, with 0 where they start
-abbrev zeros : State
-zeros = lent datagram (queued datagram) (slices 8 (first 0))
+abbrev zeroFirst : State
+zeroFirst = lent onDatagram (queued onDatagram) (lentSlices 8 (first 0))
 
 abbrev nothing : State
-nothing = lent datagram empty (slices 8 (replicate 8 0))
+nothing = lent onDatagram emptyQueue (lentSlices 8 (replicate 8 0))
 
 unfoldable pub untestedFirsts : List Row
 untestedFirsts =
     -- a handle other than 1 or 2, and calls that are lent no slice
-    noEnd zeros ++ map (λ (c : Call). is zeros c 0) (others 1 ++ others 2)
+    noSuchEnd zeroFirst ++ map (λ (c : Call). is zeroFirst c 0) (otherCalls 1 ++ otherCalls 2)
     -- where no length is queued, there is no first one
-    ++ (is nothing (plainWrite 1) 3 ∷ is nothing (write 2 0 4096 3 0) 3 ∷ no nothing (plainRead 1 false) 22 ∷ no nothing (read 2 0 4096 3 0) 22
+    ++ (is nothing (plainWrite 1) 3 ∷ is nothing (write 2 0 4096 3 0) 3 ∷ refusedWith nothing (plainRead 1 false) 22 ∷ refusedWith nothing (read 2 0 4096 3 0) 22
     ∷ is nothing (control (getInfo 1)) 0 ∷ [])
 
 pub record FirstLengths : Type 0 where

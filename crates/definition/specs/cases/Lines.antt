@@ -9,9 +9,9 @@ use Rattle.definition.specs.declared.SignalWord.{SignalWord}
 use Rattle.definition.specs.declared.Record.the-variants.{Empty, Count, Info, Limits, Packet}
 use Rattle.definition.specs.declared.Answer.{Answer}
 use Rattle.definition.specs.declared.Answer.the-variants.{Done, Refused}
-use Rattle.definition.specs.Calls.{Seen, Outcome, Create, Input, Slices, seenOf, createdBy, start, controlAnswer, answerTo, controlled, pairAfter, memoryAfter, written, stateAfter, landed, deliveredIn, after, outcome, outcomes, pairCreated, State, answerOf}
+use Rattle.definition.specs.Calls.{Seen, Outcome, Create, Input, Slices, seenOf, createdBy, stateCreated, controlAnswer, answerTo, controlled, pairAfter, memoryAfter, written, stateAfter, landed, deliveredIn, after, outcome, outcomes, pairCreated, State, answerOf}
 use Rattle.definition.specs.Status.{answerWord, statusNumber, recordCount, countOf, isDone, refuseIf, refuseUnless, _then_, pick, _and_, _or_}
-use Rattle.definition.specs.Ring.{place, front, put}
+use Rattle.definition.specs.Ring.{position, front, put}
 use Rattle.definition.specs.Port.{filter, fires, firedOf, changeOf, fired, kept, takenOf, insertedOf, appendedOf, registeredOf, droppedOf, ofOther, others, packetsOf, waitsOf, unusedOf, tableOf, newPlaces, endNumber, waitOf, observe, packetOf, waitAnswer, waited, takeAnswer, took}
 use Rattle.definition.specs.Signal.{changedWord, meets, reached, missed, bitIf}
 use Rattle.definition.specs.Disposition.{enables, hasBacklog, hasOpenBacklog, enablesOver, disposeChecks, writing, peerWriting, reading, disposeEffect, disposed, dispositionOf, plainDisposeAnswer, userDisposeAnswer}
@@ -28,34 +28,34 @@ use Rattle.definition.specs.Effect.{ifOpen, ownBit, keepingWaits, withCh
 use Rattle.definition.specs.Memory.{fits, countFits, isNull, littleEndian, countLanded, lookup}
 
 -- the answer word, both signal words, the bytes delivered, and the record of a done call that has one beside its count
-pub record Line : Type 0 where
+pub record ShownLine : Type 0 where
   pub word : ℤ
   pub end1 : SignalWord
   pub end2 : SignalWord
   pub bytes : List ℕ
   pub holds : Option Record
 
-unfoldable pub recordOf : Answer → Option Record
-recordOf (Done Empty) = none
-recordOf (Done (Count n)) = none
-recordOf (Done (Info i)) = some (Info i)
-recordOf (Done (Limits t)) = some (Limits t)
-recordOf (Done (Packet k)) = some (Packet k)
-recordOf (Refused s) = none
+unfoldable pub recordShown : Answer → Option Record
+recordShown (Done Empty) = none
+recordShown (Done (Count n)) = none
+recordShown (Done (Info i)) = some (Info i)
+recordShown (Done (Limits t)) = some (Limits t)
+recordShown (Done (Packet k)) = some (Packet k)
+recordShown (Refused s) = none
 
-abbrev pub lineOf : Seen → List ℕ → Line
-lineOf s bytes = record { word = answerWord (s .answer); end1 = s .word1; end2 = s .word2; bytes = bytes; holds = recordOf (s .answer) }
+abbrev pub lineShown : Seen → List ℕ → ShownLine
+lineShown s bytes = record { word = answerWord (s .answer); end1 = s .word1; end2 = s .word2; bytes = bytes; holds = recordShown (s .answer) }
 
 -- the line of create, then those of the calls
-abbrev pub shownLines : Seen → List Outcome → List Line
-shownLines x os = lineOf x [] ∷ map (λ (o : Outcome). lineOf (o .seen) (o .delivered)) os
+abbrev pub shownLines : Seen → List Outcome → List ShownLine
+shownLines x os = lineShown x [] ∷ map (λ (o : Outcome). lineShown (o .seen) (o .delivered)) os
 
 -- the lines of a run, computed. To unfold it is to unfold all that a call computes with.
-unfoldable pub linesOf : Create → (one two : Slices) → List Input → List Line
-unfolding recordOf statusNumber recordCount answerWord countOf isDone refuseIf refuseUnless _then_ pick _and_ _or_ place front put filter firedOf insertedOf appendedOf registeredOf takenOf droppedOf changeOf changedWord meets packetsOf waitsOf unusedOf tableOf newPlaces endNumber waitOf observe packetOf fires fired kept ofOther others enables hasBacklog hasOpenBacklog enablesOver disposeChecks newEnd noEnd withQueue withSignals withReadDisabled withThresholds closedEnd shown unlessClosed infoOf noQueue soundLengths soundQueue shortTable shortSlices hasLength firstLength badFirst emptyAnswer availableIn readSize lostByReader gainedByWriter datagramSize writeSize reached missed bitIf gainedByPeer lostByWriter numbersAnswer createAnswer writing peerWriting reading disposeEffect disposed shutdownAnswer shutting shutReading shutEffect shut infoAnswer isHandle withEnd withPlaces ifOpen ownBit keepingWaits withChange signalChange changed changedByAll prepared applied newPair noPair readAnswer leaving drainedQueue readEffect consumed pairRead bufferRead soundEnds soundTest lentOf slicesTest tableTest isOpen handleTest openingTest readThresholdAnswer writeThresholdAnswer readThresholdEffect writeThresholdEffect readThresholdSet writeThresholdSet thresholdsAnswer waitAnswer waited takeAnswer took closeAnswer closeEffect closed writeAnswer fedQueue writeEffect wrote pairWritten ringFed ringWritten tableFed tableWritten dispositionOf plainDisposeAnswer userDisposeAnswer userShutdownAnswer fits countFits isNull lookup littleEndian countLanded userReadAnswer bytesLanded writeRanges userWriteAnswer controlAnswer answerTo controlled pairAfter written stateAfter landed memoryAfter deliveredIn after outcome outcomes pairCreated
-linesOf c one two is = shownLines (seenOf (createdBy c one two) (pairCreated c (createdBy c one two))) (outcomes (start c one two) is)
+unfoldable pub linesOf : Create → (one two : Slices) → List Input → List ShownLine
+unfolding recordShown statusNumber recordCount answerWord countOf isDone refuseIf refuseUnless _then_ pick _and_ _or_ position front put filter firedOf insertedOf appendedOf registeredOf takenOf droppedOf changeOf changedWord meets packetsOf waitsOf unusedOf tableOf newPlaces endNumber waitOf observe packetOf fires fired kept ofOther others enables hasBacklog hasOpenBacklog enablesOver disposeChecks newEnd noEnd withQueue withSignals withReadDisabled withThresholds closedEnd shown unlessClosed infoOf noQueue soundLengths soundQueue shortTable shortSlices hasLength firstLength badFirst emptyAnswer availableIn readSize lostByReader gainedByWriter datagramSize writeSize reached missed bitIf gainedByPeer lostByWriter numbersAnswer createAnswer writing peerWriting reading disposeEffect disposed shutdownAnswer shutting shutReading shutEffect shut infoAnswer isHandle withEnd withPlaces ifOpen ownBit keepingWaits withChange signalChange changed changedByAll prepared applied newPair noPair readAnswer leaving drainedQueue readEffect consumed pairRead bufferRead soundEnds soundTest lentOf slicesTest tableTest isOpen handleTest openingTest readThresholdAnswer writeThresholdAnswer readThresholdEffect writeThresholdEffect readThresholdSet writeThresholdSet thresholdsAnswer waitAnswer waited takeAnswer took closeAnswer closeEffect closed writeAnswer fedQueue writeEffect wrote pairWritten ringFed ringWritten tableFed tableWritten dispositionOf plainDisposeAnswer userDisposeAnswer userShutdownAnswer fits countFits isNull lookup littleEndian countLanded userReadAnswer bytesLanded writeRanges userWriteAnswer controlAnswer answerTo controlled pairAfter written stateAfter landed memoryAfter deliveredIn after outcome outcomes pairCreated
+linesOf c one two is = shownLines (seenOf (createdBy c one two) (pairCreated c (createdBy c one two))) (outcomes (stateCreated c one two) is)
 
 -- the answer word of one call, computed
-unfoldable pub wordOf : State → Input → ℤ
+unfoldable pub wordAnswered : State → Input → ℤ
 unfolding linesOf
-wordOf s i = answerWord (answerOf s i)
+wordAnswered s i = answerWord (answerOf s i)

@@ -11,17 +11,17 @@ use Rattle.definition.specs.declared.Status.the-variants.{InvalidArgs}
 use Rattle.definition.specs.declared.Pair.{Pair}
 use Rattle.definition.specs.declared.Step.{Step}
 use Rattle.definition.specs.Signal.{changedWord}
-use Rattle.definition.specs.Write.{Wrote, UserWrote, pairWritten}
-use Rattle.definition.specs.Read.{Read, BytesRead, UserRead, pairRead}
+use Rattle.definition.specs.Write.{Writes, UserWrites, pairWritten}
+use Rattle.definition.specs.Read.{Reads, BytesRead, UserReads, pairRead}
 use Rattle.definition.specs.declared.Disposition.the-variants.{Unchanged, Disable}
 use Rattle.definition.specs.Disposition.{disposed}
 use Rattle.definition.specs.Shutdown.{shut}
 use Rattle.definition.specs.Close.{closed as closedPair}
-use Rattle.definition.specs.cases.States.{stream, datagram, empty, queue, queued, end, opened, eight}
+use Rattle.definition.specs.cases.States.{onStream, onDatagram, emptyQueue, queue, queued, end, opened, pairOfEight}
 use Rattle.definition.specs.cases.Scripts.{letters}
 
 abbrev pub three : Pair
-three = eight datagram (opened (queued datagram)) (opened (queued datagram))
+three = pairOfEight onDatagram (opened (queued onDatagram)) (opened (queued onDatagram))
 
 -- `abc` in the ring, and its length in the table
 abbrev ringAbc : List ℕ
@@ -49,18 +49,18 @@ step p a = record { pair = p; answer = a }
 
 pub record Promises : Type 0 where
   -- a write of `cde` puts its bytes and its length behind those queued
-  pub written : Wrote three 1 (99 ∷ 100 ∷ 101 ∷ []) ringAbc ringBoth tableAbc tableBoth (step (pairWritten three 1 3) (Done (Count 3)))
+  pub written : Writes three 1 (99 ∷ 100 ∷ 101 ∷ []) ringAbc ringBoth tableAbc tableBoth (step (pairWritten three 1 3) (Done (Count 3)))
   -- over user memory it takes them from its address, and its count lands
-  pub userWritten : UserWrote three 1 4096 0 4098 3 4104 letters counted ringAbc ringBoth tableAbc tableBoth (step (pairWritten three 1 3) (Done (Count 3)))
+  pub userWritten : UserWrites three 1 4096 0 4098 3 4104 letters counted ringAbc ringBoth tableAbc tableBoth (step (pairWritten three 1 3) (Done (Count 3)))
   -- refused, it changes nothing
-  pub userRefused : UserWrote three 1 4096 0 4098 3 4105 letters letters ringAbc ringAbc tableAbc tableAbc (step three (Refused InvalidArgs))
+  pub userRefused : UserWrites three 1 4096 0 4098 3 4105 letters letters ringAbc ringAbc tableAbc tableAbc (step three (Refused InvalidArgs))
   -- a read into 2 bytes delivers the first 2, and the whole datagram leaves
-  pub read : Read three 2 false ringAbc tableAbc (0 ∷ 0 ∷ []) (97 ∷ 98 ∷ []) (step (pairRead three 2 false 3 2) (Done (Count 2)))
+  pub read : Reads three 2 false ringAbc tableAbc (0 ∷ 0 ∷ []) (97 ∷ 98 ∷ []) (step (pairRead three 2 false 3 2) (Done (Count 2)))
   -- over user memory its bytes land first, the count over them
   pub bytesRead : BytesRead three 2 4096 0 4106 3 4104 ringAbc tableAbc letters landedAbc (step (pairRead three 2 false 3 3) (Done (Count 3)))
-  pub userRead : UserRead three 2 4096 0 4106 3 4104 ringAbc tableAbc letters counted (step (pairRead three 2 false 3 3) (Done (Count 3)))
+  pub userRead : UserReads three 2 4096 0 4106 3 4104 ringAbc tableAbc letters counted (step (pairRead three 2 false 3 3) (Done (Count 3)))
   -- refused, it changes nothing
-  pub userUnread : UserRead three 2 4096 0 4106 3 4105 ringAbc tableAbc letters letters (step three (Refused InvalidArgs))
+  pub userUnread : UserReads three 2 4096 0 4106 3 4105 ringAbc tableAbc letters letters (step three (Refused InvalidArgs))
   -- a change clears, then sets: a bit that is in both is set. No call makes such a change.
   pub changed : changedWord 0x3 0x1 0x6 ≡ 0x5
 
@@ -68,11 +68,11 @@ pub record Promises : Type 0 where
 
 -- end 1 is closed and its word is 0; the queue of end 2 is full
 abbrev pub gone : Pair
-gone = eight stream (end true 0x0 empty) (opened (queue 7 8 0 0))
+gone = pairOfEight onStream (end true 0x0 emptyQueue) (opened (queue 7 8 0 0))
 
 pub record NextPairs : Type 0 where
   -- a close empties the queue, whose starts become 0, and leaves the end's own word; an open peer is told
-  pub closedQueue : closedPair true three .one .queue ≡ empty
+  pub closedQueue : closedPair true three .one .queue ≡ emptyQueue
   pub closedWord : closedPair true three .one .signals ≡ 0x2
   pub toldOfClose : closedPair true three .two .signals ≡ 0x4
   -- nothing is told to a closed peer: by close, read, disposition and shutdown

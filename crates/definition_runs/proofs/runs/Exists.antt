@@ -12,7 +12,7 @@ use Rattle.definition.specs.Pair.{isOne, own, peer, endsOf}
 use Rattle.definition.specs.Write.{writeAnswer, pairWritten, ringWritten, tableWritten, userWriteAnswer}
 use Rattle.definition.specs.Read.{readAnswer, pairRead, bufferRead, isPeek, userReadAnswer, bytesLanded}
 use Rattle.definition.specs.Memory.{countLanded}
-use Rattle.definition.specs.Calls.{setDisposition, shutdown, plainDisposition, plainShutdown, setReadThreshold, setWriteThreshold, getThresholds, getInfo, wait, takePacket, Call, write, read, plainWrite, plainRead, close, control, Input, input, State, state, ownSlices, peerSlices, Outcome, createdBy, after, outcome, outcomes, afterAll, pairCreated, start}
+use Rattle.definition.specs.Calls.{setDisposition, shutdown, plainDisposition, plainShutdown, setReadThreshold, setWriteThreshold, getThresholds, getInfo, wait, takePacket, Call, write, read, plainWrite, plainRead, close, control, Input, input, State, state, ownSlices, peerSlices, Outcome, createdBy, after, outcome, outcomes, afterAll, pairCreated, stateCreated}
 use Rattle.definition_runs.specs.Run.{Chain, none, next, Does, did-write, did-read, did-dispose, did-shutdown, did-plain-write, did-plain-read, did-plain-dispose, did-plain-shutdown, did-read-threshold, did-write-threshold, did-thresholds, did-info, did-wait, did-take, did-close, run, RunsExist}
 use Rattle.definition_runs.proofs.runs.Match.{calls-match}
 
@@ -103,4 +103,4 @@ pub runs-exist : RunsExist
 unfolding pairCreated
 runs-exist c one two is =
     run {r = record { pair = pairCreated c (createdBy c one two); answer = createdBy c one two }} (record { answer = refl; pair = refl })
-    (calls-exist (start c one two) is)
+    (calls-exist (stateCreated c one two) is)

@@ -14,7 +14,7 @@ use Rattle.definition.specs.Pair.{isOne, own, peer, endsOf}
 use Rattle.definition.specs.Write.{writeAnswer, pairWritten, ringWritten, tableWritten, userWriteAnswer}
 use Rattle.definition.specs.Read.{readAnswer, pairRead, isPeek, userReadAnswer}
 use Rattle.definition.specs.Memory.{countLanded}
-use Rattle.definition.specs.Calls.{Input, Slices, State, state, ownSlices, peerSlices, withPair, withPeer, seenOf, gives, view, ownLent, peerLent, controlAnswer, answerTo, controlled, pairAfter, memoryAfter, written, stateAfter, landed, deliveredIn, answerOf, afterBy, deliveredBy, outcomeBy, after, outcome}
+use Rattle.definition.specs.Calls.{Input, Slices, State, state, ownSlices, peerSlices, withPair, withPeerSlices, seenOf, gives, view, ownLent, peerLent, controlAnswer, answerTo, controlled, pairAfter, memoryAfter, written, stateAfter, landed, deliveredIn, answerOf, afterBy, deliveredBy, outcomeBy, after, outcome}
 use Rattle.definition_runs.specs.Run.{did-write, did-read, did-dispose, did-shutdown, did-plain-write, did-plain-read, did-plain-dispose, did-plain-shutdown, did-read-threshold, did-write-threshold, did-thresholds, did-info, did-wait, did-take, did-close, Matches, CallsMatch}
 use Rattle.definition_runs.proofs.runs.Memory.{buffer-back, landed-back}
 
@@ -84,12 +84,12 @@ module _ (s : State) (i : Input) where
 
 -- a write: the peer's slices
 wrote : (t : Bool) (s : State) (p p′ : Pair) (ring ring′ table table′ : List ℕ) → p ≡ p′ → ring ≡ ring′ → table ≡ table′
-    → withPeer t p (record { ring = ring; table = table }) s ≡ withPeer t p′ (record { ring = ring′; table = table′ }) s
+    → withPeerSlices t p (record { ring = ring; table = table }) s ≡ withPeerSlices t p′ (record { ring = ring′; table = table′ }) s
 wrote true s p p′ ring ring′ table table′ a b c = λ k. record { pair = a k; one = s .one; two = record { ring = b k; table = c k } }
 wrote false s p p′ ring ring′ table table′ a b c = λ k. record { pair = a k; one = record { ring = b k; table = c k }; two = s .two }
 
 -- the slices and the pair tell the state
-wrote-left : (t : Bool) (p : Pair) (l : Slices) (s : State) → withPeer t p l s ≡ state p (withPeer t p l s .one) (withPeer t p l s .two)
+wrote-left : (t : Bool) (p : Pair) (l : Slices) (s : State) → withPeerSlices t p l s ≡ state p (withPeerSlices t p l s .one) (withPeerSlices t p l s .two)
 wrote-left true p l s = refl
 wrote-left false p l s = refl
 
@@ -102,11 +102,11 @@ does-write : (s : State) (i : Input) (h : ℕ) (src ring′ table′ m : List �
     → ((x : Answer) (p : Pair) → stateAfter s i (i .call) x p ≡ written s h (countOf x) src)
     → ((x : Answer) → [] ≡ deliveredBy s i x)
     → m ≡ memoryAfter (i .base) (i .memory) (i .call) (r .answer) []
-    → Matches s i (withPeer (isOne h) (r .pair) (record { ring = ring′; table = table′ }) s)
-    (gives r (withPeer (isOne h) (r .pair) (record { ring = ring′; table = table′ }) s) [] m)
+    → Matches s i (withPeerSlices (isOne h) (r .pair) (record { ring = ring′; table = table′ }) s)
+    (gives r (withPeerSlices (isOne h) (r .pair) (record { ring = ring′; table = table′ }) s) [] m)
 unfolding after outcome written
 does-write s i h src ring′ table′ m r er ep eb el fp fs fd em =
-    let e : withPeer (isOne h) (r .pair) (record { ring = ring′; table = table′ }) s ≡ afterBy s i (r .answer) =
+    let e : withPeerSlices (isOne h) (r .pair) (record { ring = ring′; table = table′ }) s ≡ afterBy s i (r .answer) =
     wrote (isOne h) s (r .pair) _ ring′ _ table′ _ ep eb el ∙ sym (fs (r .answer) (pairAfter (view s) (i .call) (r .answer))) in
     record {
       state = e ∙ ap (afterBy s i) er;

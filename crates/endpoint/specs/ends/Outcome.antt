@@ -6,7 +6,7 @@ use Rattle.endpoint.specs.declared.ends.Pending.{Pending}
 use Rattle.endpoint.specs.declared.ends.Visits.{Visits}
 use Rattle.definition.specs.declared.Answer.{Answer}
 use Rattle.endpoint.specs.declared.ends.Moved.{Moved}
-use Rattle.endpoint.specs.declared.ends.Outcome.{Outcome}
+use Rattle.endpoint.specs.declared.ends.EndsOutcome.{EndsOutcome}
 use Rattle.definition.specs.declared.Endpoint.{Endpoint}
 use Rattle.definition.specs.declared.Ends.{Ends}
 use Rattle.definition.specs.Signal.{changedWord}
@@ -28,17 +28,17 @@ unfoldable pub canFire : (waits : ℕ) → Visits → Bool
 canFire waits v = pick (eqb waits 0) false (pick (keepsWord (v .first)) (not (keepsWord (v .second))) true)
 
 -- whether one of all changes can
-unfoldable pub anyFires : (waits : ℕ) → (visits more : Visits) → Bool
-anyFires waits v more = canFire waits v or canFire waits more
+unfoldable pub anyCanFire : (waits : ℕ) → (visits more : Visits) → Bool
+anyCanFire waits v more = canFire waits v or canFire waits more
 
 -- the outcome of a call by end t: its own end and its peer, put back by the handle, and the changes, `more` last
-unfoldable pub outcomeOf : (waits : ℕ) → Bool → Answer → Moved → (more : Visits) → Outcome
+unfoldable pub outcomeOf : (waits : ℕ) → Bool → Answer → Moved → (more : Visits) → EndsOutcome
 outcomeOf waits t a d more =
     record {
       one = pick t (d .own) (d .peer);
       two = pick t (d .peer) (d .own);
       answer = a;
-      fires = anyFires waits (d .visits) more;
+      fires = anyCanFire waits (d .visits) more;
       visits = d .visits;
       more = more;
     }
@@ -48,6 +48,6 @@ unfoldable pub keptEnds : (own peer : Endpoint) → Moved
 keptEnds a b = record { own = a; peer = b; visits = noVisits }
 
 -- its outcome
-unfoldable pub unchangedEnds : Ends → Answer → Outcome
+unfoldable pub unchangedEnds : Ends → Answer → EndsOutcome
 unchangedEnds e a =
     record { one = e .one; two = e .two; answer = a; fires = false; visits = noVisits; more = noVisits }

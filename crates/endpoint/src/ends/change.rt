@@ -1,7 +1,7 @@
 // The outcome of a call on the two ends, and whether a wait can fire.
+use crate::ends::EndsOutcome;
 use crate::ends::Moved;
 use crate::ends::NO_VISIT;
-use crate::ends::Outcome;
 use crate::ends::Pending;
 use crate::ends::Visits;
 use crate::ends::choice::end_if;
@@ -10,7 +10,7 @@ use definition::Answer;
 use definition::Endpoint;
 use definition::Ends;
 ghost use mathlib.Core.Path.{_≡_};
-ghost use Rattle.endpoint.specs.ends.Outcome.{noVisits, keepsWord, canFire, anyFires, outcomeOf, keptEnds, unchangedEnds};
+ghost use Rattle.endpoint.specs.ends.Outcome.{noVisits, keepsWord, canFire, anyCanFire, outcomeOf, keptEnds, unchangedEnds};
 
 // No changes.
 pub fn no_visits() -> Visits
@@ -45,7 +45,7 @@ pub fn can_fire(waits: usize, v: Visits) -> bool
 
 // Whether one of all changes can.
 fn any_fires(waits: usize, v: Visits, more: Visits) -> bool
-    ensures { λ r. ⌜ r ≡ anyFires waits v more ⌝ }
+    ensures { λ r. ⌜ r ≡ anyCanFire waits v more ⌝ }
 {
     if can_fire(waits, v) {
         return true;
@@ -54,13 +54,13 @@ fn any_fires(waits: usize, v: Visits, more: Visits) -> bool
 }
 
 // The caller's end and its peer, put back by the caller's handle.
-pub fn put_back(waits: usize, one: bool, answer: Answer, moved: Moved, more: Visits) -> Outcome
+pub fn put_back(waits: usize, one: bool, answer: Answer, moved: Moved, more: Visits) -> EndsOutcome
     ensures { λ r. ⌜ r ≡ outcomeOf waits one answer moved more ⌝ }
 {
     let own = moved.own;
     let peer = moved.peer;
     let visits = moved.visits;
-    Outcome {
+    EndsOutcome {
         one: end_if(one, own, peer),
         two: end_if(one, peer, own),
         answer,
@@ -82,12 +82,12 @@ pub fn kept_ends(own: Endpoint, peer: Endpoint) -> Moved
 }
 
 // The outcome of a call that changes nothing.
-pub fn unchanged(p: Ends, answer: Answer) -> Outcome
+pub fn unchanged(p: Ends, answer: Answer) -> EndsOutcome
     ensures { λ r. ⌜ r ≡ unchangedEnds p answer ⌝ }
 {
     let one = p.one;
     let two = p.two;
-    Outcome {
+    EndsOutcome {
         one,
         two,
         answer,

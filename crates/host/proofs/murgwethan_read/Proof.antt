@@ -62,7 +62,7 @@ use Rattle.definition_runs.specs.Exported.{Answered}
 use Rattle.socket.proofs.Visiting.{places-128}
 use Rattle.kept.proofs.pair.Stored.{settled-as}
 use Rattle.kept.proofs.transfers.Stored.{passed-on, read-answer}
-use Rattle.definition.specs.Read.{Read}
+use Rattle.definition.specs.Read.{Reads}
 use Rattle.socket.proofs.Settled.{read-whole}
 use Rattle.transfer.proofs.read.read_transfer as step
 use Rattle.transfer.proofs.read.read_transfer.Symbol as step-def
@@ -122,7 +122,7 @@ module _ {M : Type 1} (𝓤 : URA M) (H : Heap 𝓤) (A : Atoms 𝓤) (W : Given
   abbrev Post : Val → SProp 𝓤
   Post = walkOf 𝓤 H A f.ended stayed (f.clauses 𝓤 H A at-mem run) .post ((bound, (q, (q₁, (q₂, (q₃, tt)))), tt, x, at), tt)
 
-  exits : (p′ : Pair) (z : ℤ) (v : Val) (zs₅ : List ℕ) → Answered (Read h x₁ x₂ (x₃ .now) (x₄ .now) ys₅ zs₅) p′ z → length zs₅ ≡ length ys₅
+  exits : (p′ : Pair) (z : ℤ) (v : Val) (zs₅ : List ℕ) → Answered (Reads h x₁ x₂ (x₃ .now) (x₄ .now) ys₅ zs₅) p′ z → length zs₅ ≡ length ys₅
       → ent 𝓤 (⋆ 𝓤 H A (‵ (fres γ (T.the-row .coded .code p′)) ∷ (‵ (flft κ q) ⊛ ‵ ftrue) ∷ (‵ (flft κ₁ q₁) ⊛ ‵ (flft κ₂ q₂) ⊛ ‵ (flft κ₃ q₃) ⊛ ‵ ftrue) ∷ ‵ (finally u8 γ₅ zs₅) ∷ ‵ (i64 .own z (v ∷ [])) ∷ [])) (Post v)
   exits p′ z v zs₅ ens len₅ =
       qed W (‵ (fres γ (T.the-row .coded .code p′)) ∷ (‵ (flft κ q) ⊛ ‵ ftrue) ∷ (‵ (flft κ₁ q₁) ⊛ ‵ (flft κ₂ q₂) ⊛ ‵ (flft κ₃ q₃) ⊛ ‵ ftrue) ∷ ‵ (finally u8 γ₅ zs₅) ∷ ‵ (i64 .own z (v ∷ [])) ∷ []) ∵
@@ -157,7 +157,7 @@ module _ {M : Type 1} (𝓤 : URA M) (H : Heap 𝓤) (A : Atoms 𝓤) (W : Given
         land ! (from ! (stop !)) (init ! 36 refl (sint-lawful 𝓤 H A W w64 .typed z₀ _ i₀ .0)) $
         returns ! (look ! 36 refl) $
         move ! (36 ∷ 37 ∷ []) $ frees-cell ! $ move ! (34 ∷ 35 ∷ []) $ frees-cell ! $ move ! (32 ∷ 33 ∷ []) $ frees-cell ! $ move ! (30 ∷ 31 ∷ []) $ frees-cell ! $ move ! (28 ∷ 29 ∷ []) $ frees-cell ! $ move ! (26 ∷ 27 ∷ []) $ frees-cell ! $ move ! (24 ∷ 25 ∷ []) $ frees-cell ! $ move ! (22 ∷ 23 ∷ []) $ frees-cell ! $ move ! (20 ∷ 21 ∷ []) $ frees-cell ! $ move ! (18 ∷ 19 ∷ []) $ frees-cell ! $ move ! (16 ∷ 17 ∷ []) $ frees-cell ! $ move ! (14 ∷ 15 ∷ []) $ frees-cell ! $ move ! (12 ∷ 13 ∷ []) $ frees-cell ! $ free0 ! $
-        keep ! (2 ∷ 1 ∷ 4 ∷ 5 ∷ 0 ∷ []) $ by ! (exits (ws .0) z₀ v₀ (zs .1 .1 .1 .1 .1 .0) (record { answer = readBy y₈ x₁ y₇ .answer; word = e₀ .0 ∙ ap answerWord (read-answer y₈ x₁ y₇); kept = subst (λ (k : Step). Read h x₁ x₂ (x₃ .now) (x₄ .now) ys₅ (zs .1 .1 .1 .1 .1 .0) k) (settled-as (readBy y₈ x₁ y₇) h (ws .0) (passed-on (readBy y₈ x₁ y₇) (readBy (endsOf h) x₁ y₇) h (ws .0) (ap (λ (k : Ends). readBy k x₁ y₇) (sym e₈)) (e₀ .1))) (read-whole h x₁ x₂ (x₃ .now) (x₄ .now) ys₅ (zs .1 .1 .1 .1 .1 .0) y₈ (readBy y₈ x₁ y₇) (places-128 h _ was) e₈ (e₇ .outcome)) }) len₅))))))))))))))))))))))))
+        keep ! (2 ∷ 1 ∷ 4 ∷ 5 ∷ 0 ∷ []) $ by ! (exits (ws .0) z₀ v₀ (zs .1 .1 .1 .1 .1 .0) (record { answer = readBy y₈ x₁ y₇ .answer; word = e₀ .0 ∙ ap answerWord (read-answer y₈ x₁ y₇); kept = subst (λ (k : Step). Reads h x₁ x₂ (x₃ .now) (x₄ .now) ys₅ (zs .1 .1 .1 .1 .1 .0) k) (settled-as (readBy y₈ x₁ y₇) h (ws .0) (passed-on (readBy y₈ x₁ y₇) (readBy (endsOf h) x₁ y₇) h (ws .0) (ap (λ (k : Ends). readBy k x₁ y₇) (sym e₈)) (e₀ .1))) (read-whole h x₁ x₂ (x₃ .now) (x₄ .now) ys₅ (zs .1 .1 .1 .1 .1 .0) y₈ (readBy y₈ x₁ y₇) (places-128 h _ was) e₈ (e₇ .outcome)) }) len₅))))))))))))))))))))))))
 
 module _ {M : Type 1} (𝓤 : URA M) (H : Heap 𝓤) (A : Atoms 𝓤) (W : Given 𝓤 H A) (at-mem : Memory → SProp 𝓤) (run : Routine → Fun 𝓤) where
   walks : (C : Calls 𝓤 H) (Λ : Loops 𝓤 H) → FmC 𝓤 H (W .laws) C → Triple 𝓤 (C #step) (Called 𝓤 H A at-mem run) → Triple 𝓤 (C #ends) (ends-contract 𝓤 H A at-mem run) → Triple 𝓤 (C #read) (read-contract 𝓤 H A at-mem run) → Walks 𝓤 H A f.ended stayed (WpFn 𝓤 H C Λ code.function) (f.clauses 𝓤 H A at-mem run)

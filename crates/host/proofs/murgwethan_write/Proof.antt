@@ -61,7 +61,7 @@ use Rattle.definition_runs.specs.Exported.{Answered}
 use Rattle.socket.proofs.Visiting.{places-128}
 use Rattle.kept.proofs.pair.Stored.{settled-as}
 use Rattle.kept.proofs.transfers.Stored.{passed-on, wrote-answer}
-use Rattle.definition.specs.Write.{Wrote}
+use Rattle.definition.specs.Write.{Writes}
 use Rattle.socket.proofs.Settled.{wrote-whole}
 use Rattle.transfer.proofs.write.write_transfer as step
 use Rattle.transfer.proofs.write.write_transfer.Symbol as step-def
@@ -124,7 +124,7 @@ module _ {M : Type 1} (𝓤 : URA M) (H : Heap 𝓤) (A : Atoms 𝓤) (W : Given
   abbrev Post : Val → SProp 𝓤
   Post = walkOf 𝓤 H A f.ended stayed (f.clauses 𝓤 H A at-mem run) .post ((bound, (q, (q₁, (q₂, (q₃, tt)))), tt, x, at), tt)
 
-  exits : (p′ : Pair) (z : ℤ) (v : Val) (zs₂ : List ℕ) (zs₃ : List ℕ) → Answered (Wrote h x₁ (x₄ .now) ys₂ zs₂ ys₃ zs₃) p′ z → length zs₂ ≡ length ys₂ → length zs₃ ≡ length ys₃
+  exits : (p′ : Pair) (z : ℤ) (v : Val) (zs₂ : List ℕ) (zs₃ : List ℕ) → Answered (Writes h x₁ (x₄ .now) ys₂ zs₂ ys₃ zs₃) p′ z → length zs₂ ≡ length ys₂ → length zs₃ ≡ length ys₃
       → ent 𝓤 (⋆ 𝓤 H A (‵ (fres γ (T.the-row .coded .code p′)) ∷ (‵ (flft κ q) ⊛ ‵ ftrue) ∷ (‵ (flft κ₁ q₁) ⊛ ‵ (flft κ₂ q₂) ⊛ ‵ (flft κ₃ q₃) ⊛ ‵ ftrue) ∷ ‵ (finally u8 γ₂ zs₂) ∷ ‵ (finally u32 γ₃ zs₃) ∷ ‵ (i64 .own z (v ∷ [])) ∷ [])) (Post v)
   exits p′ z v zs₂ zs₃ ens len₂ len₃ =
       qed W (‵ (fres γ (T.the-row .coded .code p′)) ∷ (‵ (flft κ q) ⊛ ‵ ftrue) ∷ (‵ (flft κ₁ q₁) ⊛ ‵ (flft κ₂ q₂) ⊛ ‵ (flft κ₃ q₃) ⊛ ‵ ftrue) ∷ ‵ (finally u8 γ₂ zs₂) ∷ ‵ (finally u32 γ₃ zs₃) ∷ ‵ (i64 .own z (v ∷ [])) ∷ []) ∵
@@ -160,7 +160,7 @@ module _ {M : Type 1} (𝓤 : URA M) (H : Heap 𝓤) (A : Atoms 𝓤) (W : Given
         land ! (from ! (stop !)) (init ! 37 refl (sint-lawful 𝓤 H A W w64 .typed z₀ _ i₀ .0)) $
         returns ! (look ! 37 refl) $
         move ! (37 ∷ 38 ∷ []) $ frees-cell ! $ move ! (35 ∷ 36 ∷ []) $ frees-cell ! $ move ! (33 ∷ 34 ∷ []) $ frees-cell ! $ move ! (31 ∷ 32 ∷ []) $ frees-cell ! $ move ! (29 ∷ 30 ∷ []) $ frees-cell ! $ move ! (27 ∷ 28 ∷ []) $ frees-cell ! $ move ! (25 ∷ 26 ∷ []) $ frees-cell ! $ move ! (23 ∷ 24 ∷ []) $ frees-cell ! $ move ! (21 ∷ 22 ∷ []) $ frees-cell ! $ move ! (19 ∷ 20 ∷ []) $ frees-cell ! $ move ! (17 ∷ 18 ∷ []) $ frees-cell ! $ move ! (15 ∷ 16 ∷ []) $ frees-cell ! $ move ! (13 ∷ 14 ∷ []) $ frees-cell ! $ move ! (11 ∷ 12 ∷ []) $ frees-cell ! $ free0 ! $
-        keep ! (2 ∷ 1 ∷ 4 ∷ 8 ∷ 7 ∷ 0 ∷ []) $ by ! (exits (ws .0) z₀ v₀ (zs .1 .1 .0) (zs .1 .1 .1 .0) (record { answer = wroteBy y₇ x₁ y₆ .answer; word = e₀ .0 ∙ ap answerWord (wrote-answer y₇ x₁ y₆); kept = subst (λ (k : Step). Wrote h x₁ (x₄ .now) ys₂ (zs .1 .1 .0) ys₃ (zs .1 .1 .1 .0) k) (settled-as (wroteBy y₇ x₁ y₆) h (ws .0) (passed-on (wroteBy y₇ x₁ y₆) (wroteBy (endsOf h) x₁ y₆) h (ws .0) (ap (λ (k : Ends). wroteBy k x₁ y₆) (sym e₇)) (e₀ .1))) (wrote-whole h x₁ (x₄ .now) ys₂ (zs .1 .1 .0) ys₃ (zs .1 .1 .1 .0) y₇ (wroteBy y₇ x₁ y₆) (places-128 h _ was) e₇ (e₆ .outcome)) }) len₂ len₃))))))))))))))))))))))))))
+        keep ! (2 ∷ 1 ∷ 4 ∷ 8 ∷ 7 ∷ 0 ∷ []) $ by ! (exits (ws .0) z₀ v₀ (zs .1 .1 .0) (zs .1 .1 .1 .0) (record { answer = wroteBy y₇ x₁ y₆ .answer; word = e₀ .0 ∙ ap answerWord (wrote-answer y₇ x₁ y₆); kept = subst (λ (k : Step). Writes h x₁ (x₄ .now) ys₂ (zs .1 .1 .0) ys₃ (zs .1 .1 .1 .0) k) (settled-as (wroteBy y₇ x₁ y₆) h (ws .0) (passed-on (wroteBy y₇ x₁ y₆) (wroteBy (endsOf h) x₁ y₆) h (ws .0) (ap (λ (k : Ends). wroteBy k x₁ y₆) (sym e₇)) (e₀ .1))) (wrote-whole h x₁ (x₄ .now) ys₂ (zs .1 .1 .0) ys₃ (zs .1 .1 .1 .0) y₇ (wroteBy y₇ x₁ y₆) (places-128 h _ was) e₇ (e₆ .outcome)) }) len₂ len₃))))))))))))))))))))))))))
 
 module _ {M : Type 1} (𝓤 : URA M) (H : Heap 𝓤) (A : Atoms 𝓤) (W : Given 𝓤 H A) (at-mem : Memory → SProp 𝓤) (run : Routine → Fun 𝓤) where
   walks : (C : Calls 𝓤 H) (Λ : Loops 𝓤 H) → FmC 𝓤 H (W .laws) C → Triple 𝓤 (C #step) (Called 𝓤 H A at-mem run) → Triple 𝓤 (C #ends) (ends-contract 𝓤 H A at-mem run) → Triple 𝓤 (C #wrote) (wrote-contract 𝓤 H A at-mem run) → Walks 𝓤 H A f.ended stayed (WpFn 𝓤 H C Λ code.function) (f.clauses 𝓤 H A at-mem run)

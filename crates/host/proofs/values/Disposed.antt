@@ -12,7 +12,7 @@ use Rattle.definition.specs.Status.{pick, isDone, _then_}
 use Rattle.endpoint.proofs.answer.Rules.{refuse-on, refuse-off, pick-off}
 use Rattle.endpoint.proofs.answer.Chains.{then-both, refuse-passed}
 use Rattle.definition.specs.declared.Ends.{Ends}
-use Rattle.endpoint.specs.declared.ends.Outcome.{Outcome}
+use Rattle.endpoint.specs.declared.ends.EndsOutcome.{EndsOutcome}
 use Rattle.definition.specs.Pair.{isOne, endsOf}
 use Rattle.endpoint.specs.ends.Outcome.{unchangedEnds}
 use Rattle.definition.specs.Tests.{openingTest, Steps}
@@ -57,7 +57,7 @@ module _ (e : Ends) (h a b : ℕ) where
 
   -- ---- the outcome
 
-  pub above-ends : (r : Outcome) → r ≡ unchangedEnds e (openingTest e h then Refused InvalidArgs)
+  pub above-ends : (r : EndsOutcome) → r ≡ unchangedEnds e (openingTest e h then Refused InvalidArgs)
       → (openingTest e h then Refused InvalidArgs) ≡ plainDisposeAnswer e h a b → r ≡ plainDisposeEnds e h a b
   unfolding plainDisposeEnds
   above-ends r f g = pick-off _ _ _ _ _ (ap isDone (sym g) ∙ never-done _ _) (f ∙ ap (unchangedEnds e) g)
@@ -69,7 +69,7 @@ module _ (e : Ends) (h a b : ℕ) where
 
 -- ---- the whole pair
 
-pub dispose-whole : (p : Pair) (h a b : ℕ) (e : Ends) (r : Outcome) → length (p .places .table) ≡ 128 → e ≡ endsOf p → r ≡ plainDisposeEnds e h a b
+pub dispose-whole : (p : Pair) (h a b : ℕ) (e : Ends) (r : EndsOutcome) → length (p .places .table) ≡ 128 → e ≡ endsOf p → r ≡ plainDisposeEnds e h a b
     → Steps p (plainDisposeAnswer (endsOf p) h a b) (disposed (isOne h) (dispositionOf a) (dispositionOf b) p) (settledStep r p)
 unfolding plainDisposeEnds
 dispose-whole p h a b e r l f g = by (isDone (plainDisposeAnswer e h a b)) refl
@@ -86,5 +86,5 @@ dispose-whole p h a b e r l f g = by (isDone (plainDisposeAnswer e h a b)) refl
         (socket-dispose p h (dispositionOf a) (dispositionOf b) e r l f (g ∙ sym (within-ends e h a b (n .0) (n .1))))
     by false d =
         subst (Steps p (plainDisposeAnswer (endsOf p) h a b) (disposed (isOne h) (dispositionOf a) (dispositionOf b) p))
-        (sym (ap (λ (k : Outcome). settledStep k p) (g ∙ sym (pick-off _ _ _ _ _ d refl) ∙ ap (λ (k : Ends). unchangedEnds k (plainDisposeAnswer e h a b)) f) ∙ unchanged-settled p _))
+        (sym (ap (λ (k : EndsOutcome). settledStep k p) (g ∙ sym (pick-off _ _ _ _ _ d refl) ∙ ap (λ (k : Ends). unchangedEnds k (plainDisposeAnswer e h a b)) f) ∙ unchanged-settled p _))
         (steps-refused p p _ _ _ told d refl)

@@ -10,8 +10,8 @@ use Rattle.definition.specs.Signal.{changedWord}
 use Rattle.definition.specs.Pair.{withQueue, withSignals, own, peer, isOne, endsOf}
 use Rattle.endpoint.specs.declared.ends.Visits.{Visits}
 use Rattle.endpoint.specs.declared.ends.Moved.{Moved}
-use Rattle.endpoint.specs.declared.ends.Outcome.{Outcome}
-use Rattle.endpoint.specs.ends.Outcome.{noVisits, keepsWord, canFire, anyFires, outcomeOf}
+use Rattle.endpoint.specs.declared.ends.EndsOutcome.{EndsOutcome}
+use Rattle.endpoint.specs.ends.Outcome.{noVisits, keepsWord, canFire, anyCanFire, outcomeOf}
 use Rattle.transfer.specs.declared.change.Transfer.{Transfer}
 use Rattle.transfer.specs.write.WriteChange.{fedVisits, fedMoved, wroteBy}
 use Rattle.transfer.specs.read.ReadChange.{drainedVisits, drainedMoved, readBy}
@@ -39,8 +39,8 @@ none-fires w = by (eqb w 0)
     by true = refl
     by false = refl
 
-none-visited : (w : ℕ) (v : Visits) → canFire w v ≡ false → anyFires w v noVisits ≡ false
-unfolding anyFires _or_
+none-visited : (w : ℕ) (v : Visits) → canFire w v ≡ false → anyCanFire w v noVisits ≡ false
+unfolding anyCanFire _or_
 none-visited w v e = rw e (none-fires w)
 
 -- the pair of a settled call of end t that can fire no wait
@@ -56,7 +56,7 @@ unfolding wrotePair wroteBy fedMoved writeWithoutVisit
 no-visit-wrote h x p q e f =
     let w = both _ _ e in
     f ∙ settled-no-visit (endsOf p .waits) (isOne h) x (fedMoved (isOne h) (own (isOne h) (endsOf p)) (peer (isOne h) (endsOf p)) x) p (via-not refl (w .1))
-    ∙ ap (λ (r : Outcome). settledStep r p .pair) (pick-on _ _ _ _ _ (w .0) refl)
+    ∙ ap (λ (r : EndsOutcome). settledStep r p .pair) (pick-on _ _ _ _ _ (w .0) refl)
 
 pub no-visit-read : (h : ℕ) (x : Transfer) (p q : Pair)
     → readWithoutVisit h x p ≡ true
@@ -67,4 +67,4 @@ no-visit-read h x p q e f =
     let v = both _ _ (w .1) in
     f ∙ transferred-read (isOne h) x p (via-not refl (v .0))
     ∙ settled-no-visit (endsOf p .waits) (isOne h) x (drainedMoved (isOne h) (own (isOne h) (endsOf p)) (peer (isOne h) (endsOf p)) x) p (via-not refl (v .1))
-    ∙ ap (λ (r : Outcome). settledStep r p .pair) (pick-on _ _ _ _ _ (w .0) refl)
+    ∙ ap (λ (r : EndsOutcome). settledStep r p .pair) (pick-on _ _ _ _ _ (w .0) refl)

@@ -27,15 +27,15 @@ use denote.Triple.Spec.{tripleOf}
 use denote.Triple.Clauses.{ensured, lasts}
 use Rattle.kept.proofs.steps.Steps.{Asked, told, Handed, told-last}
 use Rattle.definition.specs.Status.{answerWord}
-use Rattle.endpoint.specs.declared.ends.Outcome.{Outcome}
+use Rattle.endpoint.specs.declared.ends.EndsOutcome.{EndsOutcome}
 use Rattle.transfer.specs.declared.change.Transfer.{Transfer}
 use Rattle.transfer.specs.write.WriteChange.{wroteBy}
 use Rattle.transfer.specs.read.ReadChange.{readBy}
 use Rattle.definition.specs.declared.Pair.{Pair}
 use Rattle.definition.proofs.Pair as T
 use Rattle.definition.proofs.Pair.Laws as T′
-use Rattle.endpoint.proofs.ends.Outcome as K
-use Rattle.endpoint.proofs.ends.Outcome.Laws as K′
+use Rattle.endpoint.proofs.ends.EndsOutcome as K
+use Rattle.endpoint.proofs.ends.EndsOutcome.Laws as K′
 use Rattle.transfer.proofs.change.Transfer as X
 use Rattle.transfer.proofs.change.Transfer.Laws as X′
 use Rattle.definition.specs.Pair.{isOne, endsOf}
@@ -96,7 +96,7 @@ module _ {M : Type 1} (𝓤 : URA M) (H : Heap 𝓤) (A : Atoms 𝓤) (at-mem : 
   abbrev pub outcome-contract : Contract 𝓤
   outcome-contract = tripleOf 𝓤 H A outcome.signature (outcome.spec 𝓤 H A at-mem run)
 
-  abbrev pub to-outcome : Lft → Share → ℕ → ℕ → GName → Pair → Outcome → Val → outcome-contract .Ghost
+  abbrev pub to-outcome : Lft → Share → ℕ → ℕ → GName → Pair → EndsOutcome → Val → outcome-contract .Ghost
   to-outcome κ q b o γ h a₁ v₁ = (((κ, tt), (q, tt), tt, (record { ptr = (b, o); name = γ; now = h }, (a₁, tt)), (vptr b o ∷ [], (v₁ ∷ [], tt))), tt)
 
   module _ (W : Given 𝓤 H A) where
@@ -133,11 +133,11 @@ module _ {M : Type 1} (𝓤 : URA M) (H : Heap 𝓤) (A : Atoms 𝓤) (at-mem : 
     pub goes-write-outcome : (a₁ : Pair) (a₂ : ℕ) (a₃ : Transfer) (v₁ v₃ : Val) → Is T.the-row a₁ (v₁ ∷ []) → Is u32 a₂ (vint w32 a₂ ∷ []) → Is X.the-row a₃ (v₃ ∷ []) → ent 𝓤 (sem 𝓤 H A ftrue) (write-outcome-contract .pre (to-write-outcome a₁ a₂ a₃ v₁ v₃))
     goes-write-outcome a₁ a₂ a₃ v₁ v₃ i₁ i₂ i₃ = qed W (‵ ftrue ∷ []) ∵ owned ! X.the-row (Is X.the-row) ((LL.makes X.the-type X′.the-plain) 𝓤 H A) a₃ (v₃ ∷ []) i₃ $ join ! $ owned ! u32 (Is u32) (uint-makes 𝓤 H A W w32) a₂ _ i₂ $ join ! $ owned ! T.the-row (Is T.the-row) ((LL.makes T.the-type T′.the-plain) 𝓤 H A) a₁ (v₁ ∷ []) i₁ $ join ! $ nothing ! $ join ! $ frame ! $ done !
 
-    pub gives-write-outcome : (a₁ : Pair) (a₂ : ℕ) (a₃ : Transfer) (v₁ v₃ : Val) (v : Val) → ent 𝓤 (write-outcome-contract .post (to-write-outcome a₁ a₂ a₃ v₁ v₃) v) (mean 𝓤 H A (later (some (λ (y : Outcome). ‵ (K.the-row .own y (v ∷ [])) ⊛ raw (fact 𝓤 (y ≡ wroteBy (endsOf a₁) a₂ a₃))))))
+    pub gives-write-outcome : (a₁ : Pair) (a₂ : ℕ) (a₃ : Transfer) (v₁ v₃ : Val) (v : Val) → ent 𝓤 (write-outcome-contract .post (to-write-outcome a₁ a₂ a₃ v₁ v₃) v) (mean 𝓤 H A (later (some (λ (y : EndsOutcome). ‵ (K.the-row .own y (v ∷ [])) ⊛ raw (fact 𝓤 (y ≡ wroteBy (endsOf a₁) a₂ a₃))))))
     gives-write-outcome a₁ a₂ a₃ v₁ v₃ = told W K.the-row (λ y. ensured 𝓤 H A write-outcome.ended (write-outcome.clauses 𝓤 H A at-mem run) tt (a₁, (a₂, (a₃, tt))) tt y) (λ y. y ≡ wroteBy (endsOf a₁) a₂ a₃) (λ y. exE 𝓤 _ (λ ws. snd∗ 𝓤 (sem 𝓤 H A (lasts write-outcome.ended tt (a₁, (a₂, (a₃, tt))) ws)) (fact 𝓤 (y ≡ wroteBy (endsOf a₁) a₂ a₃))))
 
     abbrev pub ask-write-outcome : (a₁ : Pair) (a₂ : ℕ) (a₃ : Transfer) (v₁ v₃ : Val) → Is T.the-row a₁ (v₁ ∷ []) → Is u32 a₂ (vint w32 a₂ ∷ []) → Is X.the-row a₃ (v₃ ∷ []) → Asked 𝓤 H A
-    ask-write-outcome a₁ a₂ a₃ v₁ v₃ i₁ i₂ i₃ = record { contract = write-outcome-contract; ghost = to-write-outcome a₁ a₂ a₃ v₁ v₃; row = K.the-row; says = λ (y : Outcome). y ≡ wroteBy (endsOf a₁) a₂ a₃; needs = goes-write-outcome a₁ a₂ a₃ v₁ v₃ i₁ i₂ i₃; gives = gives-write-outcome a₁ a₂ a₃ v₁ v₃ }
+    ask-write-outcome a₁ a₂ a₃ v₁ v₃ i₁ i₂ i₃ = record { contract = write-outcome-contract; ghost = to-write-outcome a₁ a₂ a₃ v₁ v₃; row = K.the-row; says = λ (y : EndsOutcome). y ≡ wroteBy (endsOf a₁) a₂ a₃; needs = goes-write-outcome a₁ a₂ a₃ v₁ v₃ i₁ i₂ i₃; gives = gives-write-outcome a₁ a₂ a₃ v₁ v₃ }
 
     pub goes-is-read-without-visit : (a₁ : Pair) (a₂ : ℕ) (a₃ : Transfer) (v₁ v₃ : Val) → Is T.the-row a₁ (v₁ ∷ []) → Is u32 a₂ (vint w32 a₂ ∷ []) → Is X.the-row a₃ (v₃ ∷ []) → ent 𝓤 (sem 𝓤 H A ftrue) (is-read-without-visit-contract .pre (to-is-read-without-visit a₁ a₂ a₃ v₁ v₃))
     goes-is-read-without-visit a₁ a₂ a₃ v₁ v₃ i₁ i₂ i₃ = qed W (‵ ftrue ∷ []) ∵ owned ! X.the-row (Is X.the-row) ((LL.makes X.the-type X′.the-plain) 𝓤 H A) a₃ (v₃ ∷ []) i₃ $ join ! $ owned ! u32 (Is u32) (uint-makes 𝓤 H A W w32) a₂ _ i₂ $ join ! $ owned ! T.the-row (Is T.the-row) ((LL.makes T.the-type T′.the-plain) 𝓤 H A) a₁ (v₁ ∷ []) i₁ $ join ! $ nothing ! $ join ! $ frame ! $ done !
@@ -160,17 +160,17 @@ module _ {M : Type 1} (𝓤 : URA M) (H : Heap 𝓤) (A : Atoms 𝓤) (at-mem : 
     pub goes-read-outcome : (a₁ : Pair) (a₂ : ℕ) (a₃ : Transfer) (v₁ v₃ : Val) → Is T.the-row a₁ (v₁ ∷ []) → Is u32 a₂ (vint w32 a₂ ∷ []) → Is X.the-row a₃ (v₃ ∷ []) → ent 𝓤 (sem 𝓤 H A ftrue) (read-outcome-contract .pre (to-read-outcome a₁ a₂ a₃ v₁ v₃))
     goes-read-outcome a₁ a₂ a₃ v₁ v₃ i₁ i₂ i₃ = qed W (‵ ftrue ∷ []) ∵ owned ! X.the-row (Is X.the-row) ((LL.makes X.the-type X′.the-plain) 𝓤 H A) a₃ (v₃ ∷ []) i₃ $ join ! $ owned ! u32 (Is u32) (uint-makes 𝓤 H A W w32) a₂ _ i₂ $ join ! $ owned ! T.the-row (Is T.the-row) ((LL.makes T.the-type T′.the-plain) 𝓤 H A) a₁ (v₁ ∷ []) i₁ $ join ! $ nothing ! $ join ! $ frame ! $ done !
 
-    pub gives-read-outcome : (a₁ : Pair) (a₂ : ℕ) (a₃ : Transfer) (v₁ v₃ : Val) (v : Val) → ent 𝓤 (read-outcome-contract .post (to-read-outcome a₁ a₂ a₃ v₁ v₃) v) (mean 𝓤 H A (later (some (λ (y : Outcome). ‵ (K.the-row .own y (v ∷ [])) ⊛ raw (fact 𝓤 (y ≡ readBy (endsOf a₁) a₂ a₃))))))
+    pub gives-read-outcome : (a₁ : Pair) (a₂ : ℕ) (a₃ : Transfer) (v₁ v₃ : Val) (v : Val) → ent 𝓤 (read-outcome-contract .post (to-read-outcome a₁ a₂ a₃ v₁ v₃) v) (mean 𝓤 H A (later (some (λ (y : EndsOutcome). ‵ (K.the-row .own y (v ∷ [])) ⊛ raw (fact 𝓤 (y ≡ readBy (endsOf a₁) a₂ a₃))))))
     gives-read-outcome a₁ a₂ a₃ v₁ v₃ = told W K.the-row (λ y. ensured 𝓤 H A read-outcome.ended (read-outcome.clauses 𝓤 H A at-mem run) tt (a₁, (a₂, (a₃, tt))) tt y) (λ y. y ≡ readBy (endsOf a₁) a₂ a₃) (λ y. exE 𝓤 _ (λ ws. snd∗ 𝓤 (sem 𝓤 H A (lasts read-outcome.ended tt (a₁, (a₂, (a₃, tt))) ws)) (fact 𝓤 (y ≡ readBy (endsOf a₁) a₂ a₃))))
 
     abbrev pub ask-read-outcome : (a₁ : Pair) (a₂ : ℕ) (a₃ : Transfer) (v₁ v₃ : Val) → Is T.the-row a₁ (v₁ ∷ []) → Is u32 a₂ (vint w32 a₂ ∷ []) → Is X.the-row a₃ (v₃ ∷ []) → Asked 𝓤 H A
-    ask-read-outcome a₁ a₂ a₃ v₁ v₃ i₁ i₂ i₃ = record { contract = read-outcome-contract; ghost = to-read-outcome a₁ a₂ a₃ v₁ v₃; row = K.the-row; says = λ (y : Outcome). y ≡ readBy (endsOf a₁) a₂ a₃; needs = goes-read-outcome a₁ a₂ a₃ v₁ v₃ i₁ i₂ i₃; gives = gives-read-outcome a₁ a₂ a₃ v₁ v₃ }
+    ask-read-outcome a₁ a₂ a₃ v₁ v₃ i₁ i₂ i₃ = record { contract = read-outcome-contract; ghost = to-read-outcome a₁ a₂ a₃ v₁ v₃; row = K.the-row; says = λ (y : EndsOutcome). y ≡ readBy (endsOf a₁) a₂ a₃; needs = goes-read-outcome a₁ a₂ a₃ v₁ v₃ i₁ i₂ i₃; gives = gives-read-outcome a₁ a₂ a₃ v₁ v₃ }
 
-    pub goes-outcome : (κ : Lft) (q : Share) (b o : ℕ) (γ : GName) (h : Pair) (a₁ : Outcome) (v₁ : Val) → Is K.the-row a₁ (v₁ ∷ []) → ent 𝓤 (⋆ 𝓤 H A ((‵ (MutRef (named 0) κ T.the-row .own (record { ptr = (b, o); name = γ; now = h }) (vptr b o ∷ [])) ⊛ (‵ (flft κ q) ⊛ ‵ ftrue)) ∷ [])) (outcome-contract .pre (to-outcome κ q b o γ h a₁ v₁))
+    pub goes-outcome : (κ : Lft) (q : Share) (b o : ℕ) (γ : GName) (h : Pair) (a₁ : EndsOutcome) (v₁ : Val) → Is K.the-row a₁ (v₁ ∷ []) → ent 𝓤 (⋆ 𝓤 H A ((‵ (MutRef (named 0) κ T.the-row .own (record { ptr = (b, o); name = γ; now = h }) (vptr b o ∷ [])) ⊛ (‵ (flft κ q) ⊛ ‵ ftrue)) ∷ [])) (outcome-contract .pre (to-outcome κ q b o γ h a₁ v₁))
     goes-outcome κ q b o γ h a₁ v₁ i₁ = qed W ((‵ (MutRef (named 0) κ T.the-row .own (record { ptr = (b, o); name = γ; now = h }) (vptr b o ∷ [])) ⊛ (‵ (flft κ q) ⊛ ‵ ftrue)) ∷ []) ∵ split ! $ nothing ! $ owned ! K.the-row (Is K.the-row) ((LL.makes K.the-type K′.the-plain) 𝓤 H A) a₁ (v₁ ∷ []) i₁ $ join ! $ move ! (1 ∷ 0 ∷ []) $ join ! $ move ! (1 ∷ 0 ∷ []) $ join ! $ frame ! $ done !
 
-    pub gives-outcome : (κ : Lft) (q : Share) (b o : ℕ) (γ : GName) (h : Pair) (a₁ : Outcome) (v₁ : Val) (v : Val) → ent 𝓤 (outcome-contract .post (to-outcome κ q b o γ h a₁ v₁) v) (mean 𝓤 H A (later (some (λ (y : ℤ). some (λ (w : (Pair × (Unit {0} × Unit {0}))). ((‵ (flft κ q) ⊛ ‵ ftrue) ⊛ ‵ (i64 .own y (v ∷ []))) ⊛ (‵ (fres γ (T.the-row .coded .code (w .0))) ⊛ raw (fact 𝓤 ((y ≡ answerWord (a₁ .answer)) × (w .0 ≡ settledStep a₁ h .pair)))))))))
+    pub gives-outcome : (κ : Lft) (q : Share) (b o : ℕ) (γ : GName) (h : Pair) (a₁ : EndsOutcome) (v₁ : Val) (v : Val) → ent 𝓤 (outcome-contract .post (to-outcome κ q b o γ h a₁ v₁) v) (mean 𝓤 H A (later (some (λ (y : ℤ). some (λ (w : (Pair × (Unit {0} × Unit {0}))). ((‵ (flft κ q) ⊛ ‵ ftrue) ⊛ ‵ (i64 .own y (v ∷ []))) ⊛ (‵ (fres γ (T.the-row .coded .code (w .0))) ⊛ raw (fact 𝓤 ((y ≡ answerWord (a₁ .answer)) × (w .0 ≡ settledStep a₁ h .pair)))))))))
     gives-outcome κ q b o γ h a₁ v₁ = told-last W i64 (‵ (flft κ q) ⊛ ‵ ftrue) (Pair × (Unit {0} × Unit {0})) (lasts outcome.ended (κ, tt) (record { ptr = (b, o); name = γ; now = h }, (a₁, tt))) (λ w. fres γ (T.the-row .coded .code (w .0))) (λ y w. (y ≡ answerWord (a₁ .answer)) × (w .0 ≡ settledStep a₁ h .pair)) (λ w. qed W (‵ (lasts outcome.ended (κ, tt) (record { ptr = (b, o); name = γ; now = h }, (a₁, tt)) w) ∷ []) ∵ fsplit ! $ keep ! (0 ∷ []) $ done !)
 
-    abbrev pub hand-outcome : (κ : Lft) (q : Share) (b o : ℕ) (γ : GName) (h : Pair) (a₁ : Outcome) (v₁ : Val) → Is K.the-row a₁ (v₁ ∷ []) → Handed 𝓤 H A T.the-row κ q b o γ h
+    abbrev pub hand-outcome : (κ : Lft) (q : Share) (b o : ℕ) (γ : GName) (h : Pair) (a₁ : EndsOutcome) (v₁ : Val) → Is K.the-row a₁ (v₁ ∷ []) → Handed 𝓤 H A T.the-row κ q b o γ h
     hand-outcome κ q b o γ h a₁ v₁ i₁ = record { contract = outcome-contract; ghost = to-outcome κ q b o γ h a₁ v₁; row = i64; Lasts = (Pair × (Unit {0} × Unit {0})); last = λ w. w .0; says = λ y w. (y ≡ answerWord (a₁ .answer)) × (w .0 ≡ settledStep a₁ h .pair); needs = goes-outcome κ q b o γ h a₁ v₁ i₁; gives = gives-outcome κ q b o γ h a₁ v₁ }

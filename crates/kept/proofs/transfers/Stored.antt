@@ -4,7 +4,7 @@ use mathlib.Core.Path.{_≡_, refl, sym, ap, _∙_}
 use mathlib.Core.Bool.{Bool, true, false}
 use lib.Dec.{T}
 use Rattle.definition.specs.Status.{pick}
-use Rattle.endpoint.specs.declared.ends.Outcome.{Outcome}
+use Rattle.endpoint.specs.declared.ends.EndsOutcome.{EndsOutcome}
 use Rattle.definition.specs.declared.Pair.{Pair}
 use Rattle.transfer.specs.declared.change.Transfer.{Transfer}
 use Rattle.transfer.specs.write.WriteChange.{fedMoved, wroteBy}
@@ -29,8 +29,8 @@ pub read-unvisited : (h : ℕ) (t : Transfer) (p q : Pair) (n : Bool) → n ≡ 
 read-unvisited h t p q n e u f = no-visit-read h t p q (holds n (readWithoutVisit h t p) e u) f
 
 -- the outcome was settled
-pub passed-on : (r s : Outcome) (p q : Pair) → s ≡ r → q ≡ settledStep s p .pair → q ≡ settledStep r p .pair
-passed-on r s p q e f = f ∙ ap (λ (k : Outcome). settledStep k p .pair) e
+pub passed-on : (r s : EndsOutcome) (p q : Pair) → s ≡ r → q ≡ settledStep s p .pair → q ≡ settledStep r p .pair
+passed-on r s p q e f = f ∙ ap (λ (k : EndsOutcome). settledStep k p .pair) e
 
 pub wrote-answer : (e : Ends) (h : ℕ) (t : Transfer) → t .answer ≡ wroteBy e h t .answer
 unfolding wroteBy outcomeOf unchangedEnds pick

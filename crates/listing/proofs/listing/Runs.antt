@@ -16,7 +16,7 @@ use Rattle.port.proofs.places.Lists.{either}
 use Rattle.definition_script.specs.Call.{writtenAt, Rings}
 use Rattle.text.specs.Put.{Put, Written}
 use Rattle.text.proofs.Place.{place-front, place-none, place-place}
-use Rattle.definition_script.specs.declared.State.{State}
+use Rattle.definition_script.specs.declared.ScriptState.{ScriptState}
 use Rattle.feed.specs.declared.Fed.{Fed}
 use Rattle.line.specs.line.LineDone.{LINE}
 use Rattle.feed.specs.Turn.{LIMIT}
@@ -152,7 +152,7 @@ text-is room m s hd b cl i j f eh ei eb ej ec et ee =
 
 -- what the block leaves of memory, rings and tables
 ran-lent :
-    {s memory memory′ out out₁ l sub : List ℕ} {z z′ : Rings} {n : ℕ} {st : State} {f : Fed}
+    {s memory memory′ out out₁ l sub : List ℕ} {z z′ : Rings} {n : ℕ} {st : ScriptState} {f : Fed}
     → st ≡ startState → Written 22 0 header n out out₁ → length out₁ ≡ length out → FeedDone st 0 s memory memory′ z z′ l sub f
     → l ≡ midOf n (length out₁ - n) out₁ → RanLent (length out) (machine startState memory z) s memory′ z′
 unfolding ranMachine
@@ -169,7 +169,7 @@ ran-lent {s} {memory} {memory′} {out} {out₁} {l} {sub} {z} {z′} {n} {st} {
 
 -- the header, the lines in the part behind it, and the end of the input in the part behind these
 pub ran :
-    {s memory memory′ out out₁ l sub l₂ sub₂ : List ℕ} {z z′ : Rings} {n c : ℕ} {st : State} {f : Fed}
+    {s memory memory′ out out₁ l sub l₂ sub₂ : List ℕ} {z z′ : Rings} {n c : ℕ} {st : ScriptState} {f : Fed}
     → length memory ≤ 4096 → st ≡ startState → Written 22 0 header n out out₁ → length out₁ ≡ length out
     → FeedDone st 0 s memory memory′ z z′ l sub f → length sub ≡ length l
     → Written 26 0 (closing (f .taken) (f .state .ended) (midOf (f .taken) (length s - f .taken) s)) c l₂ sub₂ → length sub₂ ≡ length l₂

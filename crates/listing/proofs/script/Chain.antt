@@ -8,7 +8,7 @@ use Rattle.definition_script.specs.Call.{writtenAt}
 use Rattle.text.specs.Put.{Put}
 use Rattle.text.proofs.Place.{place-front}
 use Rattle.definition_script.specs.Listing.{Machine, machine, closing, run, listing, header}
-use Rattle.listing.specs.script.Claims.{Feeds, more, fed, done, Chain}
+use Rattle.listing.specs.script.Claims.{Feeds, more, fed, done, AnyBlocks}
 use Rattle.listing.proofs.script.Runs.{run-stay}
 use Rattle.listing.proofs.script.Tells.{fed-rest}
 
@@ -26,6 +26,6 @@ feeds (done {offset} {st} {memory} {z} {s} {out} {out′} {r} e w h g) =
     ∙ sym (run-stay offset (machine st memory z) s e)
     ∙ ap (λ (x : List ℕ). run offset (machine st memory z) x) (sym (append-nil s))
 
-pub chain : Chain
+pub chain : AnyBlocks
 unfolding listing
 chain room bs o f = ap (λ (x : List ℕ). header ++ x) (feeds f)

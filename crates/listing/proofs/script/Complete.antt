@@ -15,9 +15,9 @@ use Rattle.text.specs.Put.{Written}
 use Rattle.text.proofs.Place.{place-length, had-room}
 use Rattle.line.proofs.line.Lengths.{stop-most}
 use Rattle.line.specs.line.LineDone.{LINE}
-use Rattle.definition_script.specs.declared.State.{State}
+use Rattle.definition_script.specs.declared.ScriptState.{ScriptState}
 use Rattle.feed.specs.declared.Fed.{Fed}
-use Rattle.definition_script.specs.Listing.{startState, Machine, start, stay, moveOf, closing}
+use Rattle.definition_script.specs.Listing.{startState, Machine, startMachine, stay, moveOf, closing}
 use Rattle.feed.specs.Turn.{LIMIT}
 use Rattle.feed.specs.Feed.{isReady, Block, fedFrom, fedOf, FeedDone}
 use Rattle.listing.specs.script.Claims.{Feeds, more, fed, done, Complete, Every, FeedingClaims}
@@ -57,7 +57,7 @@ puts xs out h g =
 
 -- ---- a feeding: all blocks come, then calls of `feed` up to one that takes nothing, then one of `finish`
 
-pub is-ready : (st : State) (offset input memory : ℕ) → st .number ≤ LIMIT → offset ≤ LIMIT → input ≤ LIMIT → memory ≤ 4096
+pub is-ready : (st : ScriptState) (offset input memory : ℕ) → st .number ≤ LIMIT → offset ≤ LIMIT → input ≤ LIMIT → memory ≤ 4096
     → isReady st offset input memory ≡ true
 unfolding isReady _and_
 is-ready st offset input memory a b c d =
@@ -119,8 +119,8 @@ complete offset room m s bs number total size h =
     (f .0, come offset room m (f .0) s bs (f .1))
 
 pub every : Every
-unfolding start startState
-every room bs h g = complete 0 room start [] bs (omega arith) (omega arith) (omega arith) g
+unfolding startMachine startState
+every room bs h g = complete 0 room startMachine [] bs (omega arith) (omega arith) (omega arith) g
 
 pub claims : FeedingClaims
 claims =

@@ -19,13 +19,13 @@ use Rattle.syscall.proofs.Passed.{write-passed}
 use Rattle.syscall.proofs.Calls.{landed-length}
 use Rattle.definition_script.specs.declared.Decoded.{Decoded}
 use Rattle.definition_script.specs.declared.Decoded.the-variants.{Whole, Bad, Cut}
-use Rattle.definition_script.specs.declared.Transfer.{Transfer}
+use Rattle.definition_script.specs.declared.TransferBody.{TransferBody}
 use Rattle.definition_script.specs.Record.{READ, recordOf, eight, transferOf, isMisplaced}
 use Rattle.script_call.proofs.record.Records.{cases}
 use Rattle.text.proofs.Place.{place-none, place-length}
 use Rattle.line.specs.line.LineDone.{LINE}
 use Rattle.line.proofs.line.Lengths.{line-most, stop-most}
-use Rattle.definition_script.specs.Call.{BASE, delivered, settled, Rings, ownRing, ownTable, peerRing, peerTable, filled, Called, writeAnswerOf, wroteBy, writeCall, readAnswerOf, gotBy, readCall, fillCall, callOf}
+use Rattle.definition_script.specs.Call.{BASE, delivered, afterCount, Rings, ownRing, ownTable, peerRing, peerTable, filled, Called, writeAnswerOf, writeLeaves, writeCall, readAnswerOf, readLeaves, readCall, fillCall, callOf}
 use Rattle.definition_script.specs.Listing.{Machine, Move, stay, halt, go, moveBy, moveOf, stepped, calledLine, stepLine}
 use Rattle.feed.specs.Turn.{machineAfter}
 use Rattle.feed.specs.Feed.{Block, noBlock, fedMove, fedBy, fedFrom}
@@ -56,8 +56,8 @@ put-length base countAt n memory = by (eqb countAt 0) (fits base (length memory)
 
 -- by a call
 module _ (memory : List ℕ) (z : Rings) (p : Pair) where
-  write-length : (t : Transfer) → Long (length memory) (writeCall memory z p t .memory)
-  unfolding writeCall wroteBy writeAnswerOf
+  write-length : (t : TransferBody) → Long (length memory) (writeCall memory z p t .memory)
+  unfolding writeCall writeLeaves writeAnswerOf
   write-length t =
       let one = isOne (t .handle) in
       let lent = lentOf (p .datagram) (peer one (endsOf p) .queue) (peerRing one z) (peerTable one z) in
@@ -68,8 +68,8 @@ module _ (memory : List ℕ) (z : Rings) (p : Pair) where
       ap length (sym (count-put BASE (t .«count_at») (countOf a) memory (w .count))) ∙ put-length BASE (t .«count_at») (countOf a) memory)
       (λ d. refl)
 
-  read-length : (t : Transfer) → Long (length memory) (readCall memory z p t .memory)
-  unfolding readCall gotBy readAnswerOf
+  read-length : (t : TransferBody) → Long (length memory) (readCall memory z p t .memory)
+  unfolding readCall readLeaves readAnswerOf
   read-length t =
       let one = isOne (t .handle) in
       landed-length p (t .handle) BASE (t .options) (t .address) (t .count) (t .«count_at») (ownRing one z) (ownTable one z) memory _ refl
@@ -92,8 +92,8 @@ module _ (memory : List ℕ) (z : Rings) (p : Pair) where
       (λ e. cases Called P (eqb tag READ) _ _ (λ f. read-length (transferOf b))
       (λ f. cases Called P (ltb 10 tag) _ _ (λ g. fill-length (eight b 0) (drop 8 b)) (λ g. refl)))
 
-settled-length : (tag : ℕ) (b : List ℕ) (a : Answer) (memory : List ℕ) → Long (length memory) (settled tag b a memory)
-unfolding settled
+settled-length : (tag : ℕ) (b : List ℕ) (a : Answer) (memory : List ℕ) → Long (length memory) (afterCount tag b a memory)
+unfolding afterCount
 settled-length tag b a memory =
     cases (List ℕ) (Long (length memory)) (eqb tag READ) _ memory
     (λ e. cases (List ℕ) (Long (length memory)) (isDone a) _ memory (λ d. put-length BASE (eight b 24) (countOf a) memory) (λ d. refl))

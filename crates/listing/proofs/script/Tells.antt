@@ -13,7 +13,7 @@ use Rattle.definition_script.specs.Line.{stopOf}
 use Rattle.definition_script.specs.Call.{writtenAt, Rings}
 use Rattle.text.proofs.Place.{place-front}
 use Rattle.line.specs.line.LineDone.{LINE}
-use Rattle.definition_script.specs.declared.State.{State}
+use Rattle.definition_script.specs.declared.ScriptState.{ScriptState}
 use Rattle.feed.specs.declared.Fed.{Fed}
 use Rattle.definition_script.specs.Listing.{Machine, machine, Move, stay, halt, go, moveOf, run}
 use Rattle.feed.specs.Turn.{machineAfter}
@@ -128,7 +128,7 @@ behind-text {b} {memory′} {z′} {out} {out′} {r} d =
     let l : length out′ ≡ length (b .text ++ drop n out) = ap length (d .text) in
     omega (arith, d .written, l, length-append (b .text) (drop n out), length-drop n out)
 
-pub fed-rest : {st : State} {offset : ℕ} {input memory memory′ : List ℕ} {z z′ : Rings} {out out′ : List ℕ} {r : Fed}
+pub fed-rest : {st : ScriptState} {offset : ℕ} {input memory memory′ : List ℕ} {z z′ : Rings} {out out′ : List ℕ} {r : Fed}
     → FeedDone st offset input memory memory′ z z′ out out′ r → (t : List ℕ)
     → run offset (machine st memory z) (input ++ t)
     ≡ take (r .written) out′ ++ run (offset + r .taken) (machine (r .state) memory′ z′) (drop (r .taken) input ++ t)
@@ -139,7 +139,7 @@ fed-rest {st} {offset} {input} {memory} {memory′} {z} {z′} {out} {out′} {r
     ∙ ap (λ (n : ℕ). take (r .written) out′ ++ run (offset + n) (b .after) (drop n input ++ t)) (sym (d .block .taken))
     ∙ ap (λ (x : Machine). take (r .written) out′ ++ run (offset + r .taken) x (drop (r .taken) input ++ t)) (sym (d .block .after))
 
-pub fed-stuck : {st : State} {offset : ℕ} {input memory memory′ : List ℕ} {z z′ : Rings} {out out′ : List ℕ} {r : Fed}
+pub fed-stuck : {st : ScriptState} {offset : ℕ} {input memory memory′ : List ℕ} {z z′ : Rings} {out out′ : List ℕ} {r : Fed}
     → FeedDone st offset input memory memory′ z z′ out out′ r → isReady st offset (length input) (length memory) ≡ true
     → LINE ≤ length out′ - r .written → moveOf (machine (r .state) memory′ z′) (drop (r .taken) input) ≡ stay
 fed-stuck {st} {offset} {input} {memory} {memory′} {z} {z′} {out} {out′} {r} d e h =

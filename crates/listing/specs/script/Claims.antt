@@ -3,9 +3,9 @@ use Prim.Native.Nat.{ℕ, _+_, _≤_}
 use mathlib.Core.Path.{_≡_}
 use mathlib.Core.List.{List, _++_, [], _∷_, flatten}
 use lib.ListN.{drop, length, take}
-use Rattle.definition_script.specs.declared.State.{State}
+use Rattle.definition_script.specs.declared.ScriptState.{ScriptState}
 use Rattle.feed.specs.declared.Fed.{Fed}
-use Rattle.definition_script.specs.Listing.{Machine, run, machine, stay, moveOf, closing, start, header, listing}
+use Rattle.definition_script.specs.Listing.{Machine, run, machine, stay, moveOf, closing, startMachine, header, listing}
 use Rattle.feed.specs.Feed.{Block, FeedDone, fedOf, allOf}
 use Rattle.text.specs.Put.{Written}
 use Rattle.definition_script.specs.Call.{Rings}
@@ -22,18 +22,18 @@ pub data Feeds (room : ℕ) : (offset : ℕ) → Machine → (s : List ℕ) → 
   more :
       {offset : ℕ} {m : Machine} {s b o : List ℕ} {bs : List (List ℕ)} → Feeds room offset m (s ++ b) bs o → Feeds room offset m s (b ∷ bs) o
   fed :
-      {offset : ℕ} {st : State} {memory memory′ : List ℕ} {z z′ : Rings} {s out out′ o : List ℕ} {bs : List (List ℕ)} {r : Fed}
+      {offset : ℕ} {st : ScriptState} {memory memory′ : List ℕ} {z z′ : Rings} {s out out′ o : List ℕ} {bs : List (List ℕ)} {r : Fed}
       → length out ≡ room → FeedDone st offset s memory memory′ z z′ out out′ r
       → Feeds room (offset + r .taken) (machine (r .state) memory′ z′) (drop (r .taken) s) bs o
       → Feeds room offset (machine st memory z) s bs (take (r .written) out′ ++ o)
   done :
-      {offset : ℕ} {st : State} {memory : List ℕ} {z : Rings} {s out out′ : List ℕ} {r : ℕ} → moveOf (machine st memory z) s ≡ stay
+      {offset : ℕ} {st : ScriptState} {memory : List ℕ} {z : Rings} {s out out′ : List ℕ} {r : ℕ} → moveOf (machine st memory z) s ≡ stay
       → Written 26 0 (closing offset (st .ended) s) r out out′ → length out ≡ room → 26 ≤ room
       → Feeds room offset (machine st memory z) s [] (take r out′)
 
 -- the header, then what feeding puts out, is the listing, however the script is cut into blocks
-abbrev pub Chain : Type 0
-Chain = (room : ℕ) (bs : List (List ℕ)) (o : List ℕ) → Feeds room 0 start [] bs o → header ++ o ≡ listing (flatten bs)
+abbrev pub AnyBlocks : Type 0
+AnyBlocks = (room : ℕ) (bs : List (List ℕ)) (o : List ℕ) → Feeds room 0 startMachine [] bs o → header ++ o ≡ listing (flatten bs)
 
 -- from every place of a script there is a feeding to the end, where the output has room for a line. Before the place are offset bytes, and so at most as
 -- many records; no script has more than LIMIT bytes, and memory has at most 4096
@@ -44,12 +44,12 @@ Complete =
 
 -- every script of at most LIMIT bytes has a feeding, however it is cut into blocks, where the output has room for a line
 abbrev pub Every : Type 0
-Every = (room : ℕ) (bs : List (List ℕ)) → length (flatten bs) ≤ LIMIT → LINE ≤ room → (o : List ℕ) × Feeds room 0 start [] bs o
+Every = (room : ℕ) (bs : List (List ℕ)) → length (flatten bs) ≤ LIMIT → LINE ≤ room → (o : List ℕ) × Feeds room 0 startMachine [] bs o
 
 -- what is claimed of feeding
 pub record FeedingClaims : Type 0 where
   pub block : (offset room : ℕ) (m : Machine) (s : List ℕ) → Listed offset m s (fedOf offset room m s)
   pub all : (offset : ℕ) (m : Machine) (s : List ℕ) → Listed offset m s (allOf offset m s)
-  pub chain : Chain
+  pub chain : AnyBlocks
   pub complete : Complete
   pub every : Every

@@ -14,7 +14,7 @@ use Rattle.port.specs.places.Table.{onlyWait}
 use Rattle.port.proofs.places.Lists.{either}
 use Rattle.port.proofs.signal_change.Only.{only-on, only-off}
 use Rattle.endpoint.specs.declared.ends.Pending.{Pending}
-use Rattle.endpoint.specs.declared.ends.Outcome.{Outcome}
+use Rattle.endpoint.specs.declared.ends.EndsOutcome.{EndsOutcome}
 use Rattle.port.specs.visits.Visits.{visited, visitedEach}
 use Rattle.port.proofs.visits.Visiting.{visited-idle}
 
@@ -59,7 +59,7 @@ few-only a t (l, inr o) = on-pick (onlyWait t) (visited a t) t o
 abbrev only : Pending → Places → Places
 only a t = pick (onlyWait t) (visited a t) t
 
-pub only-each : (r : Outcome) (t : Places) → length (t .table) ≡ 128
+pub only-each : (r : EndsOutcome) (t : Places) → length (t .table) ≡ 128
     → only (r .more .second) (only (r .more .first) (only (r .visits .second) (only (r .visits .first) t))) ≡ pick (onlyWait t) (visitedEach r t) t
 unfolding visitedEach
 only-each r t l = by (either (onlyWait t))

@@ -16,7 +16,7 @@ use Rattle.port.proofs.signal_change.Operations.{change-unsound, change
 use Rattle.port.proofs.signal_change.Idle.{nothing-fires, idle-change}
 use Rattle.endpoint.specs.declared.ends.Pending.{Pending}
 use Rattle.endpoint.specs.declared.ends.Visits.{Visits}
-use Rattle.endpoint.specs.declared.ends.Outcome.{Outcome}
+use Rattle.endpoint.specs.declared.ends.EndsOutcome.{EndsOutcome}
 use Rattle.endpoint.specs.ends.Outcome.{noVisit, keepsWord, canFire}
 use Rattle.port.specs.visits.Visits.{changesOf, due, anyDue, visited, visitedEach}
 
@@ -75,13 +75,13 @@ or-false true = refl
 or-false false = refl
 
 -- the four changes, asked as a list
-pub all-due : (r : Outcome) (t : Places) → any (λ (a : Pending). due a t) (slice 0 4 (changesOf r)) ≡ anyDue r t
+pub all-due : (r : EndsOutcome) (t : Places) → any (λ (a : Pending). due a t) (slice 0 4 (changesOf r)) ≡ anyDue r t
 unfolding anyDue changesOf any
 all-due r t =
     ap (λ (d : Bool). due (r .visits .first) t or due (r .visits .second) t or due (r .more .first) t or d) (or-false (due (r .more .second) t))
 
 -- none of them fires a wait
-pub none-due : (r : Outcome) (t : Places) → length (t .table) ≡ 128 → anyDue r t ≡ false → visitedEach r t ≡ t
+pub none-due : (r : EndsOutcome) (t : Places) → length (t .table) ≡ 128 → anyDue r t ≡ false → visitedEach r t ≡ t
 unfolding anyDue visitedEach
 none-due r t l e =
     let one = neither (due (r .visits .first) t) _ e in

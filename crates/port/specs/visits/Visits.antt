@@ -4,7 +4,7 @@ use mathlib.Core.Bool.{Bool, false}
 use mathlib.Core.List.{List, [], _∷_}
 use Rattle.definition.specs.declared.Places.{Places}
 use Rattle.endpoint.specs.declared.ends.Pending.{Pending}
-use Rattle.endpoint.specs.declared.ends.Outcome.{Outcome}
+use Rattle.endpoint.specs.declared.ends.EndsOutcome.{EndsOutcome}
 use Rattle.definition.specs.Status.{pick, _or_}
 use Rattle.definition.specs.Signal.{changedWord}
 use Rattle.definition.specs.Port.{firesOf, changeOf}
@@ -19,13 +19,13 @@ unfoldable pub visited : Pending → Places → Places
 visited a t = changeOf (a .one) (a .word) (a .clear) (a .set) t .places
 
 -- all changes of a call, in their order
-unfoldable pub changesOf : Outcome → List Pending
+unfoldable pub changesOf : EndsOutcome → List Pending
 changesOf r = r .visits .first ∷ r .visits .second ∷ r .more .first ∷ r .more .second ∷ []
 
 -- whether one of all changes of a call fires a wait
-unfoldable pub anyDue : Outcome → Places → Bool
+unfoldable pub anyDue : EndsOutcome → Places → Bool
 anyDue r t = due (r .visits .first) t or due (r .visits .second) t or due (r .more .first) t or due (r .more .second) t
 
 -- the table after the waits of all changes of a call are visited
-unfoldable pub visitedEach : Outcome → Places → Places
+unfoldable pub visitedEach : EndsOutcome → Places → Places
 visitedEach r t = visited (r .more .second) (visited (r .more .first) (visited (r .visits .second) (visited (r .visits .first) t)))

@@ -9,7 +9,7 @@ use Rattle.endpoint.proofs.answer.Rules.{pick-off, or-on, or-off}
 use Rattle.report.specs.declared.tally.Comparison.{Comparison}
 use Rattle.report.specs.declared.tally.Comparison.the-variants.{Agrees, DiffersAt, NoRoom}
 use Rattle.report.specs.declared.tally.Tally.{Tally}
-use Rattle.report.specs.tally.Count.{isFull, missed, countedOf}
+use Rattle.report.specs.tally.Count.{isFull, missedEntry, countedOf}
 
 -- ---- when a tally is full
 
@@ -34,20 +34,20 @@ counted-agrees t from to Agrees e = refl
 counted-agrees t from to (DiffersAt i) e = absurd (let z : _≡_ {A = ℕ} 0 1 = cc in omega arith)
 counted-agrees t from to NoRoom e = absurd (let z : _≡_ {A = ℕ} 0 1 = cc in omega arith)
 
-pub missed-is : {r : Tally} (t : Tally) (from to : ℕ) (o : Comparison) → (o ≡ Agrees → ⊥) → r ≡ missed t from to o → r ≡ countedOf t from to o
+pub missed-is : {r : Tally} (t : Tally) (from to : ℕ) (o : Comparison) → (o ≡ Agrees → ⊥) → r ≡ missedEntry t from to o → r ≡ countedOf t from to o
 unfolding countedOf
 missed-is t from to Agrees h e = absurd (h refl)
 missed-is t from to (DiffersAt i) h e = e
 missed-is t from to NoRoom h e = e
 
 pub missed-again : (t : Tally) (from to : ℕ) (o : Comparison) → t .agree < t .total
-    → record { total = t .total + 1; agree = t .agree; number = t .number; from = t .from; to = t .to; first = t .first } ≡ missed t from to o
-unfolding missed pick
+    → record { total = t .total + 1; agree = t .agree; number = t .number; from = t .from; to = t .to; first = t .first } ≡ missedEntry t from to o
+unfolding missedEntry pick
 missed-again t from to o g = rw (lt-ltb (t .agree) (t .total) g) refl
 
 pub missed-first : (t : Tally) (from to : ℕ) (o : Comparison) → t .total ≤ t .agree
-    → record { total = t .total + 1; agree = t .agree; number = t .total; from = from; to = to; first = o } ≡ missed t from to o
-unfolding missed pick
+    → record { total = t .total + 1; agree = t .agree; number = t .total; from = from; to = to; first = o } ≡ missedEntry t from to o
+unfolding missedEntry pick
 missed-first t from to o g = rw (le-ltb (t .agree) (t .total) g) refl
 
 pub counted-again : (t : Tally) (from to : ℕ) (o : Comparison) → (o ≡ Agrees → ⊥) → t .agree < t .total

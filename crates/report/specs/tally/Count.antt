@@ -12,8 +12,8 @@ unfoldable pub isFull : Tally → Bool
 isFull t = leb 9223372036854775808 (t .total) or leb 9223372036854775808 (t .agree)
 
 -- an entry is counted that does not agree, and whose name begins and ends at two places: it is the first such if all before it agree
-unfoldable pub missed : Tally → (from to : ℕ) → Comparison → Tally
-missed t from to o =
+unfoldable pub missedEntry : Tally → (from to : ℕ) → Comparison → Tally
+missedEntry t from to o =
     record {
       total = t .total + 1;
       agree = t .agree;
@@ -27,5 +27,5 @@ missed t from to o =
 unfoldable pub countedOf : Tally → (from to : ℕ) → Comparison → Tally
 countedOf t from to Agrees =
     record { total = t .total + 1; agree = t .agree + 1; number = t .number; from = t .from; to = t .to; first = t .first }
-countedOf t from to (DiffersAt i) = missed t from to (DiffersAt i)
-countedOf t from to NoRoom = missed t from to NoRoom
+countedOf t from to (DiffersAt i) = missedEntry t from to (DiffersAt i)
+countedOf t from to NoRoom = missedEntry t from to NoRoom

@@ -12,47 +12,47 @@ use lib.ListN.{length, getD, take, drop, set, length-append, length-take, length
 use lib.Seq.{paste, paste-zero, length-paste, getD-take, getD-drop, take-take, set-split}
 use borrow.Author.Tests.{lt-ltb, le-ltb, le-leb, ltb-true, leb-true}
 use Rattle.definition.specs.Status.{pick, _and_}
-use Rattle.definition.specs.Ring.{place, front, put}
+use Rattle.definition.specs.Ring.{position, front, put}
 use Rattle.ring.proofs.place.Laws.{place-low, place-high}
 use Rattle.ring.specs.copy.Copies.{ringFits, copiedIn, copiedOut}
 use Rattle.ring.proofs.copy.Lists.{split, ext, getD-right, take-part, paste-before, paste-in, paste-after}
 
 -- ---- places
 
-pub place-lt : (C s k : ℕ) → s < C → k ≤ C → place C s k < C
+pub place-lt : (C s k : ℕ) → s < C → k ≤ C → position C s k < C
 place-lt C s k low turn = split (C - s) k (λ h. omega (arith, place-high C s k h)) (λ h. omega (arith, place-low C s k h))
 
-pub place-zero : (C s : ℕ) → s < C → place C s 0 ≡ s
+pub place-zero : (C s : ℕ) → s < C → position C s 0 ≡ s
 place-zero C s low = omega (arith, place-low C s 0 (omega arith))
 
-pub place-turn : (C s : ℕ) → s < C → place C s C ≡ s
+pub place-turn : (C s : ℕ) → s < C → position C s C ≡ s
 place-turn C s low = omega (arith, place-high C s C (omega arith))
 
 -- k past the place that is n past s
-pub place-place : (C s n k : ℕ) → s < C → n + k ≤ C → place C (place C s n) k ≡ place C s (n + k)
+pub place-place : (C s n k : ℕ) → s < C → n + k ≤ C → position C (position C s n) k ≡ position C s (n + k)
 place-place C s n k low turn =
     split (C - s) n
     (λ h.
-    let e : place C s n ≡ n - (C - s) = place-high C s n h in
-    omega (arith, place-low C (place C s n) k (omega arith), place-high C s (n + k) (omega arith)))
+    let e : position C s n ≡ n - (C - s) = place-high C s n h in
+    omega (arith, place-low C (position C s n) k (omega arith), place-high C s (n + k) (omega arith)))
     (λ h.
-    let e : place C s n ≡ s + n = place-low C s n h in
+    let e : position C s n ≡ s + n = place-low C s n h in
     split (C - s) (n + k)
-    (λ g. omega (arith, place-high C (place C s n) k (omega arith), place-high C s (n + k) g))
-    (λ g. omega (arith, place-low C (place C s n) k (omega arith), place-low C s (n + k) g)))
+    (λ g. omega (arith, place-high C (position C s n) k (omega arith), place-high C s (n + k) g))
+    (λ g. omega (arith, place-low C (position C s n) k (omega arith), place-low C s (n + k) g)))
 
 -- a place of the queue, counted round the ring from the place behind the queue
-place-round : (C s q i : ℕ) → s < C → q ≤ C → i < q → place C s i ≡ place C (place C s q) (C - q + i)
+place-round : (C s q i : ℕ) → s < C → q ≤ C → i < q → position C s i ≡ position C (position C s q) (C - q + i)
 place-round C s q i low room h =
     split (C - s) q
     (λ g.
-    let e : place C s q ≡ q - (C - s) = place-high C s q g in
+    let e : position C s q ≡ q - (C - s) = place-high C s q g in
     split (C - s) i
-    (λ f. omega (arith, place-high C s i f, place-high C (place C s q) (C - q + i) (omega arith)))
-    (λ f. omega (arith, place-low C s i f, place-low C (place C s q) (C - q + i) (omega arith))))
+    (λ f. omega (arith, place-high C s i f, place-high C (position C s q) (C - q + i) (omega arith)))
+    (λ f. omega (arith, place-low C s i f, place-low C (position C s q) (C - q + i) (omega arith))))
     (λ g.
-    let e : place C s q ≡ s + q = place-low C s q g in
-    omega (arith, place-low C s i (omega arith), place-high C (place C s q) (C - q + i) (omega arith)))
+    let e : position C s q ≡ s + q = place-low C s q g in
+    omega (arith, place-low C s i (omega arith), place-high C (position C s q) (C - q + i) (omega arith)))
 
 -- ---- the entries from a place on
 
@@ -64,7 +64,7 @@ module _ {A : Type 0} (C s n : ℕ) (ring : List A) (low : s < C) (room : n ≤ 
   unfolding front
   length-front = simp (length-append, length-take, length-drop) (omega arith)
 
-  pub front-at : (i : ℕ) (d : A) → i < n → getD (front C s n ring) i d ≡ getD ring (place C s i) d
+  pub front-at : (i : ℕ) (d : A) → i < n → getD (front C s n ring) i d ≡ getD ring (position C s i) d
   unfolding front
   front-at i d h =
       split (C - s) i
@@ -72,7 +72,7 @@ module _ {A : Type 0} (C s n : ℕ) (ring : List A) (low : s < C) (room : n ≤ 
       getD-right (take (min n (C - s)) (drop s ring)) (take (n - (C - s)) ring) i d (omega (arith, left-length))
       ∙ getD-take (n - (C - s)) ring (i - length (take (min n (C - s)) (drop s ring))) d (omega (arith, left-length))
       ∙ ap (λ (j : ℕ). getD ring j d)
-      (let e : i - length (take (min n (C - s)) (drop s ring)) ≡ place C s i = omega (arith, left-length, place-high C s i g) in e))
+      (let e : i - length (take (min n (C - s)) (drop s ring)) ≡ position C s i = omega (arith, left-length, place-high C s i g) in e))
       (λ g.
       List·getD-append (take (min n (C - s)) (drop s ring)) (take (n - (C - s)) ring) d i (omega (arith, left-length))
       ∙ getD-take (min n (C - s)) (drop s ring) i d (omega arith)
@@ -111,12 +111,12 @@ module _ {A : Type 0} (C at n : ℕ) (xs ring : List A) (low : at < C) (room : n
     unfolding put first
     from-first i h = paste-after first 0 (drop (min n (C - at)) xs) (n - (C - at)) (omega (arith, first-length)) rest-has d i (omega arith)
 
-    pub put-inside : (j : ℕ) → j < n → getD (put C at n xs ring) (place C at j) d ≡ getD xs j d
+    pub put-inside : (j : ℕ) → j < n → getD (put C at n xs ring) (position C at j) d ≡ getD xs j d
     unfolding put first
     put-inside j h =
         split (C - at) j
         (λ g.
-        ap (λ (p : ℕ). getD (put C at n xs ring) p d) (let e : place C at j ≡ 0 + (j - (C - at)) = omega (arith, place-high C at j g) in e)
+        ap (λ (p : ℕ). getD (put C at n xs ring) p d) (let e : position C at j ≡ 0 + (j - (C - at)) = omega (arith, place-high C at j g) in e)
         ∙ paste-in first 0 (drop (min n (C - at)) xs) (n - (C - at)) (omega (arith, first-length)) rest-has d (j - (C - at)) (omega arith)
         ∙ getD-drop (min n (C - at)) xs (j - (C - at)) d
         ∙ ap (λ (p : ℕ). getD xs p d) (let e : min n (C - at) + (j - (C - at)) ≡ j = omega arith in e))
@@ -125,18 +125,18 @@ module _ {A : Type 0} (C at n : ℕ) (xs ring : List A) (low : at < C) (room : n
         ∙ from-first (at + j) (omega arith)
         ∙ paste-in ring at xs (min n (C - at)) (omega arith) (omega arith) d j (omega arith))
 
-    pub put-outside : (j : ℕ) → n ≤ j → j < C → getD (put C at n xs ring) (place C at j) d ≡ getD ring (place C at j) d
+    pub put-outside : (j : ℕ) → n ≤ j → j < C → getD (put C at n xs ring) (position C at j) d ≡ getD ring (position C at j) d
     unfolding first
     put-outside j h turn =
         split (C - at) j
         (λ g.
-        let e : place C at j ≡ j - (C - at) = place-high C at j g in
-        from-first (place C at j) (omega arith)
-        ∙ paste-before ring at xs (min n (C - at)) (omega arith) (omega arith) d (place C at j) (omega arith))
+        let e : position C at j ≡ j - (C - at) = place-high C at j g in
+        from-first (position C at j) (omega arith)
+        ∙ paste-before ring at xs (min n (C - at)) (omega arith) (omega arith) d (position C at j) (omega arith))
         (λ g.
-        let e : place C at j ≡ at + j = place-low C at j g in
-        from-first (place C at j) (omega arith)
-        ∙ paste-after ring at xs (min n (C - at)) (omega arith) (omega arith) d (place C at j) (omega arith))
+        let e : position C at j ≡ at + j = place-low C at j g in
+        from-first (position C at j) (omega arith)
+        ∙ paste-after ring at xs (min n (C - at)) (omega arith) (omega arith) d (position C at j) (omega arith))
 
     pub put-past : (i : ℕ) → C ≤ i → getD (put C at n xs ring) i d ≡ getD ring i d
     unfolding first
@@ -169,9 +169,9 @@ put-one {A} C at v ring low long =
 
 -- entries that are put behind the queue are at its back, and the queue before them is unchanged
 pub front-put : {A : Type 0} (C s q n : ℕ) (xs ring : List A) → s < C → q + n ≤ C → C ≤ length ring → n ≤ length xs
-    → front C s (q + n) (put C (place C s q) n xs ring) ≡ front C s q ring ++ take n xs
+    → front C s (q + n) (put C (position C s q) n xs ring) ≡ front C s q ring ++ take n xs
 front-put {A} C s q n xs ring low room long has =
-    let at : ℕ = place C s q in
+    let at : ℕ = position C s q in
     let at-low : at < C = place-lt C s q low (omega arith) in
     let next : List A = put C at n xs ring in
     let long′ : C ≤ length next = omega (arith, length-put C at n xs ring at-low (omega arith) has long) in
@@ -184,14 +184,14 @@ front-put {A} C s q n xs ring low room long has =
     ∙ split q i
     (λ g.
     ap (λ (p : ℕ). getD next p d)
-    (ap (place C s) (let e : i ≡ q + (i - q) = omega arith in e) ∙ sym (place-place C s q (i - q) low (omega arith)))
+    (ap (position C s) (let e : i ≡ q + (i - q) = omega arith in e) ∙ sym (place-place C s q (i - q) low (omega arith)))
     ∙ put-inside C at n xs ring at-low (omega arith) has long d (i - q) (omega arith)
     ∙ sym
     (getD-right (front C s q ring) (take n xs) i d (omega arith)
     ∙ getD-take n xs (i - length (front C s q ring)) d (omega arith)
     ∙ ap (λ (p : ℕ). getD xs (i - p) d) old))
     (λ g.
-    let e : place C s i ≡ place C at (C - q + i) = place-round C s q i low (omega arith) g in
+    let e : position C s i ≡ position C at (C - q + i) = place-round C s q i low (omega arith) g in
     ap (λ (p : ℕ). getD next p d) e
     ∙ put-outside C at n xs ring at-low (omega arith) has long d (C - q + i) (omega arith) (omega arith)
     ∙ ap (λ (p : ℕ). getD ring p d) (sym e)
@@ -200,9 +200,9 @@ front-put {A} C s q n xs ring low room long has =
 
 -- the same for one entry that is stored behind the queue
 pub front-set : {A : Type 0} (C s q : ℕ) (v : A) (ring : List A) → s < C → q < C → C ≤ length ring
-    → front C s (q + 1) (set ring (place C s q) v) ≡ front C s q ring ++ (v ∷ [])
+    → front C s (q + 1) (set ring (position C s q) v) ≡ front C s q ring ++ (v ∷ [])
 front-set C s q v ring low room long =
-    ap (front C s (q + 1)) (sym (put-one C (place C s q) v ring (place-lt C s q low (omega arith)) long))
+    ap (front C s (q + 1)) (sym (put-one C (position C s q) v ring (place-lt C s q low (omega arith)) long))
     ∙ front-put C s q 1 (v ∷ []) ring low (omega arith) long (lit≤ tt)
 
 -- the first k of the queue
@@ -220,19 +220,19 @@ take-front C s q k ring h room low long =
 
 -- the queue without its first k
 pub drop-front : {A : Type 0} (C s q k : ℕ) (ring : List A) → k ≤ q → q ≤ C → s < C → C ≤ length ring
-    → drop k (front C s q ring) ≡ front C (place C s k) (q - k) ring
+    → drop k (front C s q ring) ≡ front C (position C s k) (q - k) ring
 drop-front C s q k ring h room low long =
-    let low′ : place C s k < C = place-lt C s k low (omega arith) in
+    let low′ : position C s k < C = place-lt C s k low (omega arith) in
     let old : length (front C s q ring) ≡ q = length-front C s q ring low room long in
-    let new : length (front C (place C s k) (q - k) ring) ≡ q - k = length-front C (place C s k) (q - k) ring low′ (omega arith) long in
-    ext (drop k (front C s q ring)) (front C (place C s k) (q - k) ring)
+    let new : length (front C (position C s k) (q - k) ring) ≡ q - k = length-front C (position C s k) (q - k) ring low′ (omega arith) long in
+    ext (drop k (front C s q ring)) (front C (position C s k) (q - k) ring)
     (simp (new, length-drop, old))
     (λ d i g.
     let l : i < q - k = omega (arith, length-drop k (front C s q ring)) in
     getD-drop k (front C s q ring) i d
     ∙ front-at C s q ring low room long (k + i) d (omega arith)
     ∙ ap (λ (p : ℕ). getD ring p d) (sym (place-place C s k i low (omega arith)))
-    ∙ sym (front-at C (place C s k) (q - k) ring low′ (omega arith) long i d l))
+    ∙ sym (front-at C (position C s k) (q - k) ring low′ (omega arith) long i d l))
 
 -- ---- copies that fit
 

@@ -13,13 +13,13 @@ use Rattle.definition.specs.Status.{pick, countOf, isDone}
 use Rattle.definition.specs.declared.Pair.{Pair}
 use Rattle.definition.specs.declared.Step.{Step}
 use Rattle.definition.specs.Pair.{isOne, own, endsOf}
-use Rattle.definition.specs.Write.{pairWritten, ringWritten, tableWritten, UserWrote}
+use Rattle.definition.specs.Write.{pairWritten, ringWritten, tableWritten, UserWrites}
 use Rattle.definition.specs.Read.{pairRead, isPeek, bytesLanded, BytesRead}
 use Rattle.definition.specs.Tests.{firstLength}
 use Rattle.definition.specs.Memory.{countLanded}
-use Rattle.definition_script.specs.declared.Transfer.{Transfer}
+use Rattle.definition_script.specs.declared.TransferBody.{TransferBody}
 use Rattle.definition_script.specs.Record.{eight, transferOf, isBody}
-use Rattle.definition_script.specs.Call.{BASE, fillAnswer, filled, Called, writeAnswerOf, wroteBy, writeCall, readAnswerOf, gotBy, readCall, fillCall, Rings, ownRing, ownTable, peerRing, peerTable, withPeer, plainStep, plainCall, callOf}
+use Rattle.definition_script.specs.Call.{BASE, fillAnswer, filled, Called, writeAnswerOf, writeLeaves, writeCall, readAnswerOf, readLeaves, readCall, fillCall, Rings, ownRing, ownTable, peerRing, peerTable, withPeerRings, controlStep, controlCall, callOf}
 use Rattle.script_call.proofs.fill.Fills.{never}
 use Rattle.script_call.specs.call.CallDone.{CallDone}
 use Rattle.script_call.proofs.plain_call.Steps.{mk, same-step}
@@ -27,15 +27,15 @@ use Rattle.script_call.specs.call.CallMade.{CallMade}
 
 -- ---- write
 
-module _ (memory memory′ ring ring′ table table′ : List ℕ) (z z′ : Rings) (p : Pair) (t : Transfer) (r : Step)
-    (er : peerRing (isOne (t .handle)) z ≡ ring) (et : peerTable (isOne (t .handle)) z ≡ table) (ez : withPeer (isOne (t .handle)) ring′ table′ z ≡ z′)
-    (w : UserWrote p (t .handle) BASE (t .options) (t .address) (t .count) (t .«count_at») memory memory′ ring ring′ table table′ r) where
+module _ (memory memory′ ring ring′ table table′ : List ℕ) (z z′ : Rings) (p : Pair) (t : TransferBody) (r : Step)
+    (er : peerRing (isOne (t .handle)) z ≡ ring) (et : peerTable (isOne (t .handle)) z ≡ table) (ez : withPeerRings (isOne (t .handle)) ring′ table′ z ≡ z′)
+    (w : UserWrites p (t .handle) BASE (t .options) (t .address) (t .count) (t .«count_at») memory memory′ ring ring′ table table′ r) where
   wrote-answer : r .answer ≡ writeAnswerOf memory z p t
   unfolding writeAnswerOf
   wrote-answer = rw (er, et) (w .answer)
 
   pub wrote : CallDone (writeCall memory z p t) memory′ z′ r
-  unfolding writeCall wroteBy
+  unfolding writeCall writeLeaves
   wrote =
       let h : ℕ = t .handle in
       let a : Answer = writeAnswerOf memory z p t in
@@ -46,15 +46,15 @@ module _ (memory memory′ ring ring′ table table′ : List ℕ) (z z′ : Rin
         memory = w .user ∙ ap (λ (x : Answer). pick (isDone x) (countLanded BASE (t .«count_at») (countOf x) memory) memory) e;
         lent =
             sym ez
-            ∙ ap (λ (x : List ℕ). withPeer (isOne h) x table′ z)
+            ∙ ap (λ (x : List ℕ). withPeerRings (isOne h) x table′ z)
             (w .bytes ∙ ap (λ (x : Answer). ringWritten (endsOf p) h (countOf x) src ring) e ∙ ap (λ (y : List ℕ). ringWritten (endsOf p) h (countOf a) src y) (sym er))
-            ∙ ap (λ (x : List ℕ). withPeer (isOne h) (ringWritten (endsOf p) h (countOf a) src (peerRing (isOne h) z)) x z)
+            ∙ ap (λ (x : List ℕ). withPeerRings (isOne h) (ringWritten (endsOf p) h (countOf a) src (peerRing (isOne h) z)) x z)
             (w .lengths ∙ ap (λ (x : Answer). tableWritten (endsOf p) h (countOf x) table) e ∙ ap (λ (y : List ℕ). tableWritten (endsOf p) h (countOf a) y) (sym et));
       }
 
 -- ---- read
 
-module _ (memory memory′ ring table : List ℕ) (z : Rings) (p : Pair) (t : Transfer) (r : Step)
+module _ (memory memory′ ring table : List ℕ) (z : Rings) (p : Pair) (t : TransferBody) (r : Step)
     (er : ownRing (isOne (t .handle)) z ≡ ring) (et : ownTable (isOne (t .handle)) z ≡ table)
     (w : BytesRead p (t .handle) BASE (t .options) (t .address) (t .count) (t .«count_at») ring table memory memory′ r) where
   got-answer : r .answer ≡ readAnswerOf memory z p t
@@ -62,7 +62,7 @@ module _ (memory memory′ ring table : List ℕ) (z : Rings) (p : Pair) (t : Tr
   got-answer = rw (er, et) (w .answer)
 
   pub got : CallDone (readCall memory z p t) memory′ z r
-  unfolding readCall gotBy
+  unfolding readCall readLeaves
   got =
       let h : ℕ = t .handle in
       let a : Answer = readAnswerOf memory z p t in
@@ -96,12 +96,12 @@ module _ (memory : List ℕ) (z : Rings) (p : Pair) (tag : ℕ) (b memory′ : L
   fill-call h d = simp (ne-eqb tag 1 (λ e. omega arith), ne-eqb tag 2 (λ e. omega arith), lt-ltb 10 tag h) d
 
 plain-is : (memory : List ℕ) (z : Rings) (p : Pair) (tag : ℕ) (b : List ℕ) → (tag ≡ 1 → ⊥) → (tag ≡ 2 → ⊥) → tag ≤ 10
-    → callOf memory z p tag b ≡ plainCall memory z (plainStep z p tag b)
+    → callOf memory z p tag b ≡ controlCall memory z (controlStep z p tag b)
 unfolding callOf pick
 plain-is memory z p tag b f g h = simp (ne-eqb tag 1 f, ne-eqb tag 2 g, le-ltb 10 tag h)
 
 pub plain-call : (memory : List ℕ) (z : Rings) (p : Pair) (tag : ℕ) (b : List ℕ) (r : Step) → (tag ≡ 1 → ⊥) → (tag ≡ 2 → ⊥) → tag ≤ 10
-    → r ≡ plainStep z p tag b → CallDone (callOf memory z p tag b) memory z r
+    → r ≡ controlStep z p tag b → CallDone (callOf memory z p tag b) memory z r
 plain-call memory z p tag b r f g h e = rw (plain-is memory z p tag b f g h) (record { step = e; memory = refl; lent = refl })
 
 -- a fill, from what its function says

@@ -11,7 +11,7 @@ use Rattle.definition.specs.declared.Pair.{Pair}
 use Rattle.definition.specs.declared.Step.{Step}
 use Rattle.definition.specs.Pair.{isOne}
 use Rattle.definition.specs.Tests.{Steps}
-use Rattle.definition_script.specs.Call.{Rings, rings, ownRing, ownTable, peerRing, peerTable, withPeer, stepOf, takeStep, plainStep}
+use Rattle.definition_script.specs.Call.{Rings, rings, ownRing, ownTable, peerRing, peerTable, withPeerRings, stepOf, takeStep, controlStep}
 
 abbrev pub mk : Pair → Answer → Step
 mk p a = record { pair = p; answer = a }
@@ -65,13 +65,13 @@ module _ (z : Rings) (h : ℕ) where
   unfolding ownTable
   own-table-two e = ap (λ (b : Bool). ownTable b z) (two-is h e)
 
-  pub with-peer-one : (ring table : List ℕ) → h ≡ 1 → withPeer (isOne h) ring table z ≡ rings (z .ring1) (z .table1) ring table
-  unfolding withPeer
-  with-peer-one ring table e = ap (λ (b : Bool). withPeer b ring table z) (one-is h e)
+  pub with-peer-one : (ring table : List ℕ) → h ≡ 1 → withPeerRings (isOne h) ring table z ≡ rings (z .ring1) (z .table1) ring table
+  unfolding withPeerRings
+  with-peer-one ring table e = ap (λ (b : Bool). withPeerRings b ring table z) (one-is h e)
 
-  pub with-peer-two : (ring table : List ℕ) → (h ≡ 1 → ⊥) → withPeer (isOne h) ring table z ≡ rings ring table (z .ring2) (z .table2)
-  unfolding withPeer
-  with-peer-two ring table e = ap (λ (b : Bool). withPeer b ring table z) (two-is h e)
+  pub with-peer-two : (ring table : List ℕ) → (h ≡ 1 → ⊥) → withPeerRings (isOne h) ring table z ≡ rings ring table (z .ring2) (z .table2)
+  unfolding withPeerRings
+  with-peer-two ring table e = ap (λ (b : Bool). withPeerRings b ring table z) (two-is h e)
 
 -- ---- tags, one after the other
 
@@ -81,8 +81,8 @@ up tag n h f = omega arith
 pub from-ten : (tag : ℕ) → 4 ≤ tag → (tag ≡ 4 → ⊥) → (tag ≡ 5 → ⊥) → (tag ≡ 6 → ⊥) → (tag ≡ 7 → ⊥) → (tag ≡ 8 → ⊥) → (tag ≡ 9 → ⊥) → 10 ≤ tag
 from-ten tag h n4 n5 n6 n7 n8 n9 = up tag 9 (up tag 8 (up tag 7 (up tag 6 (up tag 5 (up tag 4 h n4) n5) n6) n7) n8) n9
 
-pub take-tag : (z : Rings) (p : Pair) (tag : ℕ) (b : List ℕ) (r : Step) → 10 ≤ tag → r ≡ takeStep p → r ≡ plainStep z p tag b
-unfolding plainStep pick
+pub take-tag : (z : Rings) (p : Pair) (tag : ℕ) (b : List ℕ) (r : Step) → 10 ≤ tag → r ≡ takeStep p → r ≡ controlStep z p tag b
+unfolding controlStep pick
 take-tag z p tag b r h e =
     simp (le-ltb tag 1 (omega arith), le-ltb tag 4 (omega arith), le-ltb tag 5 (omega arith), le-ltb tag 6 (omega arith), le-ltb tag 7 (omega arith), le-ltb tag 8 (omega arith), le-ltb tag 9 (omega arith), le-ltb tag 10 h)
     e

@@ -1,5 +1,5 @@
 // Little-endian numbers of a body. What lies past its end reads as 0.
-use definition_script::Transfer;
+use definition_script::TransferBody;
 ghost use Prim.Native.Nat.{_≤_};
 ghost use mathlib.Core.Path.{_≡_};
 ghost use lib.ListN.{getD};
@@ -57,10 +57,10 @@ pub fn u64_at(s: &[u8], at: u8) -> u64
 }
 
 // The body of a write or a read.
-pub fn transfer_at(body: &[u8]) -> Transfer
+pub fn transfer_at(body: &[u8]) -> TransferBody
     ensures { λ r. ⌜ r ≡ transferOf (now (body .entry)) ⌝ }
 {
-    Transfer {
+    TransferBody {
         handle: u32_at(body, 0),
         options: u32_at(body, 4),
         address: u64_at(body, 8),

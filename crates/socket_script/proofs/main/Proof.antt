@@ -1,7 +1,7 @@
 use borrow.Author.Needs.{needs}
 use mathlib.Core.Path.{refl}
 use native.Mathlib.Omega.{arith}
-use Rattle.definition_script.specs.Listing.{start}
+use Rattle.definition_script.specs.Listing.{startMachine}
 use Rattle.socket_script.proofs.main.Statement.{statement}
 use Rattle.socket_script.proofs.main.Tie as tie
 
@@ -33,7 +33,7 @@ slice-aggregate-out : tie.Need-slice-aggregate-out
 slice-aggregate-out c = search needs
 
 run-requires : tie.Need-run-requires
-unfolding start
+unfolding startMachine
 run-requires c κs =
     record {
       starts = refl;

@@ -14,7 +14,7 @@ use Rattle.definition.specs.Ring.{front}
 use Rattle.definition.specs.declared.Endpoint.{Endpoint}
 use Rattle.definition.specs.Tests.{firstLength, lentOf}
 use Rattle.definition.specs.declared.Ends.{Ends}
-use Rattle.endpoint.specs.declared.ends.Outcome.{Outcome}
+use Rattle.endpoint.specs.declared.ends.EndsOutcome.{EndsOutcome}
 use Rattle.endpoint.specs.declared.ends.Visits.{Visits}
 use Rattle.endpoint.specs.declared.ends.Moved.{Moved}
 use Rattle.definition.specs.Pair.{isOne, own, peer}
@@ -36,7 +36,7 @@ looked false false a f m = refl
 pub delivered-first : (k first m : ℕ) → first ≡ pick (eqb k 0) 0 m → (k ≡ 0 → ⊥) → first ≡ m
 delivered-first k first m e z = e ∙ sym (pick-off _ _ _ _ _ (ne-eqb k 0 z) refl)
 
-pub ends-read : (e : Ends) (h : ℕ) (peek : Bool) (ring table buffer buffer′ : List ℕ) (x : Answer) (k : ℕ) (o t : Endpoint) (first : ℕ) (d : Moved) (r : Outcome)
+pub ends-read : (e : Ends) (h : ℕ) (peek : Bool) (ring table buffer buffer′ : List ℕ) (x : Answer) (k : ℕ) (o t : Endpoint) (first : ℕ) (d : Moved) (r : EndsOutcome)
     → x ≡ readAnswer e (lentOf (e .datagram) (own (isOne h) e .queue) ring table) h (length buffer) → k ≡ countOf x
     → o ≡ own (isOne h) e → t ≡ peer (isOne h) e → first ≡ pick (eqb k 0) 0 (firstLength (e .datagram) (o .queue) table)
     → buffer′ ≡ pick (eqb k 0) buffer (paste buffer 0 (front (e .capacity) (o .queue .bytes .start) k ring) k)
@@ -44,7 +44,7 @@ pub ends-read : (e : Ends) (h : ℕ) (peek : Bool) (ring table buffer buffer′ 
     → r ≡ outcomeOf (e .waits) (isOne h) x d noVisits → EndsRead e h peek ring table buffer buffer′ r
 unfolding outcomeOf readEnds bufferRead
 ends-read e h peek ring table buffer buffer′ x k o t first d r fx fk fo ft fl fb fd f =
-    let a : r .answer ≡ x = ap (λ (z : Outcome). z .answer) f in
+    let a : r .answer ≡ x = ap (λ (z : EndsOutcome). z .answer) f in
     let m : ℕ = firstLength (e .datagram) (o .queue) table in
     let made : ℕ → Moved = λ n. drainedEnds (e .datagram) (e .capacity) (isOne h) o t (leaving (e .datagram) n k) in
     let fd′ : d ≡ pick (peek or eqb k 0) (keptEnds o t) (made m)
@@ -113,7 +113,7 @@ transfer-read e h peek ring table buffer buffer′ x k o t first d fx fk fo ft f
         (rw fo at fb) refl
         (ap (readBy e h) (rw (fo, ft) at fd) ∙ read-by e h x (leaving (e .datagram) first k) (peek or eqb k 0) (peer (isOne h) e .closed) refl)
 
-pub read-put : (e : Ends) (h : ℕ) (t : Transfer) (o p : Endpoint) (d : Moved) (v : Visits) (r : Outcome) → t .moves ≡ true → o ≡ own (isOne h) e
+pub read-put : (e : Ends) (h : ℕ) (t : Transfer) (o p : Endpoint) (d : Moved) (v : Visits) (r : EndsOutcome) → t .moves ≡ true → o ≡ own (isOne h) e
     → p ≡ peer (isOne h) e → d ≡ drainedMoved (isOne h) o p t → v ≡ noVisits → r ≡ outcomeOf (e .waits) (isOne h) (t .answer) d v → r ≡ readBy e h t
 unfolding readBy pick
 read-put e h t o p d v r on fo fp fd fv f = rw (← fo, ← fp, ← fd, ← fv, on) f

@@ -11,7 +11,7 @@ use Rattle.definition.specs.Status.{pick, _and_, countOf}
 use Rattle.endpoint.proofs.answer.Rules.{pick-on}
 use Rattle.definition.specs.declared.Endpoint.{Endpoint}
 use Rattle.definition.specs.declared.Ends.{Ends}
-use Rattle.endpoint.specs.declared.ends.Outcome.{Outcome}
+use Rattle.endpoint.specs.declared.ends.EndsOutcome.{EndsOutcome}
 use Rattle.endpoint.specs.declared.ends.Visits.{Visits}
 use Rattle.endpoint.specs.declared.ends.Moved.{Moved}
 use Rattle.definition.specs.Pair.{isOne, own, peer}
@@ -24,7 +24,7 @@ use Rattle.transfer.specs.change.NoChange.{keptTransfer}
 use Rattle.transfer.specs.write.WriteChange.{fedTransfer, wroteTransfer, TransferWrote, fedVisits, fedMoved, wroteBy}
 use Rattle.transfer.proofs.change.Outcomes.{kept-unchanged}
 
-pub ends-wrote : (e : Ends) (h : ℕ) (src ring ring′ table table′ : List ℕ) (x : Answer) (m : ℕ) (o t : Endpoint) (d : Moved) (r : Outcome)
+pub ends-wrote : (e : Ends) (h : ℕ) (src ring ring′ table table′ : List ℕ) (x : Answer) (m : ℕ) (o t : Endpoint) (d : Moved) (r : EndsOutcome)
     → x ≡ writeAnswer e (lentOf (e .datagram) (peer (isOne h) e .queue) ring table) h (length src) → m ≡ countOf x
     → o ≡ own (isOne h) e → t ≡ peer (isOne h) e
     → d ≡ pick (eqb m 0) (keptEnds o t) (fedEnds (e .datagram) (e .capacity) (isOne h) o t m)
@@ -33,7 +33,7 @@ pub ends-wrote : (e : Ends) (h : ℕ) (src ring ring′ table table′ : List �
     → r ≡ outcomeOf (e .waits) (isOne h) x d noVisits → EndsWrote e h src ring ring′ table table′ r
 unfolding outcomeOf wroteEnds ringWritten tableWritten
 ends-wrote e h src ring ring′ table table′ x m o t d r fx fm fo ft fd fr fl f =
-    let a : r .answer ≡ x = ap (λ (k : Outcome). k .answer) f in
+    let a : r .answer ≡ x = ap (λ (k : EndsOutcome). k .answer) f in
     record {
       answer = a ∙ fx;
       next = f ∙ rw (a, ← fm, ← fo, ← ft, ← fd) refl;
@@ -82,7 +82,7 @@ transfer-wrote e h src ring ring′ table table′ x m o t d fx fm fo ft fd fr f
     outcome = ends-wrote e h src ring ring′ table table′ x m (own (isOne h) e) (peer (isOne h) e) _ (wroteBy e h d) fx fm refl refl refl
         (rw ft at fr) (rw ft at fl) (ap (wroteBy e h) (rw (fo, ft) at fd) ∙ wrote-by e h x m (eqb m 0))
 
-pub wrote-put : (e : Ends) (h : ℕ) (t : Transfer) (o p : Endpoint) (d : Moved) (v : Visits) (r : Outcome) → t .moves ≡ true → o ≡ own (isOne h) e
+pub wrote-put : (e : Ends) (h : ℕ) (t : Transfer) (o p : Endpoint) (d : Moved) (v : Visits) (r : EndsOutcome) → t .moves ≡ true → o ≡ own (isOne h) e
     → p ≡ peer (isOne h) e → d ≡ fedMoved (isOne h) o p t → v ≡ noVisits → r ≡ outcomeOf (e .waits) (isOne h) (t .answer) d v → r ≡ wroteBy e h t
 unfolding wroteBy pick
 wrote-put e h t o p d v r on fo fp fd fv f = rw (← fo, ← fp, ← fd, ← fv, on) f

@@ -10,7 +10,7 @@ use Rattle.endpoint.specs.declared.ends.Pending.{Pending}
 use Rattle.endpoint.specs.declared.ends.Moved.{Moved}
 use Rattle.definition.specs.declared.Answer.{Answer}
 use Rattle.definition.specs.declared.Ends.{Ends}
-use Rattle.endpoint.specs.declared.ends.Outcome.{Outcome}
+use Rattle.endpoint.specs.declared.ends.EndsOutcome.{EndsOutcome}
 use Rattle.definition.specs.declared.Queue.{Queue}
 use Rattle.definition.specs.Status.{pick, _or_, countOf}
 use Rattle.definition.specs.Signal.{changedWord}
@@ -34,7 +34,7 @@ drainedEnds datagram C t a b n =
     })
 
 -- the outcome by the answer: a peek, or a read that delivered nothing, changes nothing
-unfoldable pub readEnds : Ends → (h : ℕ) → (peek : Bool) → (first : ℕ) → Answer → Outcome
+unfoldable pub readEnds : Ends → (h : ℕ) → (peek : Bool) → (first : ℕ) → Answer → EndsOutcome
 readEnds e h peek first a =
     let o = own (isOne h) e in
     let t = peer (isOne h) e in
@@ -53,7 +53,7 @@ pub record Drain (datagram : Bool) (C n : ℕ) (q : Queue) : Type 0 where
   pub lengths : datagram ≡ true → 0 < q .lengths .count
 
 -- A read or a peek by the end of handle h, but for the visit of the waits; ring and table are its own and stay as they are.
-pub record EndsRead (e : Ends) (h : ℕ) (peek : Bool) (ring table buffer buffer′ : List ℕ) (r : Outcome) : Type 0 where
+pub record EndsRead (e : Ends) (h : ℕ) (peek : Bool) (ring table buffer buffer′ : List ℕ) (r : EndsOutcome) : Type 0 where
   pub answer : r .answer ≡ readAnswer e (lentOf (e .datagram) (own (isOne h) e .queue) ring table) h (length buffer)
   pub next : r ≡ readEnds e h peek (firstLength (e .datagram) (own (isOne h) e .queue) table) (r .answer)
   pub bytes : buffer′ ≡ bufferRead e h (countOf (r .answer)) ring buffer

@@ -9,7 +9,7 @@ use Rattle.definition.specs.declared.Endpoint.{Endpoint}
 use Rattle.endpoint.specs.declared.ends.Moved.{Moved}
 use Rattle.definition.specs.declared.Answer.{Answer}
 use Rattle.definition.specs.declared.Ends.{Ends}
-use Rattle.endpoint.specs.declared.ends.Outcome.{Outcome}
+use Rattle.endpoint.specs.declared.ends.EndsOutcome.{EndsOutcome}
 use Rattle.definition.specs.declared.Queue.{Queue}
 use Rattle.definition.specs.Signal.{changedWord}
 use Rattle.definition.specs.Pair.{withQueue, withSignals, own, peer, isOne}
@@ -34,7 +34,7 @@ fedEnds datagram C t a b m =
     }
 
 -- the outcome by the answer: a write that took nothing changes nothing
-unfoldable pub wroteEnds : Ends → (h : ℕ) → Answer → Outcome
+unfoldable pub wroteEnds : Ends → (h : ℕ) → Answer → EndsOutcome
 wroteEnds e h a =
     let o = own (isOne h) e in
     let t = peer (isOne h) e in
@@ -54,7 +54,7 @@ pub record Feed (datagram : Bool) (C : ℕ) (q : Queue) (m : ℕ) (src ring tabl
   pub wide : datagram ≡ true → C ≤ length table
 
 -- A write of src by the end of handle h, but for the visit of the waits; ring and table are the peer's.
-pub record EndsWrote (e : Ends) (h : ℕ) (src ring ring′ table table′ : List ℕ) (r : Outcome) : Type 0 where
+pub record EndsWrote (e : Ends) (h : ℕ) (src ring ring′ table table′ : List ℕ) (r : EndsOutcome) : Type 0 where
   pub answer : r .answer ≡ writeAnswer e (lentOf (e .datagram) (peer (isOne h) e .queue) ring table) h (length src)
   pub next : r ≡ wroteEnds e h (r .answer)
   pub bytes : ring′ ≡ ringWritten e h (countOf (r .answer)) src ring

@@ -1,6 +1,6 @@
 use borrow.Author.Needs.{needs}
 use mathlib.Core.Path.{ap, _∙_}
-use Rattle.definition_script.specs.declared.State.{State}
+use Rattle.definition_script.specs.declared.ScriptState.{ScriptState}
 use Rattle.buffer.specs.declared.buffer.Progress.{Progress}
 use Rattle.buffer.proofs.buffer.first.Statement.{statement}
 use Rattle.buffer.proofs.buffer.first.Tie as tie
@@ -12,7 +12,7 @@ standing-requires : tie.Need-standing-requires
 standing-requires c κs = search needs
 
 -- nothing has come before, and nothing is in use
-abbrev unread : State → Progress
+abbrev unread : ScriptState → Progress
 unread st = record { state = st; offset = 0; used = 0; written = 0 }
 
 returns : tie.Need-returns

@@ -41,13 +41,13 @@ use denote.Triple.Table.{entered, cited}
 use denote.Triple.Walked.{says, Stays, stay-dropped, gave-ref, gave-slice, walkOf, AllGo, goes-dropped, goes-gave-ref, goes-gave-slice, Walks, ends-at, walked, walk-meets}
 use denote.Triple.Clauses.{ensured, lasts}
 use Rattle.definition.specs.declared.Ends.{Ends}
-use Rattle.endpoint.specs.declared.ends.Outcome.{Outcome}
+use Rattle.endpoint.specs.declared.ends.EndsOutcome.{EndsOutcome}
 use Rattle.definition.specs.declared.Pair.{Pair}
 use Rattle.definition.specs.declared.Step.{Step}
 use Rattle.definition.proofs.Pair as T
 use Rattle.definition.proofs.Pair.Laws as T′
-use Rattle.endpoint.proofs.ends.Outcome as K
-use Rattle.endpoint.proofs.ends.Outcome.Laws as K′
+use Rattle.endpoint.proofs.ends.EndsOutcome as K
+use Rattle.endpoint.proofs.ends.EndsOutcome.Laws as K′
 use Rattle.definition.proofs.Ends as E
 use Rattle.definition.proofs.Ends.Laws as E′
 use Rattle.kept.proofs.pair.Callees.{pair-one, pair-lawful, outcome-lawful}
@@ -58,7 +58,7 @@ use Rattle.definition.specs.Pair.{own}
 use Rattle.definition_runs.specs.Exported.{Answered}
 use Rattle.socket.proofs.Visiting.{places-128}
 use Rattle.kept.proofs.pair.Stored.{settled-as}
-use Rattle.definition.specs.Read.{UserRead}
+use Rattle.definition.specs.Read.{UserReads}
 use Rattle.syscall.specs.Ends.{EndsUserRead}
 use Rattle.syscall.proofs.Settled.{read-whole}
 use Rattle.syscall.proofs.read_ends as step
@@ -119,7 +119,7 @@ module _ {M : Type 1} (𝓤 : URA M) (H : Heap 𝓤) (A : Atoms 𝓤) (W : Given
   abbrev Post : Val → SProp 𝓤
   Post = walkOf 𝓤 H A f.ended stayed (f.clauses 𝓤 H A at-mem run) .post ((bound, (q, (q₁, (q₂, (q₃, tt)))), tt, x, at), tt)
 
-  exits : (p′ : Pair) (z : ℤ) (v : Val) (zs₄ : List ℕ) → Answered (UserRead h x₁ x₃ x₂ x₅ x₆ x₇ (x₈ .now) (x₉ .now) ys₄ zs₄) p′ z → length zs₄ ≡ length ys₄
+  exits : (p′ : Pair) (z : ℤ) (v : Val) (zs₄ : List ℕ) → Answered (UserReads h x₁ x₃ x₂ x₅ x₆ x₇ (x₈ .now) (x₉ .now) ys₄ zs₄) p′ z → length zs₄ ≡ length ys₄
       → ent 𝓤 (⋆ 𝓤 H A (‵ (fres γ (T.the-row .coded .code p′)) ∷ (‵ (flft κ q) ⊛ ‵ ftrue) ∷ (‵ (flft κ₁ q₁) ⊛ ‵ (flft κ₂ q₂) ⊛ ‵ (flft κ₃ q₃) ⊛ ‵ ftrue) ∷ ‵ (finally u8 γ₄ zs₄) ∷ ‵ (i64 .own z (v ∷ [])) ∷ [])) (Post v)
   exits p′ z v zs₄ ens len₄ =
       qed W (‵ (fres γ (T.the-row .coded .code p′)) ∷ (‵ (flft κ q) ⊛ ‵ ftrue) ∷ (‵ (flft κ₁ q₁) ⊛ ‵ (flft κ₂ q₂) ⊛ ‵ (flft κ₃ q₃) ⊛ ‵ ftrue) ∷ ‵ (finally u8 γ₄ zs₄) ∷ ‵ (i64 .own z (v ∷ [])) ∷ []) ∵
@@ -145,7 +145,7 @@ module _ {M : Type 1} (𝓤 : URA M) (H : Heap 𝓤) (A : Atoms 𝓤) (W : Given
         assigns ! (addr ! (from ! (fld ! refl (hop ! (look-in ! 26 (sub ! 0 refl (whole !))) (stop !))))) (from ! (stop !)) (init ! 8 refl (tt, tt)) $ assigns ! (agg ! (and-then ! (load ! (from ! (stop !)) (look ! 8 refl)) (and-then ! (load ! (from ! (fld ! refl (stop !))) (look-in ! 26 (sub ! 1 refl (whole !)))) (no-more !)))) (from ! (stop !)) (init ! 6 refl (tt, (tt, (record { fits = room₄ .0 }, tt)))) $
         move ! (48 ∷ 44 ∷ 40 ∷ 38 ∷ []) $ join ! $ join ! $ join ! $ use1 W (raw (Called 𝓤 H A at-mem run .pre (to-step y₁₂ v₁₂))) (goes-step y₁₂ v₁₂ s₁₂ g₁ g₂ g₃ g₅ g₆ g₇) $
         calls-at ! fm (Called 𝓤 H A at-mem run) known-step (to-step y₁₂ v₁₂) (and-then ! (load ! (from ! (stop !)) (look ! 13 refl)) (and-then ! (load ! (from ! (stop !)) (look ! 33 refl)) (and-then ! (load ! (from ! (stop !)) (look ! 31 refl)) (and-then ! (load ! (from ! (stop !)) (look ! 29 refl)) (and-then ! (load ! (from ! (stop !)) (look ! 7 refl)) (and-then ! (load ! (from ! (stop !)) (look ! 25 refl)) (and-then ! (load ! (from ! (stop !)) (look ! 23 refl)) (and-then ! (load ! (from ! (stop !)) (look ! 21 refl)) (and-then ! (load ! (from ! (stop !)) (look ! 19 refl)) (and-then ! (load ! (from ! (stop !)) (look ! 17 refl)) (no-more !))))))))))) (λ v₁₁.
-        use1 W (later (some (λ (y₁₁ : Outcome). ((‵ (flft κ₁ q₁) ⊛ ‵ (flft κ₂ q₂) ⊛ ‵ (flft κ₃ q₃) ⊛ ‵ ftrue) ⊛ ‵ (K.the-row .own y₁₁ (v₁₁ ∷ []))) ⊛ raw (ensured 𝓤 H A step.ended (step.clauses 𝓤 H A at-mem run) (κ₁, (κ₂, (κ₃, tt))) (y₁₂, (x₁, (x₂, (x₃, (r₄, (x₅, (x₆, (x₇, (x₈, (x₉, tt)))))))))) tt y₁₁)))) (id⊢ 𝓤 _) $ await ! tt $ pick ! (λ y₁₁. split ! $ move ! (1 ∷ []) $
+        use1 W (later (some (λ (y₁₁ : EndsOutcome). ((‵ (flft κ₁ q₁) ⊛ ‵ (flft κ₂ q₂) ⊛ ‵ (flft κ₃ q₃) ⊛ ‵ ftrue) ⊛ ‵ (K.the-row .own y₁₁ (v₁₁ ∷ []))) ⊛ raw (ensured 𝓤 H A step.ended (step.clauses 𝓤 H A at-mem run) (κ₁, (κ₂, (κ₃, tt))) (y₁₂, (x₁, (x₂, (x₃, (r₄, (x₅, (x₆, (x₇, (x₈, (x₉, tt)))))))))) tt y₁₁)))) (id⊢ 𝓤 _) $ await ! tt $ pick ! (λ y₁₁. split ! $ move ! (1 ∷ []) $
         use1 W (some (λ (zs : (Unit {0} × (Unit {0} × (Unit {0} × (Unit {0} × (List ℕ × (Unit {0} × (Unit {0} × (Unit {0} × (Unit {0} × (Unit {0} × Unit {0}))))))))))). ‵ (lasts step.ended (κ₁, (κ₂, (κ₃, tt))) (y₁₂, (x₁, (x₂, (x₃, (r₄, (x₅, (x₆, (x₇, (x₈, (x₉, tt)))))))))) zs) ⊛ raw (fact 𝓤 (EndsUserRead y₁₂ x₁ x₃ x₂ x₅ x₆ x₇ (x₈ .now) (x₉ .now) ys₄ (zs .1 .1 .1 .1 .0) y₁₁)))) (id⊢ 𝓤 _) $ pick ! (λ zs. split ! $ move ! (1 ∷ []) $ heard ! (EndsUserRead y₁₂ x₁ x₃ x₂ x₅ x₆ x₇ (x₈ .now) (x₉ .now) ys₄ (zs .1 .1 .1 .1 .0) y₁₁) (λ e₁₁.
         fsplit ! $ move ! (1 ∷ []) $ fsplit ! $ move ! (1 ∷ []) $ fsplit ! $ move ! (1 ∷ []) $ fsplit ! $ move ! (1 ∷ []) $ fsplit ! $ fsplit ! $ move ! (1 ∷ []) $ feqL ! (λ len₄. move ! (1 ∷ []) $ fsplit ! $ move ! (1 ∷ []) $ fsplit ! $ move ! (1 ∷ []) $ fsplit ! $ move ! (1 ∷ []) $ fsplit ! $ move ! (1 ∷ []) $ fsplit ! $ move ! (11 ∷ []) $ split ! $ move ! (1 ∷ []) $
         peeks ! K.the-row (Is K.the-row) (shows 𝓤 H A K.the-row) y₁₁ (v₁₁ ∷ []) (λ s₁₁. land ! (from ! (stop !)) (fills ! 27 K.the-row (outcome-lawful 𝓤 H A at-mem run W) y₁₁ v₁₁ s₁₁ refl refl) $ drop ! $
@@ -154,7 +154,7 @@ module _ {M : Type 1} (𝓤 : URA M) (H : Heap 𝓤) (A : Atoms 𝓤) (W : Given
         land ! (from ! (stop !)) (init ! 48 refl (sint-lawful 𝓤 H A W w64 .typed z₀ _ i₀ .0)) $
         returns ! (look ! 48 refl) $
         move ! (48 ∷ 49 ∷ []) $ frees-cell ! $ move ! (46 ∷ 47 ∷ []) $ frees-cell ! $ move ! (44 ∷ 45 ∷ []) $ frees-cell ! $ move ! (42 ∷ 43 ∷ []) $ frees-cell ! $ move ! (40 ∷ 41 ∷ []) $ frees-cell ! $ move ! (38 ∷ 39 ∷ []) $ frees-cell ! $ move ! (36 ∷ 37 ∷ []) $ frees-cell ! $ move ! (34 ∷ 35 ∷ []) $ frees-cell ! $ move ! (32 ∷ 33 ∷ []) $ frees-cell ! $ move ! (30 ∷ 31 ∷ []) $ frees-cell ! $ move ! (28 ∷ 29 ∷ []) $ frees-cell ! $ move ! (26 ∷ 27 ∷ []) $ frees-cell ! $ move ! (24 ∷ 25 ∷ []) $ frees-cell ! $ move ! (22 ∷ 23 ∷ []) $ frees-cell ! $ move ! (20 ∷ 21 ∷ []) $ frees-cell ! $ move ! (18 ∷ 19 ∷ []) $ frees-cell ! $ move ! (16 ∷ 17 ∷ []) $ frees-cell ! $ free0 ! $
-        keep ! (2 ∷ 1 ∷ 4 ∷ 11 ∷ 0 ∷ []) $ by ! (exits (ws .0) z₀ v₀ (zs .1 .1 .1 .1 .0) (record { answer = y₁₁ .answer; word = e₀ .0; kept = subst (λ (k : Step). UserRead h x₁ x₃ x₂ x₅ x₆ x₇ (x₈ .now) (x₉ .now) ys₄ (zs .1 .1 .1 .1 .0) k) (settled-as y₁₁ h (ws .0) (e₀ .1)) (read-whole h x₁ x₃ x₂ x₅ x₆ x₇ y₁₂ y₁₁ (places-128 h _ was) e₁₂ (x₈ .now) (x₉ .now) ys₄ (zs .1 .1 .1 .1 .0) e₁₁) }) len₄)))))))))))))))))))))))))))))))))
+        keep ! (2 ∷ 1 ∷ 4 ∷ 11 ∷ 0 ∷ []) $ by ! (exits (ws .0) z₀ v₀ (zs .1 .1 .1 .1 .0) (record { answer = y₁₁ .answer; word = e₀ .0; kept = subst (λ (k : Step). UserReads h x₁ x₃ x₂ x₅ x₆ x₇ (x₈ .now) (x₉ .now) ys₄ (zs .1 .1 .1 .1 .0) k) (settled-as y₁₁ h (ws .0) (e₀ .1)) (read-whole h x₁ x₃ x₂ x₅ x₆ x₇ y₁₂ y₁₁ (places-128 h _ was) e₁₂ (x₈ .now) (x₉ .now) ys₄ (zs .1 .1 .1 .1 .0) e₁₁) }) len₄)))))))))))))))))))))))))))))))))
 
 module _ {M : Type 1} (𝓤 : URA M) (H : Heap 𝓤) (A : Atoms 𝓤) (W : Given 𝓤 H A) (at-mem : Memory → SProp 𝓤) (run : Routine → Fun 𝓤) where
   walks : (C : Calls 𝓤 H) (Λ : Loops 𝓤 H) → FmC 𝓤 H (W .laws) C → Triple 𝓤 (C #step) (Called 𝓤 H A at-mem run) → Triple 𝓤 (C #ends) (ends-contract 𝓤 H A at-mem run) → Triple 𝓤 (C #outcome) (outcome-contract 𝓤 H A at-mem run) → Walks 𝓤 H A f.ended stayed (WpFn 𝓤 H C Λ code.function) (f.clauses 𝓤 H A at-mem run)

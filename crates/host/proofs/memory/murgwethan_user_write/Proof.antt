@@ -41,13 +41,13 @@ use denote.Triple.Table.{entered, cited}
 use denote.Triple.Walked.{says, Stays, stay-dropped, gave-ref, gave-slice, walkOf, AllGo, goes-dropped, goes-gave-ref, goes-gave-slice, Walks, ends-at, walked, walk-meets}
 use denote.Triple.Clauses.{ensured, lasts}
 use Rattle.definition.specs.declared.Ends.{Ends}
-use Rattle.endpoint.specs.declared.ends.Outcome.{Outcome}
+use Rattle.endpoint.specs.declared.ends.EndsOutcome.{EndsOutcome}
 use Rattle.definition.specs.declared.Pair.{Pair}
 use Rattle.definition.specs.declared.Step.{Step}
 use Rattle.definition.proofs.Pair as T
 use Rattle.definition.proofs.Pair.Laws as T′
-use Rattle.endpoint.proofs.ends.Outcome as K
-use Rattle.endpoint.proofs.ends.Outcome.Laws as K′
+use Rattle.endpoint.proofs.ends.EndsOutcome as K
+use Rattle.endpoint.proofs.ends.EndsOutcome.Laws as K′
 use Rattle.definition.proofs.Ends as E
 use Rattle.definition.proofs.Ends.Laws as E′
 use Rattle.kept.proofs.pair.Callees.{pair-one, pair-lawful, outcome-lawful}
@@ -58,7 +58,7 @@ use Rattle.definition.specs.Pair.{own}
 use Rattle.definition_runs.specs.Exported.{Answered}
 use Rattle.socket.proofs.Visiting.{places-128}
 use Rattle.kept.proofs.pair.Stored.{settled-as}
-use Rattle.definition.specs.Write.{UserWrote}
+use Rattle.definition.specs.Write.{UserWrites}
 use Rattle.syscall.specs.Ends.{EndsUserWrote}
 use Rattle.syscall.proofs.Settled.{wrote-whole}
 use Rattle.syscall.proofs.write_ends as step
@@ -125,7 +125,7 @@ module _ {M : Type 1} (𝓤 : URA M) (H : Heap 𝓤) (A : Atoms 𝓤) (W : Given
   abbrev Post : Val → SProp 𝓤
   Post = walkOf 𝓤 H A f.ended stayed (f.clauses 𝓤 H A at-mem run) .post ((bound, (q, (q₁, (q₂, (q₃, tt)))), tt, x, at), tt)
 
-  exits : (p′ : Pair) (z : ℤ) (v : Val) (zs₄ : List ℕ) (zs₈ : List ℕ) (zs₉ : List ℕ) → Answered (UserWrote h x₁ x₃ x₂ x₅ x₆ x₇ ys₄ zs₄ ys₈ zs₈ ys₉ zs₉) p′ z → length zs₄ ≡ length ys₄ → length zs₈ ≡ length ys₈ → length zs₉ ≡ length ys₉
+  exits : (p′ : Pair) (z : ℤ) (v : Val) (zs₄ : List ℕ) (zs₈ : List ℕ) (zs₉ : List ℕ) → Answered (UserWrites h x₁ x₃ x₂ x₅ x₆ x₇ ys₄ zs₄ ys₈ zs₈ ys₉ zs₉) p′ z → length zs₄ ≡ length ys₄ → length zs₈ ≡ length ys₈ → length zs₉ ≡ length ys₉
       → ent 𝓤 (⋆ 𝓤 H A (‵ (fres γ (T.the-row .coded .code p′)) ∷ (‵ (flft κ q) ⊛ ‵ ftrue) ∷ (‵ (flft κ₁ q₁) ⊛ ‵ (flft κ₂ q₂) ⊛ ‵ (flft κ₃ q₃) ⊛ ‵ ftrue) ∷ ‵ (finally u8 γ₄ zs₄) ∷ ‵ (finally u8 γ₈ zs₈) ∷ ‵ (finally u32 γ₉ zs₉) ∷ ‵ (i64 .own z (v ∷ [])) ∷ [])) (Post v)
   exits p′ z v zs₄ zs₈ zs₉ ens len₄ len₈ len₉ =
       qed W (‵ (fres γ (T.the-row .coded .code p′)) ∷ (‵ (flft κ q) ⊛ ‵ ftrue) ∷ (‵ (flft κ₁ q₁) ⊛ ‵ (flft κ₂ q₂) ⊛ ‵ (flft κ₃ q₃) ⊛ ‵ ftrue) ∷ ‵ (finally u8 γ₄ zs₄) ∷ ‵ (finally u8 γ₈ zs₈) ∷ ‵ (finally u32 γ₉ zs₉) ∷ ‵ (i64 .own z (v ∷ [])) ∷ []) ∵
@@ -153,7 +153,7 @@ module _ {M : Type 1} (𝓤 : URA M) (H : Heap 𝓤) (A : Atoms 𝓤) (W : Given
         assigns ! (addr ! (from ! (fld ! refl (hop ! (look-in ! 24 (sub ! 0 refl (whole !))) (stop !))))) (from ! (stop !)) (init ! 8 refl (tt, tt)) $ assigns ! (agg ! (and-then ! (load ! (from ! (stop !)) (look ! 8 refl)) (and-then ! (load ! (from ! (fld ! refl (stop !))) (look-in ! 24 (sub ! 1 refl (whole !)))) (no-more !)))) (from ! (stop !)) (init ! 6 refl (tt, (tt, (record { fits = room₉ .0 }, tt)))) $
         move ! (56 ∷ 52 ∷ 48 ∷ 46 ∷ []) $ join ! $ join ! $ join ! $ use1 W (raw (Called 𝓤 H A at-mem run .pre (to-step y₁₂ v₁₂))) (goes-step y₁₂ v₁₂ s₁₂ g₁ g₂ g₃ g₅ g₆ g₇) $
         calls-at ! fm (Called 𝓤 H A at-mem run) known-step (to-step y₁₂ v₁₂) (and-then ! (load ! (from ! (stop !)) (look ! 21 refl)) (and-then ! (load ! (from ! (stop !)) (look ! 41 refl)) (and-then ! (load ! (from ! (stop !)) (look ! 39 refl)) (and-then ! (load ! (from ! (stop !)) (look ! 37 refl)) (and-then ! (load ! (from ! (stop !)) (look ! 15 refl)) (and-then ! (load ! (from ! (stop !)) (look ! 33 refl)) (and-then ! (load ! (from ! (stop !)) (look ! 31 refl)) (and-then ! (load ! (from ! (stop !)) (look ! 29 refl)) (and-then ! (load ! (from ! (stop !)) (look ! 11 refl)) (and-then ! (load ! (from ! (stop !)) (look ! 7 refl)) (no-more !))))))))))) (λ v₁₁.
-        use1 W (later (some (λ (y₁₁ : Outcome). ((‵ (flft κ₁ q₁) ⊛ ‵ (flft κ₂ q₂) ⊛ ‵ (flft κ₃ q₃) ⊛ ‵ ftrue) ⊛ ‵ (K.the-row .own y₁₁ (v₁₁ ∷ []))) ⊛ raw (ensured 𝓤 H A step.ended (step.clauses 𝓤 H A at-mem run) (κ₁, (κ₂, (κ₃, tt))) (y₁₂, (x₁, (x₂, (x₃, (r₄, (x₅, (x₆, (x₇, (r₈, (r₉, tt)))))))))) tt y₁₁)))) (id⊢ 𝓤 _) $ await ! tt $ pick ! (λ y₁₁. split ! $ move ! (1 ∷ []) $
+        use1 W (later (some (λ (y₁₁ : EndsOutcome). ((‵ (flft κ₁ q₁) ⊛ ‵ (flft κ₂ q₂) ⊛ ‵ (flft κ₃ q₃) ⊛ ‵ ftrue) ⊛ ‵ (K.the-row .own y₁₁ (v₁₁ ∷ []))) ⊛ raw (ensured 𝓤 H A step.ended (step.clauses 𝓤 H A at-mem run) (κ₁, (κ₂, (κ₃, tt))) (y₁₂, (x₁, (x₂, (x₃, (r₄, (x₅, (x₆, (x₇, (r₈, (r₉, tt)))))))))) tt y₁₁)))) (id⊢ 𝓤 _) $ await ! tt $ pick ! (λ y₁₁. split ! $ move ! (1 ∷ []) $
         use1 W (some (λ (zs : (Unit {0} × (Unit {0} × (Unit {0} × (Unit {0} × (List ℕ × (Unit {0} × (Unit {0} × (Unit {0} × (List ℕ × (List ℕ × Unit {0}))))))))))). ‵ (lasts step.ended (κ₁, (κ₂, (κ₃, tt))) (y₁₂, (x₁, (x₂, (x₃, (r₄, (x₅, (x₆, (x₇, (r₈, (r₉, tt)))))))))) zs) ⊛ raw (fact 𝓤 (EndsUserWrote y₁₂ x₁ x₃ x₂ x₅ x₆ x₇ ys₄ (zs .1 .1 .1 .1 .0) ys₈ (zs .1 .1 .1 .1 .1 .1 .1 .1 .0) ys₉ (zs .1 .1 .1 .1 .1 .1 .1 .1 .1 .0) y₁₁)))) (id⊢ 𝓤 _) $ pick ! (λ zs. split ! $ move ! (1 ∷ []) $ heard ! (EndsUserWrote y₁₂ x₁ x₃ x₂ x₅ x₆ x₇ ys₄ (zs .1 .1 .1 .1 .0) ys₈ (zs .1 .1 .1 .1 .1 .1 .1 .1 .0) ys₉ (zs .1 .1 .1 .1 .1 .1 .1 .1 .1 .0) y₁₁) (λ e₁₁.
         fsplit ! $ move ! (1 ∷ []) $ fsplit ! $ move ! (1 ∷ []) $ fsplit ! $ move ! (1 ∷ []) $ fsplit ! $ move ! (1 ∷ []) $ fsplit ! $ fsplit ! $ move ! (1 ∷ []) $ feqL ! (λ len₄. move ! (1 ∷ []) $ fsplit ! $ move ! (1 ∷ []) $ fsplit ! $ move ! (1 ∷ []) $ fsplit ! $ move ! (1 ∷ []) $ fsplit ! $ fsplit ! $ move ! (1 ∷ []) $ feqL ! (λ len₈. move ! (1 ∷ []) $ fsplit ! $ fsplit ! $ move ! (1 ∷ []) $ feqL ! (λ len₉. move ! (11 ∷ []) $ split ! $ move ! (1 ∷ []) $
         peeks ! K.the-row (Is K.the-row) (shows 𝓤 H A K.the-row) y₁₁ (v₁₁ ∷ []) (λ s₁₁. land ! (from ! (stop !)) (fills ! 35 K.the-row (outcome-lawful 𝓤 H A at-mem run W) y₁₁ v₁₁ s₁₁ refl refl) $ drop ! $
@@ -162,7 +162,7 @@ module _ {M : Type 1} (𝓤 : URA M) (H : Heap 𝓤) (A : Atoms 𝓤) (W : Given
         land ! (from ! (stop !)) (init ! 56 refl (sint-lawful 𝓤 H A W w64 .typed z₀ _ i₀ .0)) $
         returns ! (look ! 56 refl) $
         move ! (56 ∷ 57 ∷ []) $ frees-cell ! $ move ! (54 ∷ 55 ∷ []) $ frees-cell ! $ move ! (52 ∷ 53 ∷ []) $ frees-cell ! $ move ! (50 ∷ 51 ∷ []) $ frees-cell ! $ move ! (48 ∷ 49 ∷ []) $ frees-cell ! $ move ! (46 ∷ 47 ∷ []) $ frees-cell ! $ move ! (44 ∷ 45 ∷ []) $ frees-cell ! $ move ! (42 ∷ 43 ∷ []) $ frees-cell ! $ move ! (40 ∷ 41 ∷ []) $ frees-cell ! $ move ! (38 ∷ 39 ∷ []) $ frees-cell ! $ move ! (36 ∷ 37 ∷ []) $ frees-cell ! $ move ! (34 ∷ 35 ∷ []) $ frees-cell ! $ move ! (32 ∷ 33 ∷ []) $ frees-cell ! $ move ! (30 ∷ 31 ∷ []) $ frees-cell ! $ move ! (28 ∷ 29 ∷ []) $ frees-cell ! $ move ! (26 ∷ 27 ∷ []) $ frees-cell ! $ move ! (24 ∷ 25 ∷ []) $ frees-cell ! $ move ! (22 ∷ 23 ∷ []) $ frees-cell ! $ move ! (20 ∷ 21 ∷ []) $ frees-cell ! $ move ! (18 ∷ 19 ∷ []) $ frees-cell ! $ move ! (16 ∷ 17 ∷ []) $ frees-cell ! $ free0 ! $
-        keep ! (2 ∷ 1 ∷ 4 ∷ 11 ∷ 7 ∷ 5 ∷ 0 ∷ []) $ by ! (exits (ws .0) z₀ v₀ (zs .1 .1 .1 .1 .0) (zs .1 .1 .1 .1 .1 .1 .1 .1 .0) (zs .1 .1 .1 .1 .1 .1 .1 .1 .1 .0) (record { answer = y₁₁ .answer; word = e₀ .0; kept = subst (λ (k : Step). UserWrote h x₁ x₃ x₂ x₅ x₆ x₇ ys₄ (zs .1 .1 .1 .1 .0) ys₈ (zs .1 .1 .1 .1 .1 .1 .1 .1 .0) ys₉ (zs .1 .1 .1 .1 .1 .1 .1 .1 .1 .0) k) (settled-as y₁₁ h (ws .0) (e₀ .1)) (wrote-whole h x₁ x₃ x₂ x₅ x₆ x₇ y₁₂ y₁₁ (places-128 h _ was) e₁₂ ys₄ (zs .1 .1 .1 .1 .0) ys₈ (zs .1 .1 .1 .1 .1 .1 .1 .1 .0) ys₉ (zs .1 .1 .1 .1 .1 .1 .1 .1 .1 .0) e₁₁) }) len₄ len₈ len₉)))))))))))))))))))))))))))))))))))))))
+        keep ! (2 ∷ 1 ∷ 4 ∷ 11 ∷ 7 ∷ 5 ∷ 0 ∷ []) $ by ! (exits (ws .0) z₀ v₀ (zs .1 .1 .1 .1 .0) (zs .1 .1 .1 .1 .1 .1 .1 .1 .0) (zs .1 .1 .1 .1 .1 .1 .1 .1 .1 .0) (record { answer = y₁₁ .answer; word = e₀ .0; kept = subst (λ (k : Step). UserWrites h x₁ x₃ x₂ x₅ x₆ x₇ ys₄ (zs .1 .1 .1 .1 .0) ys₈ (zs .1 .1 .1 .1 .1 .1 .1 .1 .0) ys₉ (zs .1 .1 .1 .1 .1 .1 .1 .1 .1 .0) k) (settled-as y₁₁ h (ws .0) (e₀ .1)) (wrote-whole h x₁ x₃ x₂ x₅ x₆ x₇ y₁₂ y₁₁ (places-128 h _ was) e₁₂ ys₄ (zs .1 .1 .1 .1 .0) ys₈ (zs .1 .1 .1 .1 .1 .1 .1 .1 .0) ys₉ (zs .1 .1 .1 .1 .1 .1 .1 .1 .1 .0) e₁₁) }) len₄ len₈ len₉)))))))))))))))))))))))))))))))))))))))
 
 module _ {M : Type 1} (𝓤 : URA M) (H : Heap 𝓤) (A : Atoms 𝓤) (W : Given 𝓤 H A) (at-mem : Memory → SProp 𝓤) (run : Routine → Fun 𝓤) where
   walks : (C : Calls 𝓤 H) (Λ : Loops 𝓤 H) → FmC 𝓤 H (W .laws) C → Triple 𝓤 (C #step) (Called 𝓤 H A at-mem run) → Triple 𝓤 (C #ends) (ends-contract 𝓤 H A at-mem run) → Triple 𝓤 (C #outcome) (outcome-contract 𝓤 H A at-mem run) → Walks 𝓤 H A f.ended stayed (WpFn 𝓤 H C Λ code.function) (f.clauses 𝓤 H A at-mem run)

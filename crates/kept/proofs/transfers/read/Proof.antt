@@ -41,8 +41,8 @@ use Rattle.definition.specs.Status.{answerWord}
 use Rattle.definition.specs.declared.Pair.{Pair}
 use Rattle.definition.proofs.Pair as T
 use Rattle.definition.proofs.Pair.Laws as T′
-use Rattle.endpoint.proofs.ends.Outcome as K
-use Rattle.endpoint.proofs.ends.Outcome.Laws as K′
+use Rattle.endpoint.proofs.ends.EndsOutcome as K
+use Rattle.endpoint.proofs.ends.EndsOutcome.Laws as K′
 use Rattle.transfer.specs.declared.change.Transfer.{Transfer}
 use Rattle.transfer.specs.read.ReadChange.{readBy}
 use Rattle.transfer.proofs.change.Transfer as X

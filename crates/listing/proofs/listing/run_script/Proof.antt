@@ -1,5 +1,5 @@
 -- `run_script` meets its contract: the arrays are those that a script starts with.
-use Rattle.definition_script.specs.Listing.{start}
+use Rattle.definition_script.specs.Listing.{startMachine}
 use borrow.Author.Needs.{needs}
 use Rattle.listing.proofs.listing.run_script.Statement.{statement}
 use Rattle.listing.proofs.listing.run_script.Tie as tie
@@ -26,7 +26,7 @@ same-length : tie.Need-same-length
 same-length c = search needs
 
 returns : tie.Need-returns
-unfolding start
+unfolding startMachine
 returns c = c .before .before .before .before .before .before .before .run-on .ensures .0
 
 pub run-script-spec : {M : Type 1} → statement M

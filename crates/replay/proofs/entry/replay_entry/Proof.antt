@@ -6,7 +6,7 @@ use native.Mathlib.Nat.{sub-zero}
 use mathlib.Core.Path.{ap, _∙_}
 use lib.ListN.{length, take, drop, length-take}
 use Rattle.feed.specs.Turn.{LIMIT}
-use Rattle.replay.specs.Entry.{bytesOf}
+use Rattle.replay.specs.Entry.{entryBytes}
 use Rattle.replay.proofs.Entries.{listing-is, agreement}
 use borrow.Author.Needs.{needs}
 use Rattle.replay.proofs.entry.replay_entry.Statement.{statement}
@@ -72,11 +72,11 @@ returns-2 c =
     let at = a .name-end in
     let b = c .before .before .before .before .before .before .before .before .before .before .before .shared-slice-known .given in
     let r = c .before .before .before .before .before .before .before .run-script in
-    let short : length (bytesOf s at (a .script-end)) ≤ LIMIT =
+    let short : length (entryBytes s at (a .script-end)) ≤ LIMIT =
     omega (arith, c .before .before .before .before .before .before .before .before .before .before .before .before .pre .script, length-take (a .script-end - (at + 4)) (drop (at + 4) s), b at, b (at + 1), b (at + 2), b (at + 3)) in
     let w = agreement (length (now (a .out))) s at (a .script-end) (a .end) (take (r .result - 0) (r .last .1 .0)) (c .compare .result)
     (omega (arith, c .before .before .before .before .if1 .left, r .ensures .next, r .ensures .fits, r .kept .1 .0))
-    (ap (λ (k : ℕ). take k (r .last .1 .0)) (sub-zero (r .result)) ∙ r .ensures .whole short (omega (arith, c .before .before .before .before .if1 .left, r .ensures .fits)) ∙ listing-is (bytesOf s at (a .script-end)))
+    (ap (λ (k : ℕ). take k (r .last .1 .0)) (sub-zero (r .result)) ∙ r .ensures .whole short (omega (arith, c .before .before .before .before .if1 .left, r .ensures .fits)) ∙ listing-is (entryBytes s at (a .script-end)))
     (c .compare .ensures)
     in
     record { comparison = w; text = r .ensures .text }

@@ -1,7 +1,7 @@
 use borrow.Author.Needs.{needs}
 use borrow.Author.Tests.{ne-eqb}
 use mathlib.Core.Path.{refl}
-use Rattle.definition_script.specs.Call.{settled}
+use Rattle.definition_script.specs.Call.{afterCount}
 use Rattle.definition.specs.Status.{pick}
 use Rattle.script_call.proofs.delivered.settle.Statement.{statement}
 use Rattle.script_call.proofs.delivered.settle.Tie as tie
@@ -22,15 +22,15 @@ same-length : tie.Need-same-length
 same-length c = search needs
 
 returns : tie.Need-returns
-unfolding settled pick
+unfolding afterCount pick
 returns c = rw (c .before .before .before .before .before .before .before .before .if1 .taken) (rw (← c .before .before .before .before .before .before .before .is-done .ensures, c .before .before .before .before .before .before .if2 .taken, ← c .before .before .before .before .before .u64-at .ensures, ← c .before .before .before .count-of .ensures) (c .before .before .land-count .ensures))
 
 returns-2 : tie.Need-returns-2
-unfolding settled pick
+unfolding afterCount pick
 returns-2 c = rw (c .before .before .if1 .taken) (rw (← c .before .is-done .ensures, c .if2 .left) refl)
 
 returns-3 : tie.Need-returns-3
-unfolding settled pick
+unfolding afterCount pick
 returns-3 c = simp (ne-eqb _ _ (c .if1 .left))
 
 pub settle-spec : {M : Type 1} → statement M

@@ -2,7 +2,7 @@ use borrow.Author.Needs.{needs}
 use borrow.Author.Tests.{lt-ltb, le-ltb}
 use native.Mathlib.Omega.{arith}
 use Rattle.script_call.proofs.plain_call.Steps.{up, from-ten, take-tag}
-use Rattle.definition_script.specs.Call.{infoStep, takeStep, plainStep}
+use Rattle.definition_script.specs.Call.{infoStep, takeStep, controlStep}
 use Rattle.definition.specs.Status.{pick}
 use Rattle.script_call.proofs.plain_call.plain.Statement.{statement}
 use Rattle.script_call.proofs.plain_call.plain.Tie as tie
@@ -38,39 +38,39 @@ take-requires : tie.Need-take-requires
 take-requires c κs = search needs
 
 returns : tie.Need-returns
-unfolding plainStep pick
+unfolding controlStep pick
 returns c = rw (c .before .match .keys1) (c .create .ensures)
 
 returns-2 : tie.Need-returns-2
-unfolding plainStep pick
+unfolding controlStep pick
 returns-2 c = rw (c .before .match .keys2) (c .shutdown .ensures)
 
 returns-3 : tie.Need-returns-3
-unfolding plainStep pick
+unfolding controlStep pick
 returns-3 c = rw (c .before .match .keys3) (c .set-read-threshold .ensures)
 
 returns-4 : tie.Need-returns-4
-unfolding plainStep pick
+unfolding controlStep pick
 returns-4 c = rw (c .before .match .keys4) (c .set-write-threshold .ensures)
 
 returns-5 : tie.Need-returns-5
-unfolding plainStep pick infoStep
+unfolding controlStep pick infoStep
 returns-5 c = rw (c .before .before .match .keys5) (rw (← c .before .u32-at .ensures) (c .get-info .ensures))
 
 returns-6 : tie.Need-returns-6
-unfolding plainStep pick
+unfolding controlStep pick
 returns-6 c = rw (c .before .match .keys6) (c .close .ensures)
 
 returns-7 : tie.Need-returns-7
-unfolding plainStep pick
+unfolding controlStep pick
 returns-7 c = rw (c .before .match .keys7) (c .wait .ensures)
 
 returns-8 : tie.Need-returns-8
-unfolding plainStep pick
+unfolding controlStep pick
 returns-8 c = simp (le-ltb (c .before .before .before .before .before .before .before .before .args .tag) 1 (up (c .before .before .before .before .before .before .before .before .args .tag) 0 (omega arith) (c .before .before .match .rest .0 .0 .0 .0 .0 .0 .1)), lt-ltb _ _ (c .before .if1 .taken)) (c .set-disposition .ensures)
 
 returns-9 : tie.Need-returns-9
-unfolding plainStep pick takeStep
+unfolding controlStep pick takeStep
 returns-9 c = take-tag _ _ (c .before .before .before .before .before .before .before .before .args .tag) _ _ (from-ten (c .before .before .before .before .before .before .before .before .args .tag) (c .before .if1 .left) (c .before .before .match .rest .0 .0 .0 .0 .0 .1) (c .before .before .match .rest .0 .0 .0 .0 .1) (c .before .before .match .rest .0 .0 .0 .1) (c .before .before .match .rest .0 .0 .1) (c .before .before .match .rest .0 .1) (c .before .before .match .rest .1)) (c .take .ensures)
 
 pub plain-spec : {M : Type 1} → statement M
