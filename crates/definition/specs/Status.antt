@@ -30,7 +30,7 @@ _or_ false b = b
 
 -- ---- statuses and answers
 
--- a status is a negative number; this is the number without its sign. The list by who can cause it.
+-- a status is a negative number; this is the number without its sign.
 unfoldable pub statusNumber : Status → ℕ
 statusNumber Internal = 1
 statusNumber NoResources = 3

@@ -68,7 +68,8 @@ gainedByPeer peer q =
 unfoldable pub lostByWriter : Endpoint → (space : ℕ) → ℕ
 lostByWriter own space = bitOr (bitIf (eqb space 0) WRITABLE) (bitIf (missed (own .thresholds .write) space) «WRITE_THRESHOLD»)
 
--- 01 "Delivered bytes", write, if bytes went in: the m bytes, more than 0, are in the peer's queue; the peer gains, then the writer loses
+-- 01 "Delivered bytes", write, if bytes went in: the m bytes, more than 0, are in the peer's queue; the peer, which is
+-- open where a write is done, gains, then the writer loses
 unfoldable pub writeEffect : (datagram : Bool) → (C : ℕ) → (own peer : Endpoint) → (m : ℕ) → Effect
 writeEffect datagram C own peer m =
     let queued = peer .queue .bytes .count + m in

@@ -126,7 +126,7 @@ pub struct Change {
     pub answer: Answer,
 }
 
-// What every answer but that of take is made of. It is small, so that it is passed on at little cost. `one` names an end throughout: true is end 1.
+// What every answer but that of take is made of. It is small, so that it is passed on at little cost.
 pub struct Ends {
     pub datagram: bool,
     pub capacity: u32,

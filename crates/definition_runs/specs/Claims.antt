@@ -19,9 +19,9 @@ pub record Claims : Type 0 where
   pub examples : Examples
   -- 01 "Status and answer word": a refused call changes nothing, and no run leaves a record on which a call is INTERNAL
   pub refused : RefusedChangesNothing
+  pub sound : RunsAreSound
   -- 01 "Calls over user memory": memory at exit
   pub memory : MemoryAtExit
-  pub sound : RunsAreSound
   -- a run of the code is the computed one
   pub calls : CallsMatch
   pub runs : RunsMatch

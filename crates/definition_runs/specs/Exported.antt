@@ -74,11 +74,11 @@ pub record Recorded (numbers : Record → List ℕ → List ℕ) (promise : Step
   pub step : promise r
   pub array : out′ ≡ arrayOf numbers (r .answer) out
 
+-- ---- the signal word
+
 -- the record and the handle are tested as by every call (−1, then −11 for a handle that is none or closed); then the word of the handle's end
 unfoldable pub signalNumber : Pair → (h : ℕ) → ℤ
 signalNumber p h = pick (isDone (openingTest (endsOf p) h)) (pos (own (isOne h) (endsOf p) .signals)) (answerWord (openingTest (endsOf p) h))
-
--- ---- the signal word
 
 -- the signal word of an end. It is no call of a run: the pair stays as it is.
 abbrev pub Signals : Pair → (h : ℕ) → Pair → ℤ → Type 0

@@ -1,5 +1,5 @@
--- Two laws of all calls: a refused call changes nothing, and no call of a run meets a record that no run leaves.
--- 01 "Status and answer word".
+-- Laws of all calls: a refused call changes nothing, memory at exit, and no call of a run meets a record that no run leaves.
+-- 01 "Status and answer word", "Calls over user memory".
 use mathlib.Core.Path.{_≡_}
 use mathlib.Core.List.{[], List}
 use mathlib.Core.Bool.{Bool, true, false}

@@ -3,8 +3,8 @@
 --   TwoRuns    the lines of origins, and any list of calls run twice
 --   Laws       a refused call changes nothing; memory at exit; no call of a run is INTERNAL
 --   Example    runs with two memories, computed through the claim
---   Claims     all claims as one record; the crate claims has its proof
---   Exported   the same for the calls that a kernel links; the crate host_claims has its proofs
+--   Claims     all claims as one record; proofs/Claims has its proof, and the crate claims binds it to a function
+--   Exported   the same for the calls that a kernel links; proofs/exported has its proofs, and the crate host_claims binds them
 pub mod Run
 pub mod TwoRuns
 pub mod Laws

@@ -24,7 +24,7 @@ unfoldable pub origins : (w o m : ℕ) → List Origin
 origins w o zero = []
 origins w o (suc m) = record { call = w; offset = o } ∷ origins w (suc o) m
 
--- a line, one group for each write; only datagram pairs look at the groups
+-- a line in groups: a write adds one, a read of a stream leaves the rest as one; only datagram pairs look at the groups
 abbrev pub OriginLine : Type 0
 OriginLine = List (List Origin)
 
@@ -58,7 +58,7 @@ abbrev pub withPeerLine : Bool → OriginLine → OriginLines → OriginLines
 withPeerLine true l ln = record { one = ln .one; two = l }
 withPeerLine false l ln = record { one = l; two = ln .two }
 
--- end t fed a group of origins, any: it is the last of the peer's line
+-- a group of origins at the back of the line of end t's peer
 abbrev pub fed : (t : Bool) → (group : List Origin) → OriginLines → OriginLines
 fed t group ln = withPeerLine t (peerLine t ln ++ (group ∷ [])) ln
 

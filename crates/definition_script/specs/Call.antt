@@ -216,10 +216,11 @@ callOf memory z p tag b =
 
 -- ---- the bytes that a read delivered, and its count
 
--- the bytes that a read delivered, as they stand in memory before its count lands; other calls deliver none
+-- how many bytes a read delivered; other calls deliver none
 unfoldable pub deliveredCount : (tag : ℕ) → Answer → ℕ
 deliveredCount tag a = pick (eqb tag READ) (countOf a) 0
 
+-- those bytes, as they stand in memory before the count lands
 unfoldable pub delivered : (tag : ℕ) → (body : List ℕ) → Answer → (memory : List ℕ) → List ℕ
 delivered tag b a memory = take (deliveredCount tag a) (drop (eight b 8 - BASE) memory)
 

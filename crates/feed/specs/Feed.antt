@@ -1,4 +1,4 @@
--- What a block of a script does, and what the function says that feeds it. 01 "Script program".
+-- What the functions say that feed a block of a script, and what a block does. The listing is defined in crates/definition_script/specs/Listing.
 use Prim.Native.Nat.{ℕ, _+_, _-_, zero, suc, _≤_}
 use mathlib.Core.Bool.{Bool}
 use mathlib.Core.List.{List, [], _++_}

@@ -1,4 +1,4 @@
--- What the functions say that make one move of the machine. 01 "Script program".
+-- What the functions say that make one move of the machine, which crates/definition_script/specs/Listing defines.
 use Prim.Native.Nat.{ℕ, _+_, _≤_}
 use mathlib.Core.Path.{_≡_}
 use mathlib.Core.Bool.{true, false, Bool}

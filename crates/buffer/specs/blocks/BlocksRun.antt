@@ -1,4 +1,4 @@
--- What the function says that runs a whole script: from the header to the end of the input. 01 "Script program".
+-- What a program leaves: the function that runs a whole script, from the header to the end of the input. 01 "Script program".
 use Prim.Native.Nat.{ℕ, _≤_, _+_, _<_}
 use mathlib.Core.Path.{_≡_}
 use mathlib.Core.List.{List, [], _++_}

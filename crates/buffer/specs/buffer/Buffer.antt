@@ -1,4 +1,4 @@
--- What the functions say that feed a script from a buffer. 01 "Script program".
+-- What a program leaves: the functions that feed a script from a buffer. 01 "Script program".
 use Prim.Native.Nat.{ℕ, _+_, _-_, _≤_}
 use mathlib.Core.List.{List}
 use mathlib.Core.Path.{_≡_}

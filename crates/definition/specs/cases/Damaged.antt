@@ -114,7 +114,7 @@ backlogRows =
     ∷ refusedWith backlogOfClosed (control (setDisposition 1 2 0)) 11
     ∷ []
 
--- the answer to a disposition by its cases, of which no call by numbers is made
+-- the answer to a disposition by the values of the enum
 unfoldable pub byCases : List ℤ
 unfolding rowWord disposeAnswer
 byCases =

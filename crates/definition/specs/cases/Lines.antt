@@ -1,5 +1,4 @@
--- What a line of the listing shows of a call, and the lines of a run, computed. 01 "Script program", line.
--- what a call computes with, opened by `linesOf`
+-- What a line of the listing shows of a call, and the lines of a run, computed. 01 "Script program", line. `linesOf` unfolds all that a call computes with.
 use Prim.Native.Nat.{ℕ}
 use mathlib.Core.List.{List, [], _∷_, map}
 use mathlib.Core.Option.{Option, none, some}

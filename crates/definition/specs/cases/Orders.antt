@@ -79,7 +79,7 @@ orderScripts =
     ∷ line (pos 0) (Word 0x4) Closed [] (some (Info (record { options = 0; «rx_buf_max» = 8; «rx_buf_size» = 0; «rx_buf_available» = 0; «tx_buf_max» = 0; «tx_buf_size» = 0 })))
     ∷ no1 11 0x4
     ∷ [])
-    -- peer enable looks at this end, also with a closed peer; own enable needs no empty queue alone
+    -- peer enable looks at this end, also with a closed peer; own enable is done with bytes queued at the peer, where PEER_WRITE_DISABLED is not set
     ∷ scriptOf streamKind 7 (w 2 4096 1 ∷ c (setDisposition 2 2 0) ∷ c (setDisposition 1 0 1) ∷ c (setDisposition 1 0 2) ∷ on (close 2) ∷ c (setDisposition 1 0 2) ∷ [])
     (yes 1 0x3 0x2 ∷ yes 0 0x3 0x2 ∷ yes 0 0x13 0x20 ∷ no 20 0x13 0x20 ∷ yes1 0 0x15 ∷ no1 20 0x15 ∷ [])
     -- the writer becomes WRITABLE where the queue had been full, not otherwise; the tail of a datagram leaves with it

@@ -1,5 +1,5 @@
 -- How the code goes: what a write and a read change, put into the pair. 01 "Delivered bytes", write, read. The
--- laws of proofs/NoVisit say that this is the pair of the call, where no wait can fire and, of a read, the peer is open.
+-- laws of proofs/transferred/NoVisit say that this is the pair of the call, where no wait can fire and, of a read, the peer is open.
 use Prim.Native.Nat.{ℕ}
 use mathlib.Core.Bool.{Bool, not}
 use Rattle.transfer.specs.declared.change.Transfer.{Transfer}

@@ -1,4 +1,4 @@
--- What a function says that runs a script into a buffer. 01 "Script program".
+-- What the function says that runs a script into a buffer. 01 "Script program".
 use Prim.Native.Nat.{ℕ, _-_, _+_, _≤_}
 use mathlib.Core.List.{List, [], _++_}
 use mathlib.Core.Path.{_≡_}

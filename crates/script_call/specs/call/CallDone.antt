@@ -1,4 +1,4 @@
--- The calls of a record over memory at 65536: write, read, fill. 01 "Script program", tag and body.
+-- What the functions say that make a call of a record over memory. The calls are defined in crates/definition_script/specs/Call.
 use Prim.Native.Nat.{ℕ}
 use mathlib.Core.Path.{_≡_}
 use mathlib.Core.List.{List}

@@ -1,5 +1,4 @@
--- The call that a record makes, on the pair and on what the program lends: memory at 65536, and the ring and the table of each end.
--- 01 "Script program", tag and body.
+-- What the function says that makes the call of a record. The call is defined in crates/definition_script/specs/Call.
 use Prim.Native.Nat.{ℕ}
 use mathlib.Core.Path.{_≡_}
 use mathlib.Core.Bool.{true, false}

@@ -1,4 +1,4 @@
--- A fill of memory at 65536. 01 "Script program", tag 11.
+-- What the function says that fills memory. The fill is defined in crates/definition_script/specs/Call.
 use Prim.Native.Nat.{ℕ}
 use mathlib.Core.Path.{_≡_}
 use mathlib.Core.Bool.{true, false}
