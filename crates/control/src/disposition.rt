@@ -108,7 +108,7 @@ pub fn dispose_ends(
 ) -> EndsOutcome
     ensures { λ r. ⌜ r ≡ disposeEnds e handle disposition «peer_disposition» ⌝ }
 {
-    let a = answers::control::dispose_answer(e, handle, disposition, peer_disposition);
+    let a = answers::control_calls::dispose_answer(e, handle, disposition, peer_disposition);
     if !endpoint::answer::is_done(a) {
         return endpoint::ends::unchanged(e, a);
     }

@@ -54,7 +54,7 @@ use Rattle.transfer.specs.write.WriteChange.{wroteBy}
 use Rattle.transfer.specs.read.ReadChange.{readBy}
 use Rattle.syscall.specs.Ends.{userDisposeEnds, userShutEnds}
 use Rattle.socket.proofs.ends_of as ends
-use Rattle.answers.proofs.control.wait_answer as wait-answer
+use Rattle.answers.proofs.control_calls.wait_answer as wait-answer
 use Rattle.control.proofs.ends.shutdown_ends as shutdown-ends
 use Rattle.control.proofs.threshold.read_threshold_ends as read-threshold-ends
 use Rattle.control.proofs.threshold.write_threshold_ends as write-threshold-ends

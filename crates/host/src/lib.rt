@@ -124,7 +124,7 @@ pub extern "C" fn murgwethan_set_write_threshold(p: &mut Pair, handle: u32, thre
 pub extern "C" fn murgwethan_wait(p: &mut Pair, handle: u32, key: u64, mask: u32, edge: u8) -> i64
     ensures { λ w. ⌜ Answered (Waits (now (p .entry)) handle key mask edge) (now (p .exit)) w ⌝ }
 {
-    let a = answers::control::wait_answer(socket::ends_of(*p), handle, edge);
+    let a = answers::control_calls::wait_answer(socket::ends_of(*p), handle, edge);
     kept::places::wait(p, a, handle, key, mask, edge)
 }
 

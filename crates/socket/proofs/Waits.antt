@@ -20,7 +20,7 @@ use Rattle.port.proofs.places.Lists.{either}
 use Rattle.port.proofs.waits.Operations.{register-done}
 use Rattle.port.proofs.packets.Operations.{take-none, take-done}
 use Rattle.answers.proofs.tests.Sound.{sound-passed}
-use Rattle.answers.proofs.control.Passed.{wait-room}
+use Rattle.answers.proofs.control_calls.Passed.{wait-room}
 use Rattle.definition.specs.declared.Pair.{Pair}
 use Rattle.definition.specs.Pair.{isOne, own, endsOf, withPlaces}
 use Rattle.definition.specs.Tests.{Steps}

@@ -14,7 +14,7 @@ impl SocketPair {
         let p = self.inner;
         SocketStep {
             pair: self,
-            answer: answers::control::info_answer(parts::ends_of(p), handle, table),
+            answer: answers::control_calls::info_answer(parts::ends_of(p), handle, table),
         }
     }
 }

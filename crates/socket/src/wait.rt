@@ -93,7 +93,7 @@ impl SocketPair {
         ensures { λ r. ⌜ Waits (self .inner) handle key mask edge (innerStep r) ⌝ }
     {
         let p = self.inner;
-        let a = answers::control::wait_answer(parts::ends_of(p), handle, edge);
+        let a = answers::control_calls::wait_answer(parts::ends_of(p), handle, edge);
         SocketStep {
             pair: SocketPair {
                 inner: registered(p, a, handle, key, mask, edge),

@@ -60,10 +60,10 @@ use Rattle.socket.proofs.ends_of as ends
 use Rattle.socket.proofs.ends_of.Symbol as ends-def
 use Rattle.socket.proofs.ends_of.Symbol.{name as #ends}
 use Rattle.socket.proofs.ends_of.Met as ends-thm
-use Rattle.answers.proofs.control.wait_answer as wait-answer
-use Rattle.answers.proofs.control.wait_answer.Symbol as wait-answer-def
-use Rattle.answers.proofs.control.wait_answer.Symbol.{name as #wait-answer}
-use Rattle.answers.proofs.control.wait_answer.Met as wait-answer-thm
+use Rattle.answers.proofs.control_calls.wait_answer as wait-answer
+use Rattle.answers.proofs.control_calls.wait_answer.Symbol as wait-answer-def
+use Rattle.answers.proofs.control_calls.wait_answer.Symbol.{name as #wait-answer}
+use Rattle.answers.proofs.control_calls.wait_answer.Met as wait-answer-thm
 use Rattle.kept.proofs.places.wait as wait
 use Rattle.kept.proofs.places.wait.Symbol as wait-def
 use Rattle.kept.proofs.places.wait.Symbol.{name as #wait}
@@ -137,5 +137,5 @@ murgwethan-wait-spec 𝓤 H 𝓜 𝓖 𝓡 =
     (tables 𝓤 H 𝓜 𝓡 code.env .C) (tables 𝓤 H 𝓜 𝓡 code.env .Λ) #own code.function (code.unfolded 𝓤 H 𝓜 𝓡)
     (meets 𝓤 H (𝓖 .A) (givenOf 𝓤 H 𝓜 𝓖) (𝓜 .mem) (𝓡 .run) (tablesOf 𝓤 H 𝓜 (tables 𝓤 H 𝓜 𝓡 code.env))
     (cited 𝓤 H (ends-contract 𝓤 H (𝓖 .A) (𝓜 .mem) (𝓡 .run)) 𝓜 𝓡 code.env #ends ends-def.routine code.calls-socket·ends-of (ends-thm.met 𝓤 H 𝓜 𝓖 𝓡))
-    (cited 𝓤 H (wait-answer-contract 𝓤 H (𝓖 .A) (𝓜 .mem) (𝓡 .run)) 𝓜 𝓡 code.env #wait-answer wait-answer-def.routine code.calls-answers·control·wait-answer (wait-answer-thm.met 𝓤 H 𝓜 𝓖 𝓡))
+    (cited 𝓤 H (wait-answer-contract 𝓤 H (𝓖 .A) (𝓜 .mem) (𝓡 .run)) 𝓜 𝓡 code.env #wait-answer wait-answer-def.routine code.calls-answers·control-calls·wait-answer (wait-answer-thm.met 𝓤 H 𝓜 𝓖 𝓡))
     (cited 𝓤 H (wait-contract 𝓤 H (𝓖 .A) (𝓜 .mem) (𝓡 .run)) 𝓜 𝓡 code.env #wait wait-def.routine code.calls-kept·places·wait (wait-thm.met 𝓤 H 𝓜 𝓖 𝓡)))

@@ -5,8 +5,8 @@ use Rattle.answers.proofs.tests.Sound.{opening-sound}
 use Rattle.endpoint.proofs.answer.Rules.{chain, via-not, via-not-not, then-stop, then-go}
 use Rattle.definition.specs.Port.{waitAnswer}
 use borrow.Author.Needs.{needs}
-use Rattle.answers.proofs.control.wait.wait_answer.Statement.{statement}
-use Rattle.answers.proofs.control.wait.wait_answer.Tie as tie
+use Rattle.answers.proofs.control_calls.wait.wait_answer.Statement.{statement}
+use Rattle.answers.proofs.control_calls.wait.wait_answer.Tie as tie
 
 opening-test-requires : tie.Need-opening-test-requires
 opening-test-requires c κs = search needs

@@ -1,8 +1,8 @@
 use Rattle.endpoint.proofs.answer.Rules.{via-not, via-not-not, then-stop, then-go}
 use Rattle.definition.specs.Disposition.{disposeAnswer}
 use borrow.Author.Needs.{needs}
-use Rattle.answers.proofs.control.disposition.dispose_answer.Statement.{statement}
-use Rattle.answers.proofs.control.disposition.dispose_answer.Tie as tie
+use Rattle.answers.proofs.control_calls.disposition.dispose_answer.Statement.{statement}
+use Rattle.answers.proofs.control_calls.disposition.dispose_answer.Tie as tie
 
 opening-test-requires : tie.Need-opening-test-requires
 opening-test-requires c κs = search needs

@@ -6,8 +6,8 @@ use Rattle.definition.specs.declared.SocketInfo.{SocketInfo}
 use Rattle.definition.specs.declared.Record.the-variants.{Info}
 use Rattle.definition.specs.declared.Answer.the-variants.{Done}
 use borrow.Author.Needs.{needs}
-use Rattle.answers.proofs.control.info.info_answer.Statement.{statement}
-use Rattle.answers.proofs.control.info.info_answer.Tie as tie
+use Rattle.answers.proofs.control_calls.info.info_answer.Statement.{statement}
+use Rattle.answers.proofs.control_calls.info.info_answer.Tie as tie
 
 sound-test-requires : tie.Need-sound-test-requires
 sound-test-requires c κs = search needs
