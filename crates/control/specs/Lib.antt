@@ -1,3 +1,1 @@
-pub mod ends
-pub mod threshold
-pub mod disposition
+pub mod ByEffect

@@ -11,11 +11,17 @@ use endpoint::signal::PEER_WRITE_DISABLED;
 use endpoint::signal::WRITABLE;
 use endpoint::signal::WRITE_DISABLED;
 ghost use mathlib.Core.Path.{_≡_};
-ghost use Rattle.control.specs.disposition.DispositionEnds.{writingVisit, ownDisposed, peerDisposed, ownMoved, peerMoved, disposedEnds, disposeEnds};
+ghost use Rattle.definition.specs.declared.Disposition.the-variants.{Unchanged, Disable, Enable};
+ghost use Rattle.definition.specs.Status.{pick};
+ghost use Rattle.definition.specs.Pair.{isOne, own, peer};
+ghost use Rattle.definition.specs.Effect.{ownWord};
+ghost use Rattle.definition.specs.Disposition.{disposeAnswer, writing, disposeEffect};
+ghost use Rattle.endpoint.specs.ends.AtOnce.{movedBy};
+ghost use Rattle.control.specs.ByEffect.{visitAt, movedLast, outcomeBy, movedIf};
 
 // The writing of an end, disabled or enabled.
 fn writing_visit(one: bool, word: u32, off: bool) -> Pending
-    ensures { λ r. ⌜ r ≡ writingVisit one word off ⌝ }
+    ensures { λ r. ⌜ r ≡ visitAt one word (writing ownWord (pick off Disable Enable)) ⌝ }
 {
     if off {
         return Pending {
@@ -35,7 +41,7 @@ fn writing_visit(one: bool, word: u32, off: bool) -> Pending
 
 // The writing of this end; an open peer's reading flag and PEER_WRITE_DISABLED follow.
 fn own_disposed(one: bool, own: Endpoint, peer: Endpoint, off: bool) -> Moved
-    ensures { λ r. ⌜ r ≡ ownDisposed one own peer off ⌝ }
+    ensures { λ r. ⌜ r ≡ movedBy one (disposeEffect own peer (pick off Disable Enable) Unchanged) ⌝ }
 {
     let first = writing_visit(one, own.signals, off);
     let next = crate::ends::changed_end(own, first);
@@ -49,7 +55,7 @@ fn own_disposed(one: bool, own: Endpoint, peer: Endpoint, off: bool) -> Moved
 
 // The reading flag of this end in any case; with an open peer the peer's writing, then this end's PEER_WRITE_DISABLED.
 fn peer_disposed(one: bool, own: Endpoint, peer: Endpoint, off: bool) -> Moved
-    ensures { λ r. ⌜ r ≡ peerDisposed one own peer off ⌝ }
+    ensures { λ r. ⌜ r ≡ movedLast one (disposeEffect own peer Unchanged (pick off Disable Enable)) ⌝ }
 {
     let flagged = endpoint::end::with_read_disabled(own, off);
     if peer.closed {
@@ -63,7 +69,7 @@ fn peer_disposed(one: bool, own: Endpoint, peer: Endpoint, off: bool) -> Moved
 }
 
 fn own_moved(one: bool, own: Endpoint, peer: Endpoint, d: Disposition) -> Moved
-    ensures { λ r. ⌜ r ≡ ownMoved one own peer d ⌝ }
+    ensures { λ r. ⌜ r ≡ movedBy one (disposeEffect own peer d Unchanged) ⌝ }
 {
     match d {
         Disposition::Unchanged => endpoint::ends::kept_ends(own, peer),
@@ -73,7 +79,7 @@ fn own_moved(one: bool, own: Endpoint, peer: Endpoint, d: Disposition) -> Moved
 }
 
 fn peer_moved(one: bool, own: Endpoint, peer: Endpoint, d: Disposition) -> Moved
-    ensures { λ r. ⌜ r ≡ peerMoved one own peer d ⌝ }
+    ensures { λ r. ⌜ r ≡ movedLast one (disposeEffect own peer Unchanged d) ⌝ }
 {
     match d {
         Disposition::Unchanged => endpoint::ends::kept_ends(own, peer),
@@ -84,7 +90,7 @@ fn peer_moved(one: bool, own: Endpoint, peer: Endpoint, d: Disposition) -> Moved
 
 // Own first, then peer.
 fn disposed_ends(e: Ends, one: bool, answer: Answer, d: Disposition, f: Disposition) -> EndsOutcome
-    ensures { λ r. ⌜ r ≡ disposedEnds e one answer d f ⌝ }
+    ensures { λ r. ⌜ r ≡ outcomeBy (e .waits) one answer (disposeEffect (own one e) (peer one e) d f) ⌝ }
 {
     let m = own_moved(
         one,
@@ -106,7 +112,7 @@ pub fn dispose_ends(
     disposition: Disposition,
     peer_disposition: Disposition,
 ) -> EndsOutcome
-    ensures { λ r. ⌜ r ≡ disposeEnds e handle disposition «peer_disposition» ⌝ }
+    ensures { λ r. ⌜ r ≡ movedIf e handle (disposeAnswer e handle disposition «peer_disposition») (disposeEffect (own (isOne handle) e) (peer (isOne handle) e) disposition «peer_disposition») ⌝ }
 {
     let a = answers::control_calls::dispose_answer(e, handle, disposition, peer_disposition);
     if !endpoint::answer::is_done(a) {

@@ -10,9 +10,12 @@ use endpoint::signal::READ_THRESHOLD;
 use endpoint::signal::WRITE_THRESHOLD;
 ghost use mathlib.Core.Path.{_≡_};
 ghost use Prim.Native.Nat.{_≤_};
-ghost use Rattle.definition.specs.Pair.{withThresholds};
-ghost use Rattle.control.specs.ends.Changes.{bitVisit, changedEnd, firstOnly};
-ghost use Rattle.control.specs.threshold.ThresholdEnds.{readThresholdMoved, writeThresholdMoved, readThresholdEnds, writeThresholdEnds};
+ghost use mathlib.Core.List.{[], _∷_};
+ghost use Rattle.definition.specs.Pair.{isOne, own, peer, withThresholds};
+ghost use Rattle.definition.specs.Effect.{ownBit, keepingWaits};
+ghost use Rattle.definition.specs.Threshold.{readThresholdAnswer, readThresholdEffect, writeThresholdAnswer, writeThresholdEffect};
+ghost use Rattle.endpoint.specs.ends.AtOnce.{movedBy};
+ghost use Rattle.control.specs.ByEffect.{movedIf};
 
 // This end with its thresholds replaced, and the bit of the one that changed.
 fn thresholds_moved(
@@ -23,7 +26,7 @@ fn thresholds_moved(
     reached: bool,
     bit: u32,
 ) -> Moved
-    ensures { λ r. ⌜ r ≡ firstOnly (changedEnd (bitVisit one (own .signals) reached bit) (withThresholds thresholds own)) peer (bitVisit one (own .signals) reached bit) ⌝ }
+    ensures { λ r. ⌜ r ≡ movedBy one (keepingWaits (withThresholds thresholds own) peer (ownBit reached bit ∷ [])) ⌝ }
 {
     let first = crate::ends::bit_visit(one, own.signals, reached, bit);
     let next = crate::ends::changed_end(endpoint::end::with_thresholds(own, thresholds), first);
@@ -31,7 +34,7 @@ fn thresholds_moved(
 }
 
 fn read_threshold_moved(one: bool, own: Endpoint, peer: Endpoint, threshold: u64) -> Moved
-    ensures { λ r. ⌜ r ≡ readThresholdMoved one own peer threshold ⌝ }
+    ensures { λ r. ⌜ r ≡ movedBy one (readThresholdEffect own peer threshold) ⌝ }
 {
     let thresholds = Thresholds {
         read: threshold,
@@ -49,7 +52,7 @@ fn write_threshold_moved(
     threshold: u64,
 ) -> Moved
     requires { ⌜ peer .queue .bytes .count ≤ capacity ⌝ }
-    ensures { λ r. ⌜ r ≡ writeThresholdMoved capacity one own peer threshold ⌝ }
+    ensures { λ r. ⌜ r ≡ movedBy one (writeThresholdEffect capacity own peer threshold) ⌝ }
 {
     let thresholds = Thresholds {
         read: own.thresholds.read,
@@ -61,7 +64,7 @@ fn write_threshold_moved(
 
 // READ_THRESHOLD shows while at least so many bytes are queued at this end; 0 is none.
 pub fn read_threshold_ends(e: Ends, handle: u32, threshold: u64) -> EndsOutcome
-    ensures { λ r. ⌜ r ≡ readThresholdEnds e handle threshold ⌝ }
+    ensures { λ r. ⌜ r ≡ movedIf e handle (readThresholdAnswer e handle threshold) (readThresholdEffect (own (isOne handle) e) (peer (isOne handle) e) threshold) ⌝ }
 {
     let a = answers::threshold::read_threshold_answer(e, handle, threshold);
     if !endpoint::answer::is_done(a) {
@@ -79,7 +82,7 @@ pub fn read_threshold_ends(e: Ends, handle: u32, threshold: u64) -> EndsOutcome
 
 // While the peer is open, WRITE_THRESHOLD shows whether its queue has at least so much space; 0 is none. The bit stays as it is when the peer closes.
 pub fn write_threshold_ends(e: Ends, handle: u32, threshold: u64) -> EndsOutcome
-    ensures { λ r. ⌜ r ≡ writeThresholdEnds e handle threshold ⌝ }
+    ensures { λ r. ⌜ r ≡ movedIf e handle (writeThresholdAnswer e handle threshold) (writeThresholdEffect (e .capacity) (own (isOne handle) e) (peer (isOne handle) e) threshold) ⌝ }
 {
     let a = answers::threshold::write_threshold_answer(e, handle, threshold);
     if !endpoint::answer::is_done(a) {

@@ -1,19 +1,44 @@
--- The outcome of a call that changes both ends or none, by the answer x of its tests g. Assumes nothing.
+-- The outcome of a call by the answer x of its tests g. Assumes nothing.
 use Prim.Native.Nat.{ℕ}
-use mathlib.Core.Path.{_≡_}
-use mathlib.Core.Bool.{true, false}
+use mathlib.Core.Path.{_≡_, refl, sym, ap, _∙_}
+use mathlib.Core.Bool.{Bool, true, false, not}
+use lib.Dec.{eqb}
 use Rattle.definition.specs.declared.Answer.{Answer}
 use Rattle.definition.specs.Status.{isDone, pick}
 use Rattle.definition.specs.declared.Ends.{Ends}
-use Rattle.endpoint.specs.declared.ends.Moved.{Moved}
 use Rattle.definition.specs.Pair.{isOne}
+use Rattle.definition.specs.Effect.{Effect}
+use Rattle.endpoint.specs.declared.ends.EndsOutcome.{EndsOutcome}
 use Rattle.endpoint.specs.ends.Outcome.{noVisits, outcomeOf, unchangedEnds}
-use Rattle.control.specs.ends.Changes.{movedIf}
+use Rattle.endpoint.specs.ends.AtOnce.{movedBy, moreBy}
+use Rattle.control.specs.ByEffect.{outcomeBy, movedIf}
 
-pub refused : (e : Ends) (h : ℕ) (x g : Answer) (m : Moved) → x ≡ g → isDone x ≡ false → movedIf e h g m ≡ unchangedEnds e x
-unfolding movedIf pick
-refused e h x g m p f = rw (← p, f)
+-- ---- a call that is done
 
-pub done : (e : Ends) (h : ℕ) (x g : Answer) (m : Moved) → x ≡ g → isDone x ≡ true → movedIf e h g m ≡ outcomeOf (e .waits) (isOne h) x m noVisits
-unfolding movedIf pick
-done e h x g m p f = rw (← p, f)
+module _ (waits : ℕ) (t : Bool) (a : Answer) (e : Effect) where
+  -- one that drops no wait
+  pub by-kept : e .drops ≡ false → outcomeOf waits t a (movedBy t e) (moreBy t e) ≡ outcomeBy waits t a e
+  unfolding outcomeBy outcomeOf pick
+  by-kept k = rw k refl
+
+  -- one that drops waits
+  pub by-dropped : (r : EndsOutcome) → e .drops ≡ true → r ≡ outcomeOf waits t a (movedBy t e) (moreBy t e)
+      → record { one = r .one; two = r .two; answer = r .answer; fires = not (eqb waits 0); visits = r .visits; more = r .more } ≡ outcomeBy waits t a e
+  unfolding outcomeBy pick
+  by-dropped r k q = rw (q, k) refl
+
+-- ---- a call by its answer
+
+module _ (e : Ends) (h : ℕ) (x g : Answer) (f : Effect) (p : x ≡ g) where
+  pub refused : isDone x ≡ false → unchangedEnds e x ≡ movedIf e h g f
+  unfolding movedIf pick
+  refused d = rw (← p, d)
+
+  pub done : isDone x ≡ true → outcomeBy (e .waits) (isOne h) x f ≡ movedIf e h g f
+  unfolding movedIf pick
+  done d = rw (← p, d)
+
+  -- the same of a call that drops no wait and has at most two changes
+  pub done-two : f .drops ≡ false → moreBy (isOne h) f ≡ noVisits → isDone x ≡ true
+      → outcomeOf (e .waits) (isOne h) x (movedBy (isOne h) f) noVisits ≡ movedIf e h g f
+  done-two k m d = ap (outcomeOf (e .waits) (isOne h) x (movedBy (isOne h) f)) (sym m) ∙ by-kept (e .waits) (isOne h) x f k ∙ done d

@@ -9,12 +9,13 @@ use endpoint::ends::Pending;
 use endpoint::ends::Visits;
 use endpoint::signal::changed;
 ghost use mathlib.Core.Path.{_≡_};
-ghost use Rattle.endpoint.specs.ends.Outcome.{noVisits, outcomeOf};
-ghost use Rattle.control.specs.ends.Changes.{bitVisit, changedEnd, firstOnly};
+ghost use Rattle.definition.specs.Effect.{ownBit};
+ghost use Rattle.endpoint.specs.ends.Outcome.{noVisit, noVisits, outcomeOf};
+ghost use Rattle.control.specs.ByEffect.{visitAt, changedEnd};
 
 // One bit of a word, set or cleared.
 pub fn bit_visit(one: bool, word: u32, on: bool, bit: u32) -> Pending
-    ensures { λ r. ⌜ r ≡ bitVisit one word on bit ⌝ }
+    ensures { λ r. ⌜ r ≡ visitAt one word (ownBit on bit) ⌝ }
 {
     Pending {
         one,
@@ -44,7 +45,7 @@ pub fn with_visits(own: Endpoint, peer: Endpoint, first: Pending, second: Pendin
 
 // The two ends after a call with one change.
 pub fn first_only(own: Endpoint, peer: Endpoint, first: Pending) -> Moved
-    ensures { λ r. ⌜ r ≡ firstOnly own peer first ⌝ }
+    ensures { λ r. ⌜ r ≡ record { own = own; peer = peer; visits = record { first = first; second = noVisit } } ⌝ }
 {
     with_visits(own, peer, first, NO_VISIT)
 }

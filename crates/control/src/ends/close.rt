@@ -1,6 +1,5 @@
 // Close, but for the waits of the end that closes.
 use crate::ends::change;
-use definition::Answer;
 use definition::Endpoint;
 use definition::Ends;
 use endpoint::ends::EndsOutcome;
@@ -9,43 +8,32 @@ use endpoint::ends::Pending;
 use endpoint::signal::PEER_CLOSED;
 use endpoint::signal::WRITABLE;
 ghost use mathlib.Core.Path.{_≡_};
-ghost use Rattle.control.specs.ends.CloseEnds.{closeVisit, closeMoved, closeOutcome, closeEnds};
+ghost use Rattle.definition.specs.Pair.{isOne, own, peer};
+ghost use Rattle.definition.specs.Tests.{openingTest};
+ghost use Rattle.definition.specs.Close.{closeEffect};
+ghost use Rattle.endpoint.specs.ends.AtOnce.{movedBy};
+ghost use Rattle.control.specs.ByEffect.{movedIf};
 
-// The change of an open peer: it loses WRITABLE and gains PEER_CLOSED.
-fn close_visit(one: bool, word: u32) -> Pending
-    ensures { λ r. ⌜ r ≡ closeVisit one word ⌝ }
-{
-    Pending {
-        one,
-        word,
-        clear: WRITABLE,
-        set: PEER_CLOSED,
-    }
-}
-
+// The end that closes, and the change of an open peer: it loses WRITABLE and gains PEER_CLOSED.
 fn close_moved(one: bool, own: Endpoint, peer: Endpoint) -> Moved
-    ensures { λ r. ⌜ r ≡ closeMoved one own peer ⌝ }
+    ensures { λ r. ⌜ r ≡ movedBy one (closeEffect own peer) ⌝ }
 {
     let gone = endpoint::end::into_closed(own);
     if peer.closed {
         return endpoint::ends::kept_ends(gone, peer);
     }
-    let first = close_visit(!one, peer.signals);
+    let first = Pending {
+        one: !one,
+        word: peer.signals,
+        clear: WRITABLE,
+        set: PEER_CLOSED,
+    };
     change::first_only(gone, change::changed_end(peer, first), first)
 }
 
-// A close looks at the waits wherever there are any, since it removes those of its end.
-fn close_outcome(waits: usize, one: bool, answer: Answer, moved: Moved) -> EndsOutcome
-    ensures { λ r. ⌜ r ≡ closeOutcome waits one answer moved ⌝ }
-{
-    let mut r = change::put_both(waits, one, answer, moved);
-    r.fires = waits != 0;
-    r
-}
-
-// Closes an end: its queue is gone, and an open peer gains PEER_CLOSED.
+// Closes an end: its queue is gone, and an open peer gains PEER_CLOSED. It looks at the waits wherever there are any, since it removes those of its end.
 pub fn close_ends(e: Ends, handle: u32) -> EndsOutcome
-    ensures { λ r. ⌜ r ≡ closeEnds e handle ⌝ }
+    ensures { λ r. ⌜ r ≡ movedIf e handle (openingTest e handle) (closeEffect (own (isOne handle) e) (peer (isOne handle) e)) ⌝ }
 {
     let a = answers::tests::opening_test(e, handle);
     if !endpoint::answer::is_done(a) {
@@ -57,5 +45,7 @@ pub fn close_ends(e: Ends, handle: u32) -> EndsOutcome
         endpoint::ends::own(e, one),
         endpoint::ends::peer(e, one),
     );
-    close_outcome(e.waits, one, a, moved)
+    let mut r = change::put_both(e.waits, one, a, moved);
+    r.fires = e.waits != 0;
+    r
 }

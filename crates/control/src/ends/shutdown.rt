@@ -10,15 +10,16 @@ use endpoint::signal::PEER_WRITE_DISABLED;
 use endpoint::signal::WRITABLE;
 use endpoint::signal::WRITE_DISABLED;
 ghost use mathlib.Core.Path.{_≡_};
-ghost use Rattle.definition.specs.Status.{pick};
-ghost use Rattle.definition.specs.Pair.{withReadDisabled};
-ghost use mathlib.Core.Bool.{true};
-ghost use Rattle.control.specs.ends.Changes.{changedEnd};
-ghost use Rattle.control.specs.ends.ShutdownEnds.{shutVisit, shutMoved, shutEnds};
+ghost use Rattle.definition.specs.Pair.{isOne, own, peer};
+ghost use Rattle.definition.specs.Tests.{openingTest};
+ghost use Rattle.definition.specs.Effect.{ownWord};
+ghost use Rattle.definition.specs.Shutdown.{shutting, shutReading, shutEffect};
+ghost use Rattle.endpoint.specs.ends.AtOnce.{movedBy};
+ghost use Rattle.control.specs.ByEffect.{visitAt, changedEnd, movedIf};
 
 // One end's change.
 fn shut_visit(one: bool, word: u32, read: bool, write: bool) -> Pending
-    ensures { λ r. ⌜ r ≡ shutVisit one word read write ⌝ }
+    ensures { λ r. ⌜ r ≡ visitAt one word (shutting ownWord read write) ⌝ }
 {
     Pending {
         one,
@@ -30,7 +31,7 @@ fn shut_visit(one: bool, word: u32, read: bool, write: bool) -> Pending
 
 // The end after its change, its reading flag set before its word.
 fn shut_end(e: Endpoint, read: bool, change: Pending) -> Endpoint
-    ensures { λ r. ⌜ r ≡ changedEnd change (pick read (withReadDisabled true e) e) ⌝ }
+    ensures { λ r. ⌜ r ≡ changedEnd change (shutReading read e) ⌝ }
 {
     if read {
         return change::changed_end(endpoint::end::with_read_disabled(e, true), change);
@@ -40,7 +41,7 @@ fn shut_end(e: Endpoint, read: bool, change: Pending) -> Endpoint
 
 // This end's part, then an open peer's with both flags negated.
 fn shut_moved(one: bool, own: Endpoint, peer: Endpoint, read: bool, write: bool) -> Moved
-    ensures { λ r. ⌜ r ≡ shutMoved one own peer read write ⌝ }
+    ensures { λ r. ⌜ r ≡ movedBy one (shutEffect own peer read write) ⌝ }
 {
     let first = shut_visit(one, own.signals, read, write);
     let next = shut_end(own, read, first);
@@ -54,7 +55,7 @@ fn shut_moved(one: bool, own: Endpoint, peer: Endpoint, read: bool, write: bool)
 
 // Ends reading, writing or both at this end; an open peer gets the same with both flags negated.
 pub fn shutdown_ends(e: Ends, handle: u32, read: bool, write: bool) -> EndsOutcome
-    ensures { λ r. ⌜ r ≡ shutEnds e handle read write ⌝ }
+    ensures { λ r. ⌜ r ≡ movedIf e handle (openingTest e handle) (shutEffect (own (isOne handle) e) (peer (isOne handle) e) read write) ⌝ }
 {
     let a = answers::tests::opening_test(e, handle);
     if !endpoint::answer::is_done(a) {

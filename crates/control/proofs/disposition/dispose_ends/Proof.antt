@@ -1,5 +1,6 @@
-use Rattle.endpoint.proofs.answer.Rules.{pick-on, pick-off, via-not, via-not-not}
-use Rattle.control.specs.disposition.DispositionEnds.{disposeEnds}
+use mathlib.Core.Path.{_∙_}
+use Rattle.endpoint.proofs.answer.Rules.{via-not, via-not-not}
+use Rattle.control.proofs.ends.Outcomes.{refused, done}
 use Rattle.control.proofs.disposition.dispose_ends.Statement.{statement}
 use Rattle.control.proofs.disposition.dispose_ends.Tie as tie
 
@@ -13,15 +14,17 @@ unchanged-requires : tie.Need-unchanged-requires
 unchanged-requires c κs = tt
 
 returns : tie.Need-returns
-unfolding disposeEnds
-returns c = rw (← c .before .before .before .dispose-answer .ensures) (pick-off _ _ _ _ _ (via-not (c .before .before .is-done .ensures) (c .before .if1 .taken)) (c .unchanged .ensures))
+returns c =
+    c .unchanged .ensures
+    ∙ refused _ _ _ _ _ (c .before .before .before .dispose-answer .ensures) (via-not (c .before .before .is-done .ensures) (c .before .if1 .taken))
 
 disposed-ends-requires : tie.Need-disposed-ends-requires
 disposed-ends-requires c κs = tt
 
 returns-2 : tie.Need-returns-2
-unfolding disposeEnds
-returns-2 c = rw (← c .before .before .before .dispose-answer .ensures) (pick-on _ _ _ _ _ (via-not-not (c .before .before .is-done .ensures) (c .before .if1 .left)) (c .disposed-ends .ensures))
+returns-2 c =
+    c .disposed-ends .ensures
+    ∙ done _ _ _ _ _ (c .before .before .before .dispose-answer .ensures) (via-not-not (c .before .before .is-done .ensures) (c .before .if1 .left))
 
 pub dispose-ends-spec : {M : Type 1} → statement M
 dispose-ends-spec =

@@ -1,4 +1,5 @@
-use Rattle.control.specs.disposition.DispositionEnds.{disposedEnds}
+use mathlib.Core.Path.{_∙_}
+use Rattle.control.proofs.ends.Parts.{disposed-by}
 use Rattle.control.proofs.disposition.disposed_ends.Statement.{statement}
 use Rattle.control.proofs.disposition.disposed_ends.Tie as tie
 
@@ -18,8 +19,9 @@ put-back-requires : tie.Need-put-back-requires
 put-back-requires c κs = tt
 
 returns : tie.Need-returns
-unfolding disposedEnds
-returns c = rw (← c .before .before .before .before .before .before .own .ensures, ← c .before .before .before .before .before .peer .ensures, ← c .before .before .before .before .own-moved .ensures, ← c .before .before .peer-moved .ensures) (c .put-back .ensures)
+returns c =
+    (rw (c .before .before .peer-moved .ensures, c .before .before .before .before .own-moved .ensures, c .before .before .before .before .before .before .own .ensures, c .before .before .before .before .before .peer .ensures) at (c .put-back .ensures))
+    ∙ disposed-by _ _ _ _ _ _ _
 
 pub disposed-ends-spec : {M : Type 1} → statement M
 disposed-ends-spec =

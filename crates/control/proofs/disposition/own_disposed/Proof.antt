@@ -1,5 +1,5 @@
-use Rattle.endpoint.proofs.answer.Rules.{pick-on, pick-off}
-use Rattle.control.specs.disposition.DispositionEnds.{ownDisposed}
+use mathlib.Core.Path.{_∙_}
+use Rattle.control.proofs.ends.Parts.{own-closed, own-open}
 use Rattle.control.proofs.disposition.own_disposed.Statement.{statement}
 use Rattle.control.proofs.disposition.own_disposed.Tie as tie
 
@@ -13,8 +13,9 @@ first-only-requires : tie.Need-first-only-requires
 first-only-requires c κs = tt
 
 returns : tie.Need-returns
-unfolding ownDisposed
-returns c = pick-on _ _ _ _ _ (c .before .if1 .taken) (rw (← c .before .before .before .writing-visit .ensures, ← c .before .before .changed-end .ensures) (c .first-only .ensures))
+returns c =
+    (rw (c .before .before .changed-end .ensures, c .before .before .before .writing-visit .ensures) at (c .first-only .ensures))
+    ∙ own-closed _ _ _ _ (c .before .if1 .taken)
 
 bit-visit-requires : tie.Need-bit-visit-requires
 bit-visit-requires c κs = tt
@@ -29,8 +30,9 @@ with-visits-requires : tie.Need-with-visits-requires
 with-visits-requires c κs = tt
 
 returns-2 : tie.Need-returns-2
-unfolding ownDisposed
-returns-2 c = pick-off _ _ _ _ _ (c .before .before .before .before .if1 .left) (rw (← c .before .before .before .before .before .before .writing-visit .ensures, ← c .before .before .before .before .before .changed-end .ensures, ← c .before .before .before .bit-visit .ensures, ← c .before .before .with-read-disabled .ensures, ← c .before .changed-end2 .ensures) (c .with-visits .ensures))
+returns-2 c =
+    (rw (c .before .changed-end2 .ensures, c .before .before .with-read-disabled .ensures, c .before .before .before .bit-visit .ensures, c .before .before .before .before .before .changed-end .ensures, c .before .before .before .before .before .before .writing-visit .ensures) at (c .with-visits .ensures))
+    ∙ own-open _ _ _ _ (c .before .before .before .before .if1 .left)
 
 pub own-disposed-spec : {M : Type 1} → statement M
 own-disposed-spec =

@@ -1,5 +1,7 @@
-use Rattle.control.specs.disposition.DispositionEnds.{ownMoved}
+use mathlib.Core.Path.{_∙_}
 use borrow.Author.Needs.{needs}
+use Rattle.definition.specs.Status.{pick}
+use Rattle.control.proofs.ends.Parts.{none-kept}
 use Rattle.control.proofs.disposition.own_moved.Statement.{statement}
 use Rattle.control.proofs.disposition.own_moved.Tie as tie
 
@@ -22,15 +24,14 @@ own-disposed-requires-2 : tie.Need-own-disposed-requires-2
 own-disposed-requires-2 c κs = tt
 
 returns : tie.Need-returns
-unfolding ownMoved
-returns c = rw (c .before .enum-told .given .1) (c .kept-ends .ensures)
+returns c = rw (c .before .enum-told .given .1) (c .kept-ends .ensures ∙ none-kept _ _ _ .0)
 
 returns-2 : tie.Need-returns-2
-unfolding ownMoved
+unfolding pick
 returns-2 c = rw (c .before .enum-told2 .given .1) (c .own-disposed .ensures)
 
 returns-3 : tie.Need-returns-3
-unfolding ownMoved
+unfolding pick
 returns-3 c = rw (c .before .enum-told3 .given .1) (c .own-disposed2 .ensures)
 
 pub own-moved-spec : {M : Type 1} → statement M

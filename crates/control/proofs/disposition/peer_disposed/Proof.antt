@@ -1,5 +1,5 @@
-use Rattle.endpoint.proofs.answer.Rules.{pick-on, pick-off}
-use Rattle.control.specs.disposition.DispositionEnds.{peerDisposed}
+use mathlib.Core.Path.{_∙_}
+use Rattle.control.proofs.ends.Parts.{peer-closed, peer-open}
 use Rattle.control.proofs.disposition.peer_disposed.Statement.{statement}
 use Rattle.control.proofs.disposition.peer_disposed.Tie as tie
 
@@ -10,8 +10,9 @@ kept-ends-requires : tie.Need-kept-ends-requires
 kept-ends-requires c κs = tt
 
 returns : tie.Need-returns
-unfolding peerDisposed
-returns c = pick-on _ _ _ _ _ (c .before .if1 .taken) (rw (← c .before .before .with-read-disabled .ensures) (c .kept-ends .ensures))
+returns c =
+    (rw (c .before .before .with-read-disabled .ensures) at (c .kept-ends .ensures))
+    ∙ peer-closed _ _ _ _ (c .before .if1 .taken)
 
 writing-visit-requires : tie.Need-writing-visit-requires
 writing-visit-requires c κs = tt
@@ -29,8 +30,9 @@ with-visits-requires : tie.Need-with-visits-requires
 with-visits-requires c κs = tt
 
 returns-2 : tie.Need-returns-2
-unfolding peerDisposed
-returns-2 c = pick-off _ _ _ _ _ (c .before .before .before .before .before .if1 .left) (rw (← c .before .before .before .before .before .before .with-read-disabled .ensures, ← c .before .before .before .before .writing-visit .ensures, ← c .before .before .before .bit-visit .ensures, ← c .before .changed-end2 .ensures, ← c .before .before .changed-end .ensures) (c .with-visits .ensures))
+returns-2 c =
+    (rw (c .before .changed-end2 .ensures, c .before .before .changed-end .ensures, c .before .before .before .bit-visit .ensures, c .before .before .before .before .writing-visit .ensures, c .before .before .before .before .before .before .with-read-disabled .ensures) at (c .with-visits .ensures))
+    ∙ peer-open _ _ _ _ (c .before .before .before .before .before .if1 .left)
 
 pub peer-disposed-spec : {M : Type 1} → statement M
 peer-disposed-spec =

@@ -1,5 +1,7 @@
-use Rattle.control.specs.disposition.DispositionEnds.{peerMoved}
+use mathlib.Core.Path.{_∙_}
 use borrow.Author.Needs.{needs}
+use Rattle.definition.specs.Status.{pick}
+use Rattle.control.proofs.ends.Parts.{none-kept}
 use Rattle.control.proofs.disposition.peer_moved.Statement.{statement}
 use Rattle.control.proofs.disposition.peer_moved.Tie as tie
 
@@ -22,15 +24,14 @@ peer-disposed-requires-2 : tie.Need-peer-disposed-requires-2
 peer-disposed-requires-2 c κs = tt
 
 returns : tie.Need-returns
-unfolding peerMoved
-returns c = rw (c .before .enum-told .given .1) (c .kept-ends .ensures)
+returns c = rw (c .before .enum-told .given .1) (c .kept-ends .ensures ∙ none-kept _ _ _ .1)
 
 returns-2 : tie.Need-returns-2
-unfolding peerMoved
+unfolding pick
 returns-2 c = rw (c .before .enum-told2 .given .1) (c .peer-disposed .ensures)
 
 returns-3 : tie.Need-returns-3
-unfolding peerMoved
+unfolding pick
 returns-3 c = rw (c .before .enum-told3 .given .1) (c .peer-disposed2 .ensures)
 
 pub peer-moved-spec : {M : Type 1} → statement M

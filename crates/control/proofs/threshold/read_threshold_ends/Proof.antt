@@ -1,7 +1,9 @@
-use mathlib.Core.Path.{sym, _∙_}
+use mathlib.Core.Path.{refl, _∙_}
 use Rattle.endpoint.proofs.answer.Rules.{via-not, via-not-not}
-use Rattle.control.proofs.ends.Outcomes.{refused, done}
-use Rattle.control.specs.threshold.ThresholdEnds.{readThresholdEnds}
+use Rattle.control.proofs.ends.Outcomes.{refused, done-two}
+use Rattle.definition.specs.Effect.{keepingWaits}
+use Rattle.definition.specs.Threshold.{readThresholdEffect}
+use Rattle.endpoint.specs.ends.AtOnce.{visitsOf, firstTwo, moreBy}
 use Rattle.control.proofs.threshold.read_threshold_ends.Statement.{statement}
 use Rattle.control.proofs.threshold.read_threshold_ends.Tie as tie
 
@@ -15,8 +17,7 @@ unchanged-requires : tie.Need-unchanged-requires
 unchanged-requires c κs = tt
 
 returns : tie.Need-returns
-unfolding readThresholdEnds
-returns c = c .unchanged .ensures ∙ sym (refused _ _ _ _ _ (c .before .before .before .read-threshold-answer .ensures) (via-not (c .before .before .is-done .ensures) (c .before .if1 .taken)))
+returns c = c .unchanged .ensures ∙ refused _ _ _ _ _ (c .before .before .before .read-threshold-answer .ensures) (via-not (c .before .before .is-done .ensures) (c .before .if1 .taken))
 
 own-requires : tie.Need-own-requires
 own-requires c κs = tt
@@ -31,8 +32,8 @@ put-both-requires : tie.Need-put-both-requires
 put-both-requires c κs = tt
 
 returns-2 : tie.Need-returns-2
-unfolding readThresholdEnds
-returns-2 c = rw (c .before .read-threshold-moved .ensures, c .before .before .before .own .ensures, c .before .before .peer .ensures) at (c .put-both .ensures) ∙ sym (done _ _ _ _ _ (c .before .before .before .before .before .before .read-threshold-answer .ensures) (via-not-not (c .before .before .before .before .before .is-done .ensures) (c .before .before .before .before .if1 .left)))
+unfolding readThresholdEffect keepingWaits moreBy visitsOf firstTwo
+returns-2 c = rw (c .before .read-threshold-moved .ensures, c .before .before .before .own .ensures, c .before .before .peer .ensures) at (c .put-both .ensures) ∙ done-two _ _ _ _ _ (c .before .before .before .before .before .before .read-threshold-answer .ensures) refl refl (via-not-not (c .before .before .before .before .before .is-done .ensures) (c .before .before .before .before .if1 .left))
 
 pub read-threshold-ends-spec : {M : Type 1} → statement M
 read-threshold-ends-spec =

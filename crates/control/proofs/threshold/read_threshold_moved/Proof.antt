@@ -1,4 +1,4 @@
-use Rattle.control.specs.threshold.ThresholdEnds.{readThresholdMoved}
+use Rattle.definition.specs.Threshold.{readThresholdEffect}
 use Rattle.control.proofs.threshold.read_threshold_moved.Statement.{statement}
 use Rattle.control.proofs.threshold.read_threshold_moved.Tie as tie
 
@@ -9,7 +9,7 @@ thresholds-moved-requires : tie.Need-thresholds-moved-requires
 thresholds-moved-requires c κs = tt
 
 returns : tie.Need-returns
-unfolding readThresholdMoved
+unfolding readThresholdEffect
 returns c = rw (c .before .is-reached .ensures) at (c .thresholds-moved .ensures)
 
 pub read-threshold-moved-spec : {M : Type 1} → statement M

@@ -1,3 +1,7 @@
+use Rattle.definition.specs.Pair.{withThresholds, withSignals}
+use Rattle.definition.specs.Effect.{ownBit, keepingWaits}
+use Rattle.endpoint.specs.ends.AtOnce.{ownChanged, peerChanged, visitOf, ownAfter, peerAfter, visitsOf, firstTwo, movedBy}
+use Rattle.control.specs.ByEffect.{visitAt, changedEnd}
 use Rattle.control.proofs.threshold.thresholds_moved.Statement.{statement}
 use Rattle.control.proofs.threshold.thresholds_moved.Tie as tie
 
@@ -14,7 +18,9 @@ first-only-requires : tie.Need-first-only-requires
 first-only-requires c κs = tt
 
 returns : tie.Need-returns
-returns c = rw (← c .before .before .before .bit-visit .ensures, ← c .before .before .with-thresholds .ensures, ← c .before .changed-end .ensures) (c .first-only .ensures)
+unfolding movedBy keepingWaits ownBit ownAfter peerAfter ownChanged peerChanged visitsOf visitOf firstTwo visitAt changedEnd withThresholds withSignals
+returns c =
+    rw (c .before .changed-end .ensures, c .before .before .with-thresholds .ensures, c .before .before .before .bit-visit .ensures) at (c .first-only .ensures)
 
 pub thresholds-moved-spec : {M : Type 1} → statement M
 thresholds-moved-spec =

@@ -1,10 +1,12 @@
-use mathlib.Core.Path.{sym, _∙_}
+use mathlib.Core.Path.{refl, _∙_}
 use Rattle.endpoint.proofs.answer.Rules.{via-not, via-not-not}
 use Rattle.definition.specs.Pair.{isOne}
 use Rattle.answers.proofs.tests.Sound.{sound-peer}
 use Rattle.answers.proofs.threshold.Passed.{threshold-sound}
-use Rattle.control.proofs.ends.Outcomes.{refused, done}
-use Rattle.control.specs.threshold.ThresholdEnds.{writeThresholdEnds}
+use Rattle.control.proofs.ends.Outcomes.{refused, done-two}
+use Rattle.definition.specs.Effect.{keepingWaits}
+use Rattle.definition.specs.Threshold.{writeThresholdEffect}
+use Rattle.endpoint.specs.ends.AtOnce.{visitsOf, firstTwo, moreBy}
 use Rattle.control.proofs.threshold.write_threshold_ends.Statement.{statement}
 use Rattle.control.proofs.threshold.write_threshold_ends.Tie as tie
 
@@ -18,8 +20,7 @@ unchanged-requires : tie.Need-unchanged-requires
 unchanged-requires c κs = tt
 
 returns : tie.Need-returns
-unfolding writeThresholdEnds
-returns c = c .unchanged .ensures ∙ sym (refused _ _ _ _ _ (c .before .before .before .write-threshold-answer .ensures) (via-not (c .before .before .is-done .ensures) (c .before .if1 .taken)))
+returns c = c .unchanged .ensures ∙ refused _ _ _ _ _ (c .before .before .before .write-threshold-answer .ensures) (via-not (c .before .before .is-done .ensures) (c .before .if1 .taken))
 
 own-requires : tie.Need-own-requires
 own-requires c κs = tt
@@ -34,8 +35,8 @@ put-both-requires : tie.Need-put-both-requires
 put-both-requires c κs = tt
 
 returns-2 : tie.Need-returns-2
-unfolding writeThresholdEnds
-returns-2 c = rw (c .before .write-threshold-moved .ensures, c .before .before .before .own .ensures, c .before .before .peer .ensures) at (c .put-both .ensures) ∙ sym (done _ _ _ _ _ (c .before .before .before .before .before .before .write-threshold-answer .ensures) (via-not-not (c .before .before .before .before .before .is-done .ensures) (c .before .before .before .before .if1 .left)))
+unfolding writeThresholdEffect keepingWaits moreBy visitsOf firstTwo
+returns-2 c = rw (c .before .write-threshold-moved .ensures, c .before .before .before .own .ensures, c .before .before .peer .ensures) at (c .put-both .ensures) ∙ done-two _ _ _ _ _ (c .before .before .before .before .before .before .write-threshold-answer .ensures) refl refl (via-not-not (c .before .before .before .before .before .is-done .ensures) (c .before .before .before .before .if1 .left))
 
 pub write-threshold-ends-spec : {M : Type 1} → statement M
 write-threshold-ends-spec =

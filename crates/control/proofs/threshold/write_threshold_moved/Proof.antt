@@ -1,4 +1,4 @@
-use Rattle.control.specs.threshold.ThresholdEnds.{writeThresholdMoved}
+use Rattle.definition.specs.Threshold.{writeThresholdEffect}
 use borrow.Author.Needs.{needs}
 use Rattle.control.proofs.threshold.write_threshold_moved.Statement.{statement}
 use Rattle.control.proofs.threshold.write_threshold_moved.Tie as tie
@@ -13,7 +13,7 @@ thresholds-moved-requires : tie.Need-thresholds-moved-requires
 thresholds-moved-requires c κs = tt
 
 returns : tie.Need-returns
-unfolding writeThresholdMoved
+unfolding writeThresholdEffect
 returns c = rw (c .before .is-reached .ensures) at (c .thresholds-moved .ensures)
 
 pub write-threshold-moved-spec : {M : Type 1} → statement M

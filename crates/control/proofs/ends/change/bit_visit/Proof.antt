@@ -1,5 +1,6 @@
 use mathlib.Core.Path.{refl}
-use Rattle.control.specs.ends.Changes.{bitVisit}
+use Rattle.definition.specs.Effect.{ownBit}
+use Rattle.control.specs.ByEffect.{visitAt}
 use Rattle.control.proofs.ends.change.bit_visit.Statement.{statement}
 use Rattle.control.proofs.ends.change.bit_visit.Tie as tie
 
@@ -10,7 +11,7 @@ bit-if-requires-2 : tie.Need-bit-if-requires-2
 bit-if-requires-2 c κs = tt
 
 returns : tie.Need-returns
-unfolding bitVisit
+unfolding visitAt ownBit
 returns c = rw (← c .before .bit-if .ensures, ← c .bit-if2 .ensures) refl
 
 pub bit-visit-spec : {M : Type 1} → statement M

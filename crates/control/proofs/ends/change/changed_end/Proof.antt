@@ -1,4 +1,4 @@
-use Rattle.control.specs.ends.Changes.{changedEnd}
+use Rattle.control.specs.ByEffect.{changedEnd}
 use Rattle.control.proofs.ends.change.changed_end.Statement.{statement}
 use Rattle.control.proofs.ends.change.changed_end.Tie as tie
 

@@ -1,4 +1,3 @@
-use Rattle.control.specs.ends.Changes.{firstOnly}
 use Rattle.control.proofs.ends.change.first_only.Statement.{statement}
 use Rattle.control.proofs.ends.change.first_only.Tie as tie
 
@@ -6,7 +5,6 @@ with-visits-requires : tie.Need-with-visits-requires
 with-visits-requires c κs = tt
 
 returns : tie.Need-returns
-unfolding firstOnly
 returns c = c .with-visits .ensures
 
 pub first-only-spec : {M : Type 1} → statement M

@@ -1,7 +1,8 @@
-use mathlib.Core.Path.{ap, sym, _∙_}
-use Rattle.definition.specs.Status.{isDone}
-use Rattle.endpoint.proofs.answer.Rules.{pick-on, pick-off, via-not, via-not-not}
-use Rattle.control.specs.ends.CloseEnds.{closeEnds}
+use mathlib.Core.Path.{refl, _∙_}
+use Rattle.definition.specs.Close.{closeEffect}
+use Rattle.endpoint.specs.ends.AtOnce.{visitsOf, firstTwo, moreBy}
+use Rattle.endpoint.proofs.answer.Rules.{via-not, via-not-not}
+use Rattle.control.proofs.ends.Outcomes.{refused, done, by-dropped}
 use Rattle.control.proofs.ends.close.close_ends.Statement.{statement}
 use Rattle.control.proofs.ends.close.close_ends.Tie as tie
 
@@ -15,8 +16,9 @@ unchanged-requires : tie.Need-unchanged-requires
 unchanged-requires c κs = tt
 
 returns : tie.Need-returns
-unfolding closeEnds
-returns c = let o = c .before .before .before .opening-test .ensures in pick-off _ _ _ _ _ (ap isDone (sym o) ∙ via-not (c .before .before .is-done .ensures) (c .before .if1 .taken)) (rw o at (c .unchanged .ensures))
+returns c =
+    c .unchanged .ensures
+    ∙ refused _ _ _ _ _ (c .before .before .before .opening-test .ensures) (via-not (c .before .before .is-done .ensures) (c .before .if1 .taken))
 
 own-requires : tie.Need-own-requires
 own-requires c κs = tt
@@ -27,14 +29,14 @@ peer-requires c κs = tt
 close-moved-requires : tie.Need-close-moved-requires
 close-moved-requires c κs = tt
 
-close-outcome-requires : tie.Need-close-outcome-requires
-close-outcome-requires c κs = tt
+put-both-requires : tie.Need-put-both-requires
+put-both-requires c κs = tt
 
 returns-2 : tie.Need-returns-2
-unfolding closeEnds
-returns-2 c = let o = c .before .before .before .before .before .before .opening-test .ensures in
-    pick-on _ _ _ _ _ (ap isDone (sym o) ∙ via-not-not (c .before .before .before .before .before .is-done .ensures) (c .before .before .before .before .if1 .left))
-    (rw (c .before .close-moved .ensures, c .before .before .before .own .ensures, c .before .before .peer .ensures, o) at (c .close-outcome .ensures))
+unfolding closeEffect moreBy visitsOf firstTwo
+returns-2 c =
+    by-dropped _ _ _ _ _ refl (rw (c .before .before .close-moved .ensures, c .before .before .before .before .own .ensures, c .before .before .before .peer .ensures) at (c .before .put-both .ensures))
+    ∙ done _ _ _ _ _ (c .before .before .before .before .before .before .before .opening-test .ensures) (via-not-not (c .before .before .before .before .before .before .is-done .ensures) (c .before .before .before .before .before .if1 .left))
 
 pub close-ends-spec : {M : Type 1} → statement M
 close-ends-spec =
@@ -47,5 +49,5 @@ close-ends-spec =
     own-requires
     peer-requires
     close-moved-requires
-    close-outcome-requires
+    put-both-requires
     returns-2)

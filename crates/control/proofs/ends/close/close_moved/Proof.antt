@@ -1,5 +1,9 @@
-use Rattle.endpoint.proofs.answer.Rules.{pick-on, pick-off}
-use Rattle.control.specs.ends.CloseEnds.{closeMoved}
+use Rattle.definition.specs.Pair.{withSignals}
+use Rattle.definition.specs.Close.{closeEffect}
+use Rattle.endpoint.specs.ends.Outcome.{keptEnds}
+use Rattle.endpoint.specs.ends.AtOnce.{ownChanged, peerChanged, visitOf, ownAfter, peerAfter, visitsOf, firstTwo, movedBy}
+use Rattle.control.specs.ByEffect.{changedEnd}
+use Rattle.control.proofs.ends.Parts.{if-closed, if-open}
 use Rattle.control.proofs.ends.close.close_moved.Statement.{statement}
 use Rattle.control.proofs.ends.close.close_moved.Tie as tie
 
@@ -10,11 +14,8 @@ kept-ends-requires : tie.Need-kept-ends-requires
 kept-ends-requires c κs = tt
 
 returns : tie.Need-returns
-unfolding closeMoved
-returns c = pick-on _ _ _ _ _ (c .before .if1 .taken) (rw (← c .before .before .into-closed .ensures) (c .kept-ends .ensures))
-
-close-visit-requires : tie.Need-close-visit-requires
-close-visit-requires c κs = tt
+unfolding closeEffect movedBy ownAfter peerAfter ownChanged peerChanged visitsOf visitOf firstTwo keptEnds
+returns c = rw (if-closed (c .before .before .before .args .peer) (c .before .if1 .taken)) (rw (c .before .before .into-closed .ensures) at (c .kept-ends .ensures))
 
 changed-end-requires : tie.Need-changed-end-requires
 changed-end-requires c κs = tt
@@ -23,8 +24,9 @@ first-only-requires : tie.Need-first-only-requires
 first-only-requires c κs = tt
 
 returns-2 : tie.Need-returns-2
-unfolding closeMoved
-returns-2 c = pick-off _ _ _ _ _ (c .before .before .before .if1 .left) (rw (← c .before .before .before .before .into-closed .ensures, ← c .before .before .close-visit .ensures, ← c .before .changed-end .ensures) (c .first-only .ensures))
+unfolding closeEffect movedBy ownAfter peerAfter ownChanged peerChanged visitsOf visitOf firstTwo changedEnd withSignals
+returns-2 c =
+    rw (if-open (c .before .before .before .before .args .peer) (c .before .before .if1 .left)) (rw (c .before .changed-end .ensures, c .before .before .before .into-closed .ensures) at (c .first-only .ensures))
 
 pub close-moved-spec : {M : Type 1} → statement M
 close-moved-spec =
@@ -33,7 +35,6 @@ close-moved-spec =
     into-closed-requires
     kept-ends-requires
     returns
-    close-visit-requires
     changed-end-requires
     first-only-requires
     returns-2)

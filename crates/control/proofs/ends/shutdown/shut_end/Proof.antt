@@ -1,4 +1,5 @@
 use Rattle.definition.specs.Status.{pick}
+use Rattle.definition.specs.Shutdown.{shutReading}
 use Rattle.control.proofs.ends.shutdown.shut_end.Statement.{statement}
 use Rattle.control.proofs.ends.shutdown.shut_end.Tie as tie
 
@@ -9,14 +10,14 @@ changed-end-requires : tie.Need-changed-end-requires
 changed-end-requires c κs = tt
 
 returns : tie.Need-returns
-unfolding pick
+unfolding shutReading pick
 returns c = rw (c .before .before .if1 .taken, ← c .before .with-read-disabled .ensures) (c .changed-end .ensures)
 
 changed-end-requires-2 : tie.Need-changed-end-requires-2
 changed-end-requires-2 c κs = tt
 
 returns-2 : tie.Need-returns-2
-unfolding pick
+unfolding shutReading pick
 returns-2 c = rw (c .before .if1 .left) (c .changed-end2 .ensures)
 
 pub shut-end-spec : {M : Type 1} → statement M

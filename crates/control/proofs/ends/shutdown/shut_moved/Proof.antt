@@ -1,5 +1,5 @@
-use Rattle.endpoint.proofs.answer.Rules.{pick-on, pick-off}
-use Rattle.control.specs.ends.ShutdownEnds.{endShut, shutMoved}
+use mathlib.Core.Path.{_∙_}
+use Rattle.control.proofs.ends.Parts.{shut-closed, shut-open}
 use Rattle.control.proofs.ends.shutdown.shut_moved.Statement.{statement}
 use Rattle.control.proofs.ends.shutdown.shut_moved.Tie as tie
 
@@ -13,8 +13,9 @@ first-only-requires : tie.Need-first-only-requires
 first-only-requires c κs = tt
 
 returns : tie.Need-returns
-unfolding endShut shutMoved
-returns c = pick-on _ _ _ _ _ (c .before .if1 .taken) (rw (c .before .before .shut-end .ensures, c .before .before .before .shut-visit .ensures) at (c .first-only .ensures))
+returns c =
+    (rw (c .before .before .shut-end .ensures, c .before .before .before .shut-visit .ensures) at (c .first-only .ensures))
+    ∙ shut-closed _ _ _ _ _ (c .before .if1 .taken)
 
 shut-visit-requires-2 : tie.Need-shut-visit-requires-2
 shut-visit-requires-2 c κs = tt
@@ -26,8 +27,9 @@ with-visits-requires : tie.Need-with-visits-requires
 with-visits-requires c κs = tt
 
 returns-2 : tie.Need-returns-2
-unfolding endShut shutMoved
-returns-2 c = pick-off _ _ _ _ _ (c .before .before .before .if1 .left) (rw (c .before .before .before .before .shut-end .ensures, c .before .shut-end2 .ensures, c .before .before .before .before .before .shut-visit .ensures, c .before .before .shut-visit2 .ensures) at (c .with-visits .ensures))
+returns-2 c =
+    (rw (c .before .before .before .before .shut-end .ensures, c .before .shut-end2 .ensures, c .before .before .before .before .before .shut-visit .ensures, c .before .before .shut-visit2 .ensures) at (c .with-visits .ensures))
+    ∙ shut-open _ _ _ _ _ (c .before .before .before .if1 .left)
 
 pub shut-moved-spec : {M : Type 1} → statement M
 shut-moved-spec =

@@ -1,3 +1,0 @@
-pub mod CloseEnds
-pub mod ShutdownEnds
-pub mod Changes
