@@ -4,7 +4,7 @@ pub mod Inner
 pub mod Needed
 pub mod Effects
 pub mod Settled
-pub mod Disposed
 pub mod Closed
+pub mod Controlled
 pub mod Waits
 pub mod Created

@@ -7,14 +7,14 @@ use lib.ListN.{length}
 use lib.Dec.{eqb}
 use borrow.Author.Tests.{eqb-false}
 use Rattle.definition.specs.declared.Answer.{Answer}
-use Rattle.definition.specs.Status.{pick, _or_, isDone, countOf}
-use Rattle.endpoint.proofs.answer.Chains.{counted, neither, then-both}
+use Rattle.definition.specs.Status.{pick, _or_, countOf}
+use Rattle.endpoint.proofs.answer.Chains.{counted, neither}
 use Rattle.definition.specs.Port.{sound}
-use Rattle.definition.specs.Tests.{firstLength, lentOf, Steps}
+use Rattle.definition.specs.Tests.{firstLength, lentOf}
 use Rattle.definition.specs.declared.Ends.{Ends}
 use Rattle.endpoint.specs.declared.ends.Moved.{Moved}
 use Rattle.endpoint.specs.declared.ends.EndsOutcome.{EndsOutcome}
-use Rattle.endpoint.specs.ends.Outcome.{keptEnds, unchangedEnds}
+use Rattle.endpoint.specs.ends.Outcome.{keptEnds}
 use Rattle.transfer.specs.write.WriteEnds.{fedEnds, wroteEnds, EndsWrote}
 use Rattle.definition.specs.Read.{leaving, consumed, pairRead, Reads, readAnswer}
 use Rattle.transfer.specs.read.ReadEnds.{drainedEnds, readEnds, EndsRead}
@@ -22,16 +22,9 @@ use Rattle.definition.specs.declared.Pair.{Pair}
 use Rattle.definition.specs.declared.Step.{Step}
 use Rattle.definition.specs.Pair.{isOne, own, peer, endsOf}
 use Rattle.definition.specs.Write.{wrote, pairWritten, Writes, writeAnswer}
-use Rattle.definition.specs.Threshold.{readThresholdAnswer, writeThresholdAnswer, readThresholdSet, writeThresholdSet}
-use Rattle.answers.proofs.tests.Sound.{passed, opening-passed}
-use Rattle.control.specs.ends.Changes.{movedIf}
-use Rattle.control.specs.ends.ShutdownEnds.{shutEnds}
-use Rattle.control.specs.threshold.ThresholdEnds.{readThresholdEnds, writeThresholdEnds}
-use Rattle.control.proofs.ends.Outcomes.{refused, done}
-use Rattle.definition.specs.Shutdown.{shutdownAnswer, shut}
-use Rattle.socket.proofs.Effects.{fed-visited, drained-visited, shut-visited, read-threshold-visited, write-threshold-visited}
-use Rattle.socket.specs.Deferred.{settledStep, withEnds}
-use Rattle.socket.proofs.Steps.{steps-refused, steps-done}
+use Rattle.answers.proofs.tests.Sound.{passed}
+use Rattle.socket.proofs.Effects.{fed-visited, drained-visited}
+use Rattle.socket.specs.Deferred.{settledStep}
 use Rattle.socket.proofs.Visiting.{movedPair, kept-visited, settled-moved}
 
 moved-wrote : (b t : Bool) (m : ℕ) (p : Pair) → (b ≡ false → sound (p .places) ≡ true)
@@ -86,43 +79,3 @@ read-whole p h peek ring table buffer buffer′ e r l f v =
     let first = firstLength (p .datagram) (own (isOne h) (endsOf p) .queue) table in
     subst (λ (k : Step). Reads p h peek ring table buffer buffer′ k) (sym (read-settled p h (r .answer) r l s peek first (w .next)))
     (record { answer = w .answer; pair = refl; bytes = w .bytes })
-
--- ---- a call that changes both ends or none
-
-pub unchanged-settled : (p : Pair) (a : Answer) → settledStep (unchangedEnds (endsOf p) a) p ≡ record { pair = p; answer = a }
-unfolding settledStep unchangedEnds withEnds pick
-unchanged-settled p a = refl
-
-pub moved-whole : (p : Pair) (h : ℕ) (a : Answer) (m : Moved) (q : Pair) (r : EndsOutcome) → length (p .places .table) ≡ 128
-    → r ≡ movedIf (endsOf p) h a m → (isDone a ≡ true → movedPair (isOne h) m p ≡ q) → Steps p a q (settledStep r p)
-moved-whole p h a m q r l g w = by (isDone a) refl
-  where
-    by : (b : Bool) → isDone a ≡ b → Steps p a q (settledStep r p)
-    by true d =
-        subst (Steps p a q) (sym (ap (λ (k : EndsOutcome). settledStep k p) (g ∙ done (endsOf p) h a a m refl d) ∙ settled-moved p (isOne h) a m l))
-        (steps-done p q (movedPair (isOne h) m p) a a refl d (w d))
-    by false d =
-        subst (Steps p a q) (sym (ap (λ (k : EndsOutcome). settledStep k p) (g ∙ refused (endsOf p) h a a m refl d) ∙ unchanged-settled p a))
-        (steps-refused p p q a a refl d refl)
-
-module _ (p : Pair) (h : ℕ) where
-  pub shutdown-whole : (read write : Bool) (e : Ends) (r : EndsOutcome) → length (p .places .table) ≡ 128 → e ≡ endsOf p → r ≡ shutEnds e h read write
-      → Steps p (shutdownAnswer p h) (shut (isOne h) read write p) (settledStep r p)
-  unfolding shutEnds shutdownAnswer
-  shutdown-whole read write e r l f g =
-      moved-whole p h _ _ _ r l (g ∙ ap (λ (k : Ends). shutEnds k h read write) f)
-      (λ d. shut-visited (isOne h) p (opening-passed (endsOf p) h d .places) read write)
-
-  pub read-threshold-whole : (n : ℕ) (e : Ends) (r : EndsOutcome) → length (p .places .table) ≡ 128 → e ≡ endsOf p → r ≡ readThresholdEnds e h n
-      → Steps p (readThresholdAnswer (endsOf p) h n) (readThresholdSet (isOne h) n p) (settledStep r p)
-  unfolding readThresholdEnds readThresholdAnswer
-  read-threshold-whole n e r l f g =
-      moved-whole p h _ _ _ r l (g ∙ ap (λ (k : Ends). readThresholdEnds k h n) f)
-      (λ d. read-threshold-visited (isOne h) p (opening-passed (endsOf p) h (then-both _ _ d .0) .places) n)
-
-  pub write-threshold-whole : (n : ℕ) (e : Ends) (r : EndsOutcome) → length (p .places .table) ≡ 128 → e ≡ endsOf p → r ≡ writeThresholdEnds e h n
-      → Steps p (writeThresholdAnswer (endsOf p) h n) (writeThresholdSet (isOne h) n p) (settledStep r p)
-  unfolding writeThresholdEnds writeThresholdAnswer
-  write-threshold-whole n e r l f g =
-      moved-whole p h _ _ _ r l (g ∙ ap (λ (k : Ends). writeThresholdEnds k h n) f)
-      (λ d. write-threshold-visited (isOne h) p (opening-passed (endsOf p) h (then-both _ _ d .0) .places) n)

@@ -105,14 +105,20 @@ unfolding pick
 keeps true u u′ e = absurd (false≢true (sym e))
 keeps false u u′ e = refl
 
--- a call that drops no wait and has at most four changes
+-- a call that has at most four changes; u is the table without the waits that it drops
+pub applied-from : (t : Bool) (e : Effect) (p : Pair) (u : Places) → pick (e .drops) (droppedOf t (p .places)) (p .places) ≡ u → sound u ≡ true → length (e .changes) ≤ 4
+    → visitedPair (moreBy t e) (movedPair t (movedBy t e) (withPlaces u p)) ≡ applied t e p
+unfolding visitedPair movedBy moreBy placed withEnds withPlaces
+applied-from t e p u f s l =
+    let vs = visitsOf t (e .changes) (e .own) (e .peer) in
+    ap (λ (k : Places). placed t (ownAfter (e .changes) (e .own)) (peerAfter (e .changes) (e .peer)) k p) (by-twos vs u (rw (many t (e .changes) (e .own) (e .peer)) l))
+    ∙ sym (at-once t e p u f s)
+
+-- the same of one that drops no wait
 pub applied-last : (t : Bool) (e : Effect) (p : Pair) → e .drops ≡ false → length (e .changes) ≤ 4 → sound (p .places) ≡ true
     → visitedPair (moreBy t e) (movedPair t (movedBy t e) p) ≡ applied t e p
-unfolding visitedPair movedBy moreBy placed withEnds withPlaces
-applied-last t e p d l s =
-    let vs = visitsOf t (e .changes) (e .own) (e .peer) in
-    ap (λ (k : Places). placed t (ownAfter (e .changes) (e .own)) (peerAfter (e .changes) (e .peer)) k p) (by-twos vs (p .places) (rw (many t (e .changes) (e .own) (e .peer)) l))
-    ∙ sym (at-once t e p (p .places) (keeps (e .drops) (p .places) _ d) s)
+unfolding withPlaces
+applied-last t e p d l s = applied-from t e p (p .places) (keeps (e .drops) (p .places) _ d) s l
 
 -- a call that changes no more than two words
 pub no-visits : (p : Pair) → visitedPair noVisits p ≡ p

@@ -8,7 +8,7 @@ use Rattle.definition.specs.Tests.{Steps}
 use Rattle.definition.specs.Close.{closeAnswer, closed}
 use Rattle.socket.specs.Deferred.{settledStep, withoutWaits, settledClose}
 use Rattle.socket.proofs.Inner.{inner-128}
-use Rattle.socket.proofs.Closed.{close-whole}
+use Rattle.socket.proofs.Controlled.{close-whole}
 use Rattle.socket.proofs.SocketPair.close.Statement.{statement}
 use Rattle.socket.proofs.SocketPair.close.Tie as tie
 

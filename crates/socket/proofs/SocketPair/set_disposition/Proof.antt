@@ -1,5 +1,5 @@
 use Rattle.socket.proofs.Inner.{inner-128}
-use Rattle.socket.proofs.Disposed.{dispose-whole}
+use Rattle.socket.proofs.Controlled.{dispose-whole}
 use borrow.Author.Needs.{needs}
 use Rattle.socket.proofs.SocketPair.set_disposition.Statement.{statement}
 use Rattle.socket.proofs.SocketPair.set_disposition.Tie as tie
@@ -20,7 +20,7 @@ returns : tie.Need-returns
 returns c =
     let s = c .before .before .before .before .before in
     rw (c .stepped .ensures, c .before .settle .ensures)
-    (dispose-whole (s .args .self .inner) (s .args .handle) (s .args .disposition) (s .args .peer-disposition) _ _ (inner-128 (s .args .self) _ (s .good .0)) (c .before .before .before .ends-of .ensures) (c .before .before .dispose-ends .ensures))
+    (dispose-whole (s .args .self .inner) (s .args .handle) _ _ (inner-128 (s .args .self) _ (s .good .0)) (c .before .before .before .ends-of .ensures) (s .args .disposition) (s .args .peer-disposition) (c .before .before .dispose-ends .ensures))
 
 pub set-disposition-spec : {M : Type 1} → statement M
 set-disposition-spec = tie.close (tie.spec ends-of-requires dispose-ends-requires settle-requires stepped-requires returns)

@@ -1,5 +1,5 @@
 use Rattle.socket.proofs.Inner.{inner-128}
-use Rattle.socket.proofs.Settled.{write-threshold-whole}
+use Rattle.socket.proofs.Controlled.{write-threshold-whole}
 use Rattle.socket.proofs.SocketPair.set_write_threshold.Statement.{statement}
 use Rattle.socket.proofs.SocketPair.set_write_threshold.Tie as tie
 
@@ -19,7 +19,7 @@ returns : tie.Need-returns
 returns c =
     let s = c .before .before .before .before .before in
     rw (c .stepped .ensures, c .before .settle .ensures)
-    (write-threshold-whole (s .args .self .inner) (s .args .handle) (s .args .threshold) _ _ (inner-128 (s .args .self) _ (s .good .0)) (c .before .before .before .ends-of .ensures) (c .before .before .write-threshold-ends .ensures))
+    (write-threshold-whole (s .args .self .inner) (s .args .handle) _ _ (inner-128 (s .args .self) _ (s .good .0)) (c .before .before .before .ends-of .ensures) (s .args .threshold) (c .before .before .write-threshold-ends .ensures))
 
 pub set-write-threshold-spec : {M : Type 1} → statement M
 set-write-threshold-spec = tie.close (tie.spec ends-of-requires write-threshold-ends-requires settle-requires stepped-requires returns)
