@@ -21,7 +21,6 @@ use Rattle.port.proofs.waits.Sound.{sound-drop}
 use Rattle.endpoint.specs.declared.ends.Visits.{Visits}
 use Rattle.endpoint.specs.declared.ends.EndsOutcome.{EndsOutcome}
 use Rattle.endpoint.specs.ends.Outcome.{canFire, outcomeOf}
-use Rattle.endpoint.specs.ends.AtOnce.{movedBy, moreBy}
 use Rattle.control.specs.ByEffect.{outcomeBy}
 use Rattle.socket.specs.Deferred.{visitedPair, visitedAll, withEnds, withOutcome, settledStep, withoutWaits, closedWaits, settledClose}
 use Rattle.socket.proofs.Visiting.{applied-from, cannot-fire, settled-pair}

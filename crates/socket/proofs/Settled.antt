@@ -12,7 +12,6 @@ use Rattle.endpoint.proofs.answer.Chains.{counted, neither}
 use Rattle.definition.specs.Port.{sound}
 use Rattle.definition.specs.Tests.{firstLength, lentOf}
 use Rattle.definition.specs.declared.Ends.{Ends}
-use Rattle.endpoint.specs.declared.ends.Moved.{Moved}
 use Rattle.endpoint.specs.declared.ends.EndsOutcome.{EndsOutcome}
 use Rattle.endpoint.specs.ends.Outcome.{keptEnds}
 use Rattle.transfer.specs.write.WriteEnds.{fedEnds, wroteEnds, EndsWrote}

@@ -1,64 +1,36 @@
--- A disposition and a shutdown by their numbers whose waits are visited later: the whole pair, once they are. Assumes nothing.
+-- A disposition and a shutdown by their numbers are their effects once the waits are visited. Assumes nothing.
 use Prim.Native.Nat.{ℕ}
-use mathlib.Core.Path.{_≡_, refl, sym, ap, subst, _∙_}
-use mathlib.Core.Bool.{Bool, true, false}
+use mathlib.Core.Path.{_≡_}
+use native.Mathlib.Omega.{arith}
 use lib.ListN.{length}
-use Rattle.definition.specs.declared.Answer.{Answer}
-use Rattle.definition.specs.Status.{pick, isDone}
-use Rattle.endpoint.proofs.answer.Rules.{pick-on, pick-off}
 use Rattle.definition.specs.declared.Ends.{Ends}
-use Rattle.endpoint.specs.declared.ends.EndsOutcome.{EndsOutcome}
-use Rattle.endpoint.specs.ends.Outcome.{unchangedEnds}
-use Rattle.answers.proofs.tests.Sound.{opening-passed}
-use Rattle.control.specs.disposition.DispositionEnds.{disposeEnds}
-use Rattle.control.specs.ends.ShutdownEnds.{shutEnds}
 use Rattle.definition.specs.declared.Pair.{Pair}
-use Rattle.definition.specs.Pair.{isOne, endsOf}
+use Rattle.definition.specs.Status.{pick}
+use Rattle.definition.specs.Pair.{isOne, own, peer, endsOf}
 use Rattle.definition.specs.Tests.{Steps}
-use Rattle.definition.specs.Disposition.{disposed, dispositionOf, userDisposeAnswer}
-use Rattle.definition.specs.Shutdown.{shutdownAnswer, shut, shutsRead, shutsWrite, userShutdownAnswer}
+use Rattle.definition.specs.Effect.{keepingWaits}
+use Rattle.definition.specs.Disposition.{disposeEffect, disposed, dispositionOf, userDisposeAnswer}
+use Rattle.definition.specs.Shutdown.{shutEffect, shut, shutsRead, shutsWrite, userShutdownAnswer}
+use Rattle.endpoint.specs.declared.ends.EndsOutcome.{EndsOutcome}
+use Rattle.endpoint.proofs.answer.Chains.{then-both}
+use Rattle.answers.proofs.tests.Sound.{sound-passed}
+use Rattle.control.specs.ByEffect.{movedIf}
 use Rattle.socket.specs.Deferred.{settledStep}
-use Rattle.socket.proofs.Steps.{steps-refused}
-use Rattle.socket.proofs.Settled.{unchanged-settled, shutdown-whole as socket-shutdown}
-use Rattle.socket.proofs.Disposed.{dispose-whole as socket-dispose}
-use Rattle.syscall.specs.Ends.{pairOf, userDisposeEnds, userShutEnds}
-use Rattle.syscall.proofs.Passed.{dispose-passed, shutdown-passed}
-use Rattle.syscall.proofs.Same.{told-dispose, told-shutdown}
+use Rattle.socket.proofs.Controlled.{call-whole}
 
-pub dispose-whole : (p : Pair) (h a b : ℕ) (e : Ends) (r : EndsOutcome) → length (p .places .table) ≡ 128 → e ≡ endsOf p → r ≡ userDisposeEnds e h a b
-    → Steps p (userDisposeAnswer (endsOf p) h a b) (disposed (isOne h) (dispositionOf a) (dispositionOf b) p) (settledStep r p)
-unfolding userDisposeEnds
-dispose-whole p h a b e r l f g = by (isDone (userDisposeAnswer (endsOf (pairOf e)) h a b)) refl
-  where
-    told : userDisposeAnswer (endsOf (pairOf e)) h a b ≡ userDisposeAnswer (endsOf p) h a b
-    told = told-dispose p h a b e _ f refl
+module _ (p : Pair) (h : ℕ) (e : Ends) (r : EndsOutcome) (l : length (p .places .table) ≡ 128) (i : e ≡ endsOf p) where
+  pub dispose-whole : (a b : ℕ)
+      → r ≡ movedIf e h (userDisposeAnswer e h a b) (disposeEffect (own (isOne h) e) (peer (isOne h) e) (dispositionOf a) (dispositionOf b))
+      → Steps p (userDisposeAnswer (endsOf p) h a b) (disposed (isOne h) (dispositionOf a) (dispositionOf b) p) (settledStep r p)
+  unfolding userDisposeAnswer disposed disposeEffect keepingWaits pick
+  dispose-whole a b g =
+      call-whole p h (λ k. userDisposeAnswer k h a b) (λ k. disposeEffect (own (isOne h) k) (peer (isOne h) k) (dispositionOf a) (dispositionOf b)) e r l i (omega arith)
+      (λ d. sound-passed (endsOf p) (then-both _ _ d .0) .places) g
 
-    by : (c : Bool) → isDone (userDisposeAnswer (endsOf (pairOf e)) h a b) ≡ c
-        → Steps p (userDisposeAnswer (endsOf p) h a b) (disposed (isOne h) (dispositionOf a) (dispositionOf b) p) (settledStep r p)
-    by true d =
-        subst (λ (x : Answer). Steps p x (disposed (isOne h) (dispositionOf a) (dispositionOf b) p) (settledStep r p))
-        (dispose-passed p h a b (ap isDone (sym told) ∙ d))
-        (socket-dispose p h (dispositionOf a) (dispositionOf b) e r l f (g ∙ sym (pick-on _ _ _ _ _ d refl)))
-    by false d =
-        subst (Steps p (userDisposeAnswer (endsOf p) h a b) (disposed (isOne h) (dispositionOf a) (dispositionOf b) p))
-        (sym (ap (λ (k : EndsOutcome). settledStep k p) (g ∙ sym (pick-off _ _ _ _ _ d refl) ∙ ap (λ (k : Ends). unchangedEnds k (userDisposeAnswer (endsOf (pairOf e)) h a b)) f) ∙ unchanged-settled p _))
-        (steps-refused p p _ _ _ told d refl)
-
-pub shutdown-whole : (p : Pair) (h options : ℕ) (e : Ends) (r : EndsOutcome) → length (p .places .table) ≡ 128 → e ≡ endsOf p → r ≡ userShutEnds e h options
-    → Steps p (userShutdownAnswer (endsOf p) h) (shut (isOne h) (shutsRead options) (shutsWrite options) p) (settledStep r p)
-unfolding userShutEnds
-shutdown-whole p h options e r l f g = by (isDone (userShutdownAnswer (endsOf (pairOf e)) h)) refl
-  where
-    told : userShutdownAnswer (endsOf (pairOf e)) h ≡ userShutdownAnswer (endsOf p) h
-    told = told-shutdown p h e _ f refl
-
-    by : (c : Bool) → isDone (userShutdownAnswer (endsOf (pairOf e)) h) ≡ c
-        → Steps p (userShutdownAnswer (endsOf p) h) (shut (isOne h) (shutsRead options) (shutsWrite options) p) (settledStep r p)
-    by true d =
-        subst (λ (x : Answer). Steps p x (shut (isOne h) (shutsRead options) (shutsWrite options) p) (settledStep r p))
-        (shutdown-passed p h (ap isDone (sym told) ∙ d))
-        (socket-shutdown p h (shutsRead options) (shutsWrite options) e r l f (g ∙ sym (pick-on _ _ _ _ _ d refl)))
-    by false d =
-        subst (Steps p (userShutdownAnswer (endsOf p) h) (shut (isOne h) (shutsRead options) (shutsWrite options) p))
-        (sym (ap (λ (k : EndsOutcome). settledStep k p) (g ∙ sym (pick-off _ _ _ _ _ d refl) ∙ ap (λ (k : Ends). unchangedEnds k (userShutdownAnswer (endsOf (pairOf e)) h)) f) ∙ unchanged-settled p _))
-        (steps-refused p p _ _ _ told d refl)
+  pub shutdown-whole : (options : ℕ)
+      → r ≡ movedIf e h (userShutdownAnswer e h) (shutEffect (own (isOne h) e) (peer (isOne h) e) (shutsRead options) (shutsWrite options))
+      → Steps p (userShutdownAnswer (endsOf p) h) (shut (isOne h) (shutsRead options) (shutsWrite options) p) (settledStep r p)
+  unfolding userShutdownAnswer shut shutEffect keepingWaits pick
+  shutdown-whole options g =
+      call-whole p h (λ k. userShutdownAnswer k h) (λ k. shutEffect (own (isOne h) k) (peer (isOne h) k) (shutsRead options) (shutsWrite options)) e r l i (omega arith)
+      (λ d. sound-passed (endsOf p) (then-both _ _ d .0) .places) g

@@ -14,6 +14,7 @@ use Rattle.definition.specs.Status.{pick, isDone, countOf, recordCount, refuseI
 use Rattle.endpoint.proofs.answer.Rules.{refuse-off, pass-last, pass-unless}
 use Rattle.endpoint.proofs.answer.Chains.{then-both, then-is, refuse-passed, unless-passed}
 use Rattle.definition.specs.declared.Endpoint.{Endpoint}
+use Rattle.definition.specs.declared.Ends.{Ends}
 use Rattle.definition.specs.Write.{datagramSize, writeSize, writeAnswer, writeRanges, userWriteAnswer as endsUserWriteAnswer, userWriteAnswer}
 use Rattle.definition.specs.Read.{readSize, readAnswer as endsReadAnswer, readAnswer, userReadAnswer as endsUserReadAnswer, userReadAnswer}
 use Rattle.definition.specs.Disposition.{disposeAnswer as endsDisposeAnswer, disposeAnswer, userDisposeAnswer as endsUserDisposeAnswer, dispositionOf, userDisposeAnswer}
@@ -23,7 +24,7 @@ use Rattle.transfer.proofs.write.Moved.{write-fits}
 use Rattle.transfer.proofs.read.Moved.{read-fits}
 use Rattle.definition.specs.declared.Pair.{Pair}
 use Rattle.definition.specs.Pair.{isOne, endsOf, own, peer}
-use Rattle.definition.specs.Shutdown.{shutdownAnswer, userShutdownAnswer as endsUserShutdownAnswer, userShutdownAnswer}
+use Rattle.definition.specs.Shutdown.{userShutdownAnswer as endsUserShutdownAnswer, userShutdownAnswer}
 use Rattle.definition.specs.Memory.{fits, countFits, lookup}
 use Rattle.syscall.specs.Taking.{Taking}
 use Rattle.user_answers.proofs.memory.Landed.{fits-in}
@@ -180,21 +181,20 @@ unless-ok b s d = sym (pass-unless b s (unless-passed b s d))
 refuse-ok : (b : Bool) (s : Status) → isDone (refuseIf b s) ≡ true → refuseIf b s ≡ ok
 refuse-ok b s d = sym (pass-last b s (refuse-passed b s d))
 
-pub dispose-passed : (p : Pair) (h a b : ℕ) → isDone (userDisposeAnswer (endsOf p) h a b) ≡ true
-    → disposeAnswer (endsOf p) h (dispositionOf a) (dispositionOf b) ≡ userDisposeAnswer (endsOf p) h a b
-unfolding endsUserDisposeAnswer endsDisposeAnswer openingTest
-dispose-passed p h a b d =
+pub dispose-passed : (e : Ends) (h a b : ℕ) → isDone (userDisposeAnswer e h a b) ≡ true
+    → disposeAnswer e h (dispositionOf a) (dispositionOf b) ≡ userDisposeAnswer e h a b
+unfolding endsUserDisposeAnswer endsDisposeAnswer openingTest lookup
+dispose-passed e h a b d =
     let s = then-both _ _ d in
     let u = then-both _ _ (s .1) in
     let v = then-both _ _ (u .1) in
     let f = then-both _ _ (v .1) in
-    let o = handle-passed p h 4 (f .0) in
-    then-is _ _ (ap isDone (then-is _ _ (s .0)) ∙ o)
+    then-is _ _ (ap isDone (then-is _ _ (s .0)) ∙ then-both _ _ (f .0) .0)
     ∙ sym (then-is _ _ (s .0) ∙ then-is _ _ (u .0) ∙ then-is _ _ (v .0) ∙ then-is _ _ (f .0))
 
-pub shutdown-passed : (p : Pair) (h : ℕ) → isDone (userShutdownAnswer (endsOf p) h) ≡ true → shutdownAnswer p h ≡ userShutdownAnswer (endsOf p) h
-unfolding endsUserShutdownAnswer shutdownAnswer openingTest lookup endsHandleTest
-shutdown-passed p h d =
+pub shutdown-passed : (e : Ends) (h : ℕ) → isDone (userShutdownAnswer e h) ≡ true → openingTest e h ≡ userShutdownAnswer e h
+unfolding endsUserShutdownAnswer openingTest lookup endsHandleTest
+shutdown-passed e h d =
     let s = then-both _ _ d in
     let f = then-both _ _ (s .1) in
     then-is _ _ (s .0) ∙ unless-ok _ _ (f .0) ∙ sym (then-is _ _ (s .0) ∙ then-is _ _ (f .0) ∙ refuse-ok _ _ (f .1))

@@ -14,11 +14,6 @@ use Rattle.definition.specs.Write.{ringWritten, tableWritten, userWriteAnswer}
 use Rattle.definition.specs.Memory.{countLanded}
 use Rattle.transfer.specs.read.ReadEnds.{readEnds}
 use Rattle.definition.specs.Read.{isPeek, userReadAnswer, bytesLanded}
-use Rattle.endpoint.specs.ends.Outcome.{unchangedEnds}
-use Rattle.control.specs.disposition.DispositionEnds.{disposeEnds}
-use Rattle.definition.specs.Disposition.{dispositionOf, userDisposeAnswer}
-use Rattle.control.specs.ends.ShutdownEnds.{shutEnds}
-use Rattle.definition.specs.Shutdown.{shutsRead, shutsWrite, userShutdownAnswer}
 
 -- a pair of these ends
 abbrev pub pairOf : Ends → Pair
@@ -55,15 +50,3 @@ pub record EndsUserRead (e : Ends) (h base options address n countAt : ℕ) (rin
   pub user :
       memory′
       ≡ pick (isDone (r .answer)) (countLanded base countAt (countOf (r .answer)) (bytesLanded (pairOf e) h base address (countOf (r .answer)) ring memory)) memory
-
--- the outcome of a disposition by the answer: a refused call changes nothing
-unfoldable pub userDisposeEnds : Ends → (h disposition peerDisposition : ℕ) → EndsOutcome
-userDisposeEnds e h a b =
-    let x = userDisposeAnswer (endsOf (pairOf e)) h a b in
-    pick (isDone x) (disposeEnds e h (dispositionOf a) (dispositionOf b)) (unchangedEnds e x)
-
--- the outcome of a shutdown
-unfoldable pub userShutEnds : Ends → (h options : ℕ) → EndsOutcome
-userShutEnds e h options =
-    let x = userShutdownAnswer (endsOf (pairOf e)) h in
-    pick (isDone x) (shutEnds e h (shutsRead options) (shutsWrite options)) (unchangedEnds e x)

@@ -11,10 +11,13 @@ ghost use Prim.Native.Nat.{_-_};
 ghost use lib.ListN.{length, drop};
 ghost use Rattle.definition.specs.Status.{countOf};
 ghost use Rattle.transfer.specs.write.WriteEnds.{wroteEnds};
-ghost use Rattle.definition.specs.Pair.{isOne, peer, endsOf};
+ghost use Rattle.definition.specs.Pair.{isOne, own, peer, endsOf};
 ghost use Rattle.definition.specs.Tests.{lentOf};
 ghost use Rattle.definition.specs.Write.{ringWritten, tableWritten};
-ghost use Rattle.syscall.specs.Ends.{pairOf, EndsUserWrote, EndsBytesRead, EndsUserRead, userDisposeEnds, userShutEnds};
+ghost use Rattle.definition.specs.Disposition.{dispositionOf, disposeEffect, userDisposeAnswer};
+ghost use Rattle.definition.specs.Shutdown.{shutEffect, shutsRead, shutsWrite, userShutdownAnswer};
+ghost use Rattle.control.specs.ByEffect.{movedIf};
+ghost use Rattle.syscall.specs.Ends.{pairOf, EndsUserWrote, EndsBytesRead, EndsUserRead};
 ghost use Rattle.syscall.specs.Taking.{Taking};
 
 // The bits of a shutdown's options; others are ignored.
@@ -151,7 +154,7 @@ pub fn read_ends(
 
 // Disables or enables the writing of an end and of its peer, by numbers, but leaves the visit of the waits for later.
 pub fn dispose_ends(e: Ends, handle: u32, disposition: u32, peer_disposition: u32) -> EndsOutcome
-    ensures { λ r. ⌜ r ≡ userDisposeEnds e handle disposition «peer_disposition» ⌝ }
+    ensures { λ r. ⌜ r ≡ movedIf e handle (userDisposeAnswer e handle disposition «peer_disposition») (disposeEffect (own (isOne handle) e) (peer (isOne handle) e) (dispositionOf disposition) (dispositionOf «peer_disposition»)) ⌝ }
 {
     let a = user_answers::lookup::dispose_answer(e, handle, disposition, peer_disposition);
     if !endpoint::answer::is_done(a) {
@@ -168,7 +171,7 @@ pub fn dispose_ends(e: Ends, handle: u32, disposition: u32, peer_disposition: u3
 // Prevents reading or writing by the end of a handle, by bits, with the negated flags for an open peer, but leaves the visit of the waits for
 // later.
 pub fn shutdown_ends(e: Ends, handle: u32, options: u32) -> EndsOutcome
-    ensures { λ r. ⌜ r ≡ userShutEnds e handle options ⌝ }
+    ensures { λ r. ⌜ r ≡ movedIf e handle (userShutdownAnswer e handle) (shutEffect (own (isOne handle) e) (peer (isOne handle) e) (shutsRead options) (shutsWrite options)) ⌝ }
 {
     let a = user_answers::lookup::shutdown_answer(e, handle);
     if !endpoint::answer::is_done(a) {

@@ -16,7 +16,7 @@ returns : tie.Need-returns
 returns c =
     let s = c .before .before .before in
     rw (c .settle .ensures)
-    (dispose-whole (s .args .p) (s .args .handle) (s .args .disposition) (s .args .peer-disposition) _ _ (places-128 (s .args .p) _ (s .good .0)) (c .before .before .ends-of .ensures) (c .before .dispose-ends .ensures))
+    (dispose-whole (s .args .p) (s .args .handle) _ _ (places-128 (s .args .p) _ (s .good .0)) (c .before .before .ends-of .ensures) (s .args .disposition) (s .args .peer-disposition) (c .before .dispose-ends .ensures))
 
 pub set-disposition-spec : {M : Type 1} → statement M
 set-disposition-spec = tie.close (tie.spec ends-of-requires dispose-ends-requires settle-requires returns)

@@ -16,7 +16,7 @@ returns : tie.Need-returns
 returns c =
     let s = c .before .before .before in
     rw (c .settle .ensures)
-    (shutdown-whole (s .args .p) (s .args .handle) (s .args .options) _ _ (places-128 (s .args .p) _ (s .good .0)) (c .before .before .ends-of .ensures) (c .before .shutdown-ends .ensures))
+    (shutdown-whole (s .args .p) (s .args .handle) _ _ (places-128 (s .args .p) _ (s .good .0)) (c .before .before .ends-of .ensures) (s .args .options) (c .before .shutdown-ends .ensures))
 
 pub shutdown-spec : {M : Type 1} → statement M
 shutdown-spec = tie.close (tie.spec ends-of-requires shutdown-ends-requires settle-requires returns)

@@ -1,7 +1,8 @@
 use mathlib.Core.Path.{ap, sym, _∙_}
 use Rattle.definition.specs.Status.{isDone}
-use Rattle.endpoint.proofs.answer.Rules.{pick-on, pick-off, via-not, via-not-not}
-use Rattle.syscall.specs.Ends.{userDisposeEnds}
+use Rattle.endpoint.proofs.answer.Rules.{via-not, via-not-not}
+use Rattle.control.proofs.ends.Outcomes.{refused}
+use Rattle.syscall.proofs.Passed.{dispose-passed}
 use Rattle.syscall.proofs.deferred.dispose_ends.Statement.{statement}
 use Rattle.syscall.proofs.deferred.dispose_ends.Tie as tie
 
@@ -15,10 +16,9 @@ unchanged-requires : tie.Need-unchanged-requires
 unchanged-requires c κs = tt
 
 returns : tie.Need-returns
-unfolding userDisposeEnds
 returns c =
-    let o = c .before .before .before .dispose-answer .ensures in
-    pick-off _ _ _ _ _ (ap isDone (sym o) ∙ via-not (c .before .before .is-done .ensures) (c .before .if1 .taken)) (rw o at (c .unchanged .ensures))
+    c .unchanged .ensures
+    ∙ refused _ _ _ _ _ (c .before .before .before .dispose-answer .ensures) (via-not (c .before .before .is-done .ensures) (c .before .if1 .taken))
 
 disposition-of-requires : tie.Need-disposition-of-requires
 disposition-of-requires c κs = tt
@@ -30,11 +30,11 @@ dispose-ends-requires : tie.Need-dispose-ends-requires
 dispose-ends-requires c κs = tt
 
 returns-2 : tie.Need-returns-2
-unfolding userDisposeEnds
 returns-2 c =
-    let o = c .before .before .before .before .before .dispose-answer .ensures in
-    pick-on _ _ _ _ _ (ap isDone (sym o) ∙ via-not-not (c .before .before .before .before .is-done .ensures) (c .before .before .before .if1 .left))
-    (rw (c .before .before .disposition-of .ensures, c .before .disposition-of2 .ensures) at (c .dispose-ends .ensures))
+    let a = c .before .before .before .before .before .before .args in
+    let d = via-not-not (c .before .before .before .before .is-done .ensures) (c .before .before .before .if1 .left) in
+    let same = dispose-passed (a .e) (a .handle) (a .disposition) (a .peer-disposition) (ap isDone (sym (c .before .before .before .before .before .dispose-answer .ensures)) ∙ d) in
+    rw (c .before .before .disposition-of .ensures, c .before .disposition-of2 .ensures, same) at (c .dispose-ends .ensures)
 
 pub dispose-ends-spec : {M : Type 1} → statement M
 dispose-ends-spec =

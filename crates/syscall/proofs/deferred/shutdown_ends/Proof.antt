@@ -1,7 +1,8 @@
 use mathlib.Core.Path.{ap, sym, _∙_}
 use Rattle.definition.specs.Status.{isDone}
-use Rattle.endpoint.proofs.answer.Rules.{pick-on, pick-off, via-not, via-not-not}
-use Rattle.syscall.specs.Ends.{userShutEnds}
+use Rattle.endpoint.proofs.answer.Rules.{via-not, via-not-not}
+use Rattle.control.proofs.ends.Outcomes.{refused}
+use Rattle.syscall.proofs.Passed.{shutdown-passed}
 use Rattle.syscall.proofs.deferred.shutdown_ends.Statement.{statement}
 use Rattle.syscall.proofs.deferred.shutdown_ends.Tie as tie
 
@@ -15,10 +16,9 @@ unchanged-requires : tie.Need-unchanged-requires
 unchanged-requires c κs = tt
 
 returns : tie.Need-returns
-unfolding userShutEnds
 returns c =
-    let o = c .before .before .before .shutdown-answer .ensures in
-    pick-off _ _ _ _ _ (ap isDone (sym o) ∙ via-not (c .before .before .is-done .ensures) (c .before .if1 .taken)) (rw o at (c .unchanged .ensures))
+    c .unchanged .ensures
+    ∙ refused _ _ _ _ _ (c .before .before .before .shutdown-answer .ensures) (via-not (c .before .before .is-done .ensures) (c .before .if1 .taken))
 
 has-bit-requires : tie.Need-has-bit-requires
 has-bit-requires c κs = tt
@@ -30,11 +30,11 @@ shutdown-ends-requires : tie.Need-shutdown-ends-requires
 shutdown-ends-requires c κs = tt
 
 returns-2 : tie.Need-returns-2
-unfolding userShutEnds
 returns-2 c =
-    let o = c .before .before .before .before .before .shutdown-answer .ensures in
-    pick-on _ _ _ _ _ (ap isDone (sym o) ∙ via-not-not (c .before .before .before .before .is-done .ensures) (c .before .before .before .if1 .left))
-    (rw (c .before .before .has-bit .ensures, c .before .has-bit2 .ensures) at (c .shutdown-ends .ensures))
+    let a = c .before .before .before .before .before .before .args in
+    let d = via-not-not (c .before .before .before .before .is-done .ensures) (c .before .before .before .if1 .left) in
+    let same = shutdown-passed (a .e) (a .handle) (ap isDone (sym (c .before .before .before .before .before .shutdown-answer .ensures)) ∙ d) in
+    rw (c .before .before .has-bit .ensures, c .before .has-bit2 .ensures, same) at (c .shutdown-ends .ensures)
 
 pub shutdown-ends-spec : {M : Type 1} → statement M
 shutdown-ends-spec =
