@@ -44,15 +44,16 @@ use Rattle.definition.proofs.Ends.Laws as E′
 use Rattle.definition.proofs.Answer as N
 use Rattle.definition.proofs.Answer.Laws as N′
 use Rattle.definition.specs.Port.{waitAnswer as waitAnswerOf}
-use Rattle.host.specs.values.Disposition.{plainDisposeEnds}
-use Rattle.control.specs.ends.ShutdownEnds.{shutEnds}
-use Rattle.control.specs.threshold.ThresholdEnds.{readThresholdEnds, writeThresholdEnds}
-use Rattle.control.specs.ends.CloseEnds.{closeEnds}
-use Rattle.definition.specs.Pair.{own, isOne, endsOf}
+use Rattle.definition.specs.Tests.{openingTest}
+use Rattle.definition.specs.Close.{closeEffect}
+use Rattle.definition.specs.Disposition.{disposeEffect, dispositionOf, plainDisposeAnswer, userDisposeAnswer}
+use Rattle.definition.specs.Shutdown.{shutEffect, shutsRead, shutsWrite, userShutdownAnswer}
+use Rattle.definition.specs.Threshold.{readThresholdAnswer, readThresholdEffect, writeThresholdAnswer, writeThresholdEffect}
+use Rattle.control.specs.ByEffect.{movedIf}
+use Rattle.definition.specs.Pair.{own, peer, isOne, endsOf}
 use Rattle.socket.specs.Deferred.{settledStep, settledClose, registeredPair, takenPair}
 use Rattle.transfer.specs.write.WriteChange.{wroteBy}
 use Rattle.transfer.specs.read.ReadChange.{readBy}
-use Rattle.syscall.specs.Ends.{userDisposeEnds, userShutEnds}
 use Rattle.socket.proofs.ends_of as ends
 use Rattle.answers.proofs.control_calls.wait_answer as wait-answer
 use Rattle.control.proofs.ends.shutdown_ends as shutdown-ends
@@ -68,6 +69,28 @@ use Rattle.kept.proofs.transfers.read as read
 use Rattle.kept.proofs.places.create as create
 use Rattle.kept.proofs.places.wait as wait
 use Rattle.kept.proofs.places.take as take
+
+-- what each call leaves of the two ends: its answer, and its effect
+abbrev shutEnds : Ends → ℕ → Bool → Bool → EndsOutcome
+shutEnds e h read write = movedIf e h (openingTest e h) (shutEffect (own (isOne h) e) (peer (isOne h) e) read write)
+
+abbrev readThresholdEnds : Ends → ℕ → ℕ → EndsOutcome
+readThresholdEnds e h n = movedIf e h (readThresholdAnswer e h n) (readThresholdEffect (own (isOne h) e) (peer (isOne h) e) n)
+
+abbrev writeThresholdEnds : Ends → ℕ → ℕ → EndsOutcome
+writeThresholdEnds e h n = movedIf e h (writeThresholdAnswer e h n) (writeThresholdEffect (e .capacity) (own (isOne h) e) (peer (isOne h) e) n)
+
+abbrev closeEnds : Ends → ℕ → EndsOutcome
+closeEnds e h = movedIf e h (openingTest e h) (closeEffect (own (isOne h) e) (peer (isOne h) e))
+
+abbrev plainDisposeEnds : Ends → ℕ → ℕ → ℕ → EndsOutcome
+plainDisposeEnds e h a b = movedIf e h (plainDisposeAnswer e h a b) (disposeEffect (own (isOne h) e) (peer (isOne h) e) (dispositionOf a) (dispositionOf b))
+
+abbrev userDisposeEnds : Ends → ℕ → ℕ → ℕ → EndsOutcome
+userDisposeEnds e h a b = movedIf e h (userDisposeAnswer e h a b) (disposeEffect (own (isOne h) e) (peer (isOne h) e) (dispositionOf a) (dispositionOf b))
+
+abbrev userShutEnds : Ends → ℕ → ℕ → EndsOutcome
+userShutEnds e h options = movedIf e h (userShutdownAnswer e h) (shutEffect (own (isOne h) e) (peer (isOne h) e) (shutsRead options) (shutsWrite options))
 
 module _ {M : Type 1} (𝓤 : URA M) (H : Heap 𝓤) (A : Atoms 𝓤) (at-mem : Memory → SProp 𝓤) (run : Routine → Fun 𝓤) where
   abbrev pub ends-contract : Contract 𝓤

@@ -11,19 +11,20 @@ use socket::SocketPair;
 use user_answers::lookup::disposition_of;
 ghost use mathlib.Core.Path.{_≡_};
 ghost use mathlib.Core.List.{[]};
-ghost use Rattle.definition.specs.Pair.{own};
+ghost use Rattle.definition.specs.Pair.{isOne, own, peer};
 ghost use Rattle.definition.specs.Tests.{openingTest};
 ghost use Rattle.definition.specs.Info.{AsksInfo};
 ghost use Rattle.definition.specs.Threshold.{AsksThresholds};
 ghost use Rattle.definition.specs.Port.{takeAnswer};
 ghost use Rattle.definition.specs.Create.{createAnswer};
+ghost use Rattle.definition.specs.Disposition.{disposeEffect, dispositionOf, plainDisposeAnswer};
 ghost use lib.ListN.{length};
 ghost use Rattle.definition.specs.Status.{_then_};
 ghost use Rattle.definition.specs.declared.Status.the-variants.{InvalidArgs};
 ghost use Rattle.definition.specs.declared.Answer.the-variants.{Refused};
 ghost use Rattle.endpoint.specs.ends.Outcome.{unchangedEnds};
+ghost use Rattle.control.specs.ByEffect.{movedIf};
 ghost use Rattle.definition_runs.specs.Exported.{signalNumber, thresholdNumbers, infoNumbers, packetNumbers, arrayOf, Recorded};
-ghost use Rattle.host.specs.values.Disposition.{plainDisposeEnds};
 
 // A number above 2 is refused; the record and the handle are tested before it.
 fn bad_number(e: Ends, handle: u32) -> EndsOutcome
@@ -38,7 +39,7 @@ fn bad_number(e: Ends, handle: u32) -> EndsOutcome
 
 // Disposition by its numbers, but for the visit of the waits.
 pub fn dispose_ends(e: Ends, handle: u32, disposition: u32, peer_disposition: u32) -> EndsOutcome
-    ensures { λ r. ⌜ r ≡ plainDisposeEnds e handle disposition «peer_disposition» ⌝ }
+    ensures { λ r. ⌜ r ≡ movedIf e handle (plainDisposeAnswer e handle disposition «peer_disposition») (disposeEffect (own (isOne handle) e) (peer (isOne handle) e) (dispositionOf disposition) (dispositionOf «peer_disposition»)) ⌝ }
 {
     if disposition > 2 {
         return bad_number(e, handle);

@@ -52,7 +52,7 @@ use Rattle.definition.specs.Tests.{Steps}
 use Rattle.socket.proofs.Visiting.{places-128}
 use Rattle.kept.proofs.pair.Stored.{closed-as}
 use Rattle.definition.specs.Close.{closeAnswer, closed}
-use Rattle.socket.proofs.Closed.{close-whole}
+use Rattle.socket.proofs.Controlled.{close-whole}
 use Rattle.socket.proofs.ends_of as ends
 use Rattle.socket.proofs.ends_of.Symbol as ends-def
 use Rattle.socket.proofs.ends_of.Symbol.{name as #ends}

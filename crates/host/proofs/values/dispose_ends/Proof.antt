@@ -1,6 +1,7 @@
 use mathlib.Core.Path.{_∙_}
 use borrow.Author.Tests.{lt-ltb, le-ltb}
-use Rattle.host.proofs.values.Disposed.{first-above, second-above, above-ends, within-ends}
+use Rattle.control.proofs.ends.Outcomes.{refused}
+use Rattle.host.proofs.values.Disposed.{never-done, first-above, second-above, within}
 use Rattle.host.proofs.values.dispose_ends.Statement.{statement}
 use Rattle.host.proofs.values.dispose_ends.Tie as tie
 
@@ -10,8 +11,8 @@ bad-number-requires c κs = tt
 returns : tie.Need-returns
 returns c =
     let a = c .before .before .args in
-    above-ends (a .e) (a .handle) (a .disposition) (a .peer-disposition) _ (c .bad-number .ensures)
-    (first-above (a .e) (a .handle) (a .disposition) (a .peer-disposition) (lt-ltb 2 (a .disposition) (c .before .if1 .taken)))
+    c .bad-number .ensures
+    ∙ refused _ _ _ _ _ (first-above (a .e) (a .handle) (a .disposition) (a .peer-disposition) (lt-ltb 2 (a .disposition) (c .before .if1 .taken))) (never-done _ _)
 
 bad-number-requires-2 : tie.Need-bad-number-requires-2
 bad-number-requires-2 c κs = tt
@@ -19,8 +20,8 @@ bad-number-requires-2 c κs = tt
 returns-2 : tie.Need-returns-2
 returns-2 c =
     let a = c .before .before .before .args in
-    above-ends (a .e) (a .handle) (a .disposition) (a .peer-disposition) _ (c .bad-number2 .ensures)
-    (second-above (a .e) (a .handle) (a .disposition) (a .peer-disposition) (le-ltb 2 (a .disposition) (c .before .before .if1 .left)) (lt-ltb 2 (a .peer-disposition) (c .before .if2 .taken)))
+    c .bad-number2 .ensures
+    ∙ refused _ _ _ _ _ (second-above (a .e) (a .handle) (a .disposition) (a .peer-disposition) (le-ltb 2 (a .disposition) (c .before .before .if1 .left)) (lt-ltb 2 (a .peer-disposition) (c .before .if2 .taken))) (never-done _ _)
 
 disposition-of-requires : tie.Need-disposition-of-requires
 disposition-of-requires c κs = tt
@@ -34,8 +35,8 @@ dispose-ends-requires c κs = tt
 returns-3 : tie.Need-returns-3
 returns-3 c =
     let a = c .before .before .before .before .before .args in
-    (rw (c .before .before .disposition-of .ensures, c .before .disposition-of2 .ensures) at (c .dispose-ends .ensures))
-    ∙ within-ends (a .e) (a .handle) (a .disposition) (a .peer-disposition) (le-ltb 2 (a .disposition) (c .before .before .before .before .if1 .left)) (le-ltb 2 (a .peer-disposition) (c .before .before .before .if2 .left))
+    let same = within (a .e) (a .handle) (a .disposition) (a .peer-disposition) (le-ltb 2 (a .disposition) (c .before .before .before .before .if1 .left)) (le-ltb 2 (a .peer-disposition) (c .before .before .before .if2 .left)) in
+    rw (c .before .before .disposition-of .ensures, c .before .disposition-of2 .ensures, same) at (c .dispose-ends .ensures)
 
 pub dispose-ends-spec : {M : Type 1} → statement M
 dispose-ends-spec =
