@@ -70,6 +70,10 @@ orderScripts =
     (yes 0 0x2 0x2 ∷ yes 0 0x802 0x2 ∷ limits 3 5 0x802 0x2 ∷ yes 0 0x2 0x2 ∷ no 10 0x2 0x2 ∷ no 11 0x2 0x2 ∷ [])
     ∷ scriptOf streamKind 7 (c (setWriteThreshold 1 6) ∷ c (setReadThreshold 2 3) ∷ w 1 4096 2 ∷ w 1 4096 1 ∷ r 2 1 ∷ [])
     (yes 0 0x802 0x2 ∷ yes 0 0x802 0x2 ∷ yes 2 0x802 0x3 ∷ yes 1 0x2 0x403 ∷ got 1 0x802 0x3 (97 ∷ []) ∷ [])
+    -- a threshold that is set with bytes queued: a write threshold is held against the space at the peer, a read threshold against the bytes here
+    ∷ scriptOf streamKind 7
+    (w 1 4096 3 ∷ c (setWriteThreshold 1 6) ∷ c (setWriteThreshold 1 5) ∷ c (setWriteThreshold 2 8) ∷ c (setReadThreshold 1 3) ∷ c (setReadThreshold 2 3) ∷ [])
+    (yes 3 0x2 0x3 ∷ yes 0 0x2 0x3 ∷ yes 0 0x802 0x3 ∷ yes 0 0x802 0x803 ∷ yes 0 0x802 0x803 ∷ yes 0 0x802 0xc03 ∷ [])
     -- info: the first datagram on datagram pairs, all on a stream; nothing of a closed peer
     ∷ scriptOf datagramKind 7 (w 1 4096 3 ∷ w 1 4096 2 ∷ c (getInfo 2) ∷ c (getInfo 1) ∷ []) (yes 3 0x2 0x3 ∷ yes 2 0x2 0x3 ∷ info 1 8 5 3 8 0 0x2 0x3 ∷ info 1 8 0 0 8 5 0x2 0x3 ∷ [])
     ∷ scriptOf streamKind 7 (w 1 4096 5 ∷ c (getInfo 2) ∷ []) (yes 5 0x2 0x3 ∷ info 0 8 5 5 8 0 0x2 0x3 ∷ [])
