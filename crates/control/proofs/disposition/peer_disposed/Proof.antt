@@ -1,4 +1,6 @@
-use mathlib.Core.Path.{_∙_}
+use mathlib.Core.Path.{ap, _∙_}
+use Rattle.definition.specs.declared.Endpoint.{Endpoint}
+use Rattle.endpoint.specs.ends.Outcome.{keptEnds}
 use Rattle.control.proofs.ends.Parts.{peer-closed, peer-open}
 use Rattle.control.proofs.disposition.peer_disposed.Statement.{statement}
 use Rattle.control.proofs.disposition.peer_disposed.Tie as tie
@@ -11,7 +13,8 @@ kept-ends-requires c κs = tt
 
 returns : tie.Need-returns
 returns c =
-    (rw (c .before .before .with-read-disabled .ensures) at (c .kept-ends .ensures))
+    c .kept-ends .ensures
+    ∙ ap (λ (e : Endpoint). keptEnds e (c .before .before .before .args .peer)) (c .before .before .with-read-disabled .ensures)
     ∙ peer-closed _ _ _ _ (c .before .if1 .taken)
 
 writing-visit-requires : tie.Need-writing-visit-requires
