@@ -30,7 +30,7 @@ changedEnd v e = withSignals (changedWord (v .clear) (v .set) (v .word)) e
 
 -- ---- the outcome of a call
 
--- the two ends after the last two of four changes, and the visits of those two
+-- the two ends after a call with this effect, and its third and fourth visits: those of a disposition's peer target
 unfoldable pub movedLast : Bool → Effect → Moved
 movedLast t e = record { own = movedBy t e .own; peer = movedBy t e .peer; visits = moreBy t e }
 
