@@ -12,10 +12,8 @@ use Rattle.definition.specs.declared.Ends.{Ends}
 use Rattle.definition.specs.declared.Pair.{Pair}
 use Rattle.definition.specs.declared.Disposition.{Disposition}
 use Rattle.definition.specs.declared.Disposition.the-variants.{Unchanged, Disable, Enable}
-use Rattle.definition.specs.Pair.{withQueue, withSignals, withReadDisabled, withThresholds, own, peer, endsOf}
+use Rattle.definition.specs.Pair.{withSignals, withReadDisabled, withThresholds, own, peer, endsOf}
 use Rattle.definition.specs.Effect.{ifOpen, ownBit, keepingWaits}
-use Rattle.definition.specs.Write.{writeEffect, wrote}
-use Rattle.definition.specs.Read.{readEffect, consumed}
 use Rattle.definition.specs.Threshold.{readThresholdEffect, writeThresholdEffect, readThresholdSet, writeThresholdSet}
 use Rattle.definition.specs.Disposition.{writing, peerWriting, reading, disposeEffect}
 use Rattle.definition.specs.Shutdown.{shutting, shutReading, shutEffect, shut}
@@ -24,8 +22,6 @@ use Rattle.endpoint.specs.declared.ends.Visits.{Visits}
 use Rattle.endpoint.specs.declared.ends.Moved.{Moved}
 use Rattle.endpoint.specs.ends.Outcome.{outcomeOf, keptEnds}
 use Rattle.endpoint.specs.ends.AtOnce.{ownChanged, peerChanged, visitOf, ownAfter, peerAfter, visitsOf, firstTwo, movedBy, moreBy}
-use Rattle.transfer.specs.write.WriteEnds.{fedEnds}
-use Rattle.transfer.specs.read.ReadEnds.{drainedEnds}
 use Rattle.control.specs.ends.Changes.{bitVisit, changedEnd, firstOnly}
 use Rattle.control.specs.disposition.DispositionEnds.{writingVisit, ownDisposed, peerDisposed, ownMoved, peerMoved, disposedEnds}
 use Rattle.control.specs.ends.ShutdownEnds.{shutVisit, shutMoved, endShut}
@@ -34,18 +30,6 @@ use Rattle.control.specs.threshold.ThresholdEnds.{readThresholdMoved, writeThre
 use Rattle.socket.proofs.Visiting.{movedPair, applied-two}
 
 -- ---- the ends
-
-fed-by : (datagram : Bool) (C : ℕ) (t : Bool) (a b : Endpoint) (m : ℕ) → fedEnds datagram C t a b m ≡ movedBy t (writeEffect datagram C a b m)
-unfolding fedEnds writeEffect keepingWaits movedBy ownAfter peerAfter ownChanged peerChanged visitsOf visitOf firstTwo withQueue withSignals
-fed-by datagram C t a b m = refl
-
-drained-by : (datagram : Bool) (C : ℕ) (t : Bool) (a b : Endpoint) (n : ℕ) → drainedEnds datagram C t a b n ≡ movedBy t (readEffect datagram C a b n)
-unfolding drainedEnds readEffect keepingWaits ifOpen movedBy ownAfter peerAfter ownChanged peerChanged visitsOf visitOf firstTwo withQueue withSignals pick
-drained-by datagram C t a b n = by (b .closed) refl
-  where
-    by : (c : Bool) → b .closed ≡ c → drainedEnds datagram C t a b n ≡ movedBy t (readEffect datagram C a b n)
-    by true e = rw e refl
-    by false e = rw e refl
 
 read-threshold-by : (t : Bool) (a b : Endpoint) (n : ℕ) → readThresholdMoved t a b n ≡ movedBy t (readThresholdEffect a b n)
 unfolding readThresholdMoved readThresholdEffect ownBit keepingWaits movedBy ownAfter peerAfter ownChanged peerChanged visitsOf visitOf firstTwo bitVisit firstOnly changedEnd withThresholds withSignals
@@ -122,18 +106,6 @@ dispose-by e t a d f =
 -- ---- the pair
 
 module _ (t : Bool) (p : Pair) (s : sound (p .places) ≡ true) where
-  pub fed-visited : (m : ℕ) → movedPair t (fedEnds (p .datagram) (p .capacity) t (own t (endsOf p)) (peer t (endsOf p)) m) p ≡ wrote t m p
-  unfolding wrote writeEffect keepingWaits
-  fed-visited m =
-      ap (λ (d : Moved). movedPair t d p) (fed-by (p .datagram) (p .capacity) t (own t (endsOf p)) (peer t (endsOf p)) m)
-      ∙ applied-two t (writeEffect (p .datagram) (p .capacity) (own t (endsOf p)) (peer t (endsOf p)) m) p refl (omega arith) s
-
-  pub drained-visited : (n : ℕ) → movedPair t (drainedEnds (p .datagram) (p .capacity) t (own t (endsOf p)) (peer t (endsOf p)) n) p ≡ consumed t n p
-  unfolding consumed readEffect keepingWaits
-  drained-visited n =
-      ap (λ (d : Moved). movedPair t d p) (drained-by (p .datagram) (p .capacity) t (own t (endsOf p)) (peer t (endsOf p)) n)
-      ∙ applied-two t (readEffect (p .datagram) (p .capacity) (own t (endsOf p)) (peer t (endsOf p)) n) p refl (omega arith) s
-
   pub read-threshold-visited : (n : ℕ) → movedPair t (readThresholdMoved t (own t (endsOf p)) (peer t (endsOf p)) n) p ≡ readThresholdSet t n p
   unfolding readThresholdSet readThresholdEffect keepingWaits
   read-threshold-visited n =
