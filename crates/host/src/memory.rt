@@ -22,7 +22,7 @@ pub extern "C" fn murgwethan_user_write(
 ) -> i64
     ensures { λ w. ⌜ Answered (UserWrites (now (p .entry)) handle base options address count «count_at» (now (memory .entry)) (now (memory .exit)) (now (ring .entry)) (now (ring .exit)) (now (table .entry)) (now (table .exit))) (now (p .exit)) w ⌝ }
 {
-    let r = syscall::write_ends(
+    let t = transfer::user_memory::write_transfer(
         socket::ends_of(*p),
         handle,
         options,
@@ -34,7 +34,7 @@ pub extern "C" fn murgwethan_user_write(
         ring,
         table,
     );
-    kept::pair::outcome(p, r)
+    kept::transfers::user_wrote(p, handle, t)
 }
 
 // Reads the front of the own queue into user memory, then lands the count over the bytes. Option 8 is a peek.
@@ -53,7 +53,7 @@ pub extern "C" fn murgwethan_user_read(
 ) -> i64
     ensures { λ w. ⌜ Answered (UserReads (now (p .entry)) handle base options address count «count_at» (now (ring .entry)) (now (table .entry)) (now (memory .entry)) (now (memory .exit))) (now (p .exit)) w ⌝ }
 {
-    let r = syscall::read_ends(
+    let t = transfer::user_memory::read_transfer(
         socket::ends_of(*p),
         handle,
         options,
@@ -65,7 +65,7 @@ pub extern "C" fn murgwethan_user_read(
         ring,
         table,
     );
-    kept::pair::outcome(p, r)
+    kept::transfers::user_read(p, handle, t)
 }
 
 // Disables or enables the writing of an end and of its peer, by numbers from 0 to 2.

@@ -43,3 +43,31 @@ pub fn read(p: &mut Pair, handle: u32, t: Transfer) -> i64
     }
     w
 }
+
+// The same for a write and a read over user memory. They stand here a second time because the compiler inlines a function that is called in one place:
+// shared, a plain write and read of 64 bytes took 53 ns and not 42.
+pub fn user_wrote(p: &mut Pair, handle: u32, t: Transfer) -> i64
+    ensures { λ w. ⌜ (w ≡ answerWord (t .answer)) × (now (p .exit) ≡ settledStep (wroteBy (endsOf (now (p .entry))) handle t) (now (p .entry)) .pair) ⌝ }
+{
+    let w = transfer_word(t);
+    if crate::transferred::is_write_without_visit(*p, handle, t) {
+        *p = crate::transferred::with_write(*p, handle, t);
+    } else {
+        let r = crate::transferred::write_outcome(*p, handle, t);
+        crate::pair::outcome(p, r);
+    }
+    w
+}
+
+pub fn user_read(p: &mut Pair, handle: u32, t: Transfer) -> i64
+    ensures { λ w. ⌜ (w ≡ answerWord (t .answer)) × (now (p .exit) ≡ settledStep (readBy (endsOf (now (p .entry))) handle t) (now (p .entry)) .pair) ⌝ }
+{
+    let w = transfer_word(t);
+    if crate::transferred::is_read_without_visit(*p, handle, t) {
+        *p = crate::transferred::with_read(*p, handle, t);
+    } else {
+        let r = crate::transferred::read_outcome(*p, handle, t);
+        crate::pair::outcome(p, r);
+    }
+    w
+}

@@ -2,7 +2,6 @@ pub mod Steps
 pub mod Visiting
 pub mod Inner
 pub mod Needed
-pub mod Effects
 pub mod Settled
 pub mod Closed
 pub mod Controlled

@@ -19,7 +19,9 @@ impl SocketPair {
         ensures { λ r. ⌜ Reads (self .inner) handle peek (now (ring .entry)) (now (table .entry)) (now (buffer .entry)) (now (buffer .exit)) (innerStep r) ⌝ }
     {
         let p = self.inner;
-        let r = transfer::read::read_ends(parts::ends_of(p), handle, peek, ring, table, buffer);
+        let e = parts::ends_of(p);
+        let t = transfer::read::read_transfer(e, handle, peek, ring, table, buffer);
+        let r = transfer::read::read_outcome(e, handle, t);
         parts::stepped(deferred::settle(p, r))
     }
 }

@@ -12,7 +12,9 @@ impl SocketPair {
         ensures { λ r. ⌜ Writes (self .inner) handle (now (bytes .entry)) (now (ring .entry)) (now (ring .exit)) (now (table .entry)) (now (table .exit)) (innerStep r) ⌝ }
     {
         let p = self.inner;
-        let r = transfer::write::write_ends(parts::ends_of(p), handle, ring, table, bytes);
+        let e = parts::ends_of(p);
+        let t = transfer::write::write_transfer(e, handle, ring, table, bytes);
+        let r = transfer::write::write_outcome(e, handle, t);
         parts::stepped(deferred::settle(p, r))
     }
 }

@@ -1,5 +1,4 @@
 pub mod Passed
 pub mod Calls
-pub mod Same
 pub mod Settled
 pub mod Controlled

@@ -11,10 +11,7 @@ ghost use Rattle.definition.specs.Read.{BytesRead, UserReads};
 mod deferred;
 
 pub use deferred::dispose_ends;
-pub use deferred::read_bytes_ends;
-pub use deferred::read_ends;
 pub use deferred::shutdown_ends;
-pub use deferred::write_ends;
 
 // Writes the bytes of user memory to the peer's queue, and lands the count of those taken. The ring and the table are the peer's.
 pub fn write(
@@ -31,8 +28,9 @@ pub fn write(
 ) -> Step
     ensures { λ r. ⌜ UserWrites p handle base options address count «count_at» (now (memory .entry)) (now (memory .exit)) (now (ring .entry)) (now (ring .exit)) (now (table .entry)) (now (table .exit)) r ⌝ }
 {
-    let r = write_ends(
-        ends_of(p),
+    let e = ends_of(p);
+    let t = transfer::user_memory::write_transfer(
+        e,
         handle,
         options,
         base,
@@ -43,7 +41,7 @@ pub fn write(
         ring,
         table,
     );
-    settle(p, r)
+    settle(p, transfer::write::write_outcome(e, handle, t))
 }
 
 // Reads the front of the own queue into user memory, all but the count. The ring and the table are the reader's.
@@ -61,8 +59,9 @@ pub fn read_bytes(
 ) -> Step
     ensures { λ r. ⌜ BytesRead p handle base options address count «count_at» (now (ring .entry)) (now (table .entry)) (now (memory .entry)) (now (memory .exit)) r ⌝ }
 {
-    let r = deferred::read_bytes_ends(
-        ends_of(p),
+    let e = ends_of(p);
+    let t = transfer::user_memory::read_bytes_transfer(
+        e,
         handle,
         options,
         base,
@@ -73,7 +72,7 @@ pub fn read_bytes(
         ring,
         table,
     );
-    settle(p, r)
+    settle(p, transfer::read::read_outcome(e, handle, t))
 }
 
 // Reads the front of the own queue into user memory, then lands the count over the bytes.
@@ -91,8 +90,9 @@ pub fn read(
 ) -> Step
     ensures { λ r. ⌜ UserReads p handle base options address count «count_at» (now (ring .entry)) (now (table .entry)) (now (memory .entry)) (now (memory .exit)) r ⌝ }
 {
-    let r = read_ends(
-        ends_of(p),
+    let e = ends_of(p);
+    let t = transfer::user_memory::read_transfer(
+        e,
         handle,
         options,
         base,
@@ -103,7 +103,7 @@ pub fn read(
         ring,
         table,
     );
-    settle(p, r)
+    settle(p, transfer::read::read_outcome(e, handle, t))
 }
 
 // Disables or enables the writing of an end and of its peer, by numbers.

@@ -1,1 +1,1 @@
-pub mod NoChange
+pub mod Changes

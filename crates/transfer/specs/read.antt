@@ -1,2 +1,1 @@
-pub mod ReadEnds
 pub mod ReadChange

@@ -1,2 +1,1 @@
 pub mod WriteChange
-pub mod WriteEnds

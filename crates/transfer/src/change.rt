@@ -3,7 +3,7 @@
 use definition::Answer;
 use definition::Queue;
 ghost use mathlib.Core.Path.{_≡_};
-ghost use Rattle.transfer.specs.change.NoChange.{keptTransfer};
+ghost use Rattle.transfer.specs.change.Changes.{keptTransfer};
 
 // What a write or a read changes: the queue that bytes went into or left, the bits that the caller's word loses, and those that its peer's word gains
 // if the peer is open. `moves` says whether it changes anything; `answer` is the call's.

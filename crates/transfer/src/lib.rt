@@ -1,4 +1,5 @@
-// Write and read over both ends: the bytes into or out of the ring, what that changes, the two ends after it.
+// Write and read over both ends, plain and over user memory: the bytes into or out of the ring, what that changes, the two ends after it.
 pub mod change;
 pub mod read;
+pub mod user_memory;
 pub mod write;

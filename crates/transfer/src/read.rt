@@ -1,7 +1,6 @@
 // Read and peek over both ends of a pair: the bytes go from the ring to the caller, and the waits are visited later.
 // After `Socket::read` of ipc/socket.rs.
 use crate::change::Transfer;
-use answers::read::plain_read_answer;
 use answers::read::read_answer;
 use definition::Answer;
 use definition::Endpoint;
@@ -17,20 +16,19 @@ use endpoint::ends::Pending;
 use endpoint::ends::Visits;
 use endpoint::signal::changed;
 ghost use mathlib.Core.Path.{_≡_};
-ghost use mathlib.Core.Bool.{not};
+ghost use mathlib.Core.Bool.{true, not};
 ghost use Prim.Native.Nat.{_≤_, _<_};
 ghost use lib.ListN.{length};
 ghost use lib.Dec.{eqb};
 ghost use lib.Seq.{paste};
-ghost use Rattle.definition.specs.Status.{pick, _and_, _or_};
+ghost use Rattle.definition.specs.Status.{pick, _and_, countOf};
 ghost use Rattle.definition.specs.Ring.{front};
-ghost use Rattle.definition.specs.Tests.{firstLength, lentOf};
+ghost use Rattle.definition.specs.Tests.{firstLength};
 ghost use Rattle.definition.specs.Pair.{isOne, own, peer};
-ghost use Rattle.endpoint.specs.ends.Outcome.{keptEnds, canFire};
-ghost use Rattle.transfer.specs.change.NoChange.{keptTransfer};
-ghost use Rattle.transfer.specs.read.ReadChange.{drainedTransfer, TransferRead, drainedVisits, drainedMoved, readBy};
-ghost use Rattle.definition.specs.Read.{leaving, drainedQueue};
-ghost use Rattle.transfer.specs.read.ReadEnds.{Drain, drainedEnds, EndsRead};
+ghost use Rattle.definition.specs.Read.{readEffect, leaving, drainedQueue, bufferRead};
+ghost use Rattle.endpoint.specs.ends.AtOnce.{movedBy};
+ghost use Rattle.endpoint.specs.ends.Outcome.{canFire};
+ghost use Rattle.transfer.specs.read.ReadChange.{drainedEffect, readBy, Drained, ReadChanges, Drain, Deliver, Read};
 
 // The bytes that leave the queue: a datagram leaves whole.
 fn leaving_of(datagram: bool, first: u32, k: u32) -> u32
@@ -67,77 +65,8 @@ fn drained_queue(datagram: bool, capacity: u32, n: u32, q: Queue) -> Queue
     Queue { bytes, lengths }
 }
 
-// The ends after n bytes left the own queue; a closed peer stays as it is.
-fn drained_ends(
-    datagram: bool,
-    capacity: u32,
-    one: bool,
-    own: Endpoint,
-    peer: Endpoint,
-    n: u32,
-) -> Moved
-    requires { ⌜ Drain datagram capacity n (own .queue) ⌝ }
-    ensures { λ r. ⌜ r ≡ drainedEnds datagram capacity one own peer n ⌝ }
-{
-    let q = own.queue;
-    let queued = q.bytes.count - n;
-    let lost = lost_by_reader(own, queued);
-    let drained = endpoint::end::with_queue(own, drained_queue(datagram, capacity, n, q));
-    let next = endpoint::end::with_signals(drained, changed(own.signals, lost, 0));
-    let first = Pending {
-        one,
-        word: own.signals,
-        clear: lost,
-        set: 0,
-    };
-    if peer.closed {
-        let second = NO_VISIT;
-        return Moved {
-            own: next,
-            peer,
-            visits: Visits { first, second },
-        };
-    }
-    let gained = gained_by_writer(peer, capacity - queued, q.bytes.count == capacity);
-    let second = Pending {
-        one: !one,
-        word: peer.signals,
-        clear: 0,
-        set: gained,
-    };
-    Moved {
-        own: next,
-        peer: endpoint::end::with_signals(peer, changed(peer.signals, 0, gained)),
-        visits: Visits { first, second },
-    }
-}
-
-// The ends after a read that delivered k bytes: a peek, or a read that delivered nothing, changes nothing.
-fn consumed_ends(
-    datagram: bool,
-    capacity: u32,
-    one: bool,
-    own: Endpoint,
-    peer: Endpoint,
-    peek: bool,
-    first: u32,
-    k: u32,
-) -> Moved
-    requires { ⌜ ((k ≡ 0 → ⊥) → Drain datagram capacity (leaving datagram first k) (own .queue)) ⌝ }
-    ensures { λ r. ⌜ r ≡ pick (peek or eqb k 0) (keptEnds own peer) (drainedEnds datagram capacity one own peer (leaving datagram first k)) ⌝ }
-{
-    if peek {
-        return endpoint::ends::kept_ends(own, peer);
-    }
-    if k == 0 {
-        return endpoint::ends::kept_ends(own, peer);
-    }
-    let n = leaving_of(datagram, first, k);
-    drained_ends(datagram, capacity, one, own, peer, n)
-}
-
 // Copies the first k bytes of a queue into the buffer.
-fn deliver(capacity: u32, start: u32, k: u32, ring: &[u8], buffer: &mut [u8])
+pub(crate) fn deliver(capacity: u32, start: u32, k: u32, ring: &[u8], buffer: &mut [u8])
     requires { ⌜ ((k ≡ 0 → ⊥) → (start < capacity) × (k ≤ capacity) × (capacity ≤ length (now ring)) × (k ≤ length (now buffer))) ⌝ }
     ensures { λ _. ⌜ now (buffer .exit) ≡ pick (eqb k 0) (now (buffer .entry)) (paste (now (buffer .entry)) 0 (front capacity start k (now (ring .entry))) k) ⌝ }
 {
@@ -157,29 +86,6 @@ fn first_delivered(datagram: bool, q: Queue, table: &[u32], k: u32) -> u32
     endpoint::end::first_length(q, datagram, table)
 }
 
-// A read or peek by the end of a handle, but for the visit of the waits. The ring and the table are the reader's.
-pub fn read_ends(
-    p: Ends,
-    handle: u32,
-    peek: bool,
-    ring: &[u8],
-    table: &[u32],
-    buffer: &mut [u8],
-) -> EndsOutcome
-    ensures { λ r. ⌜ EndsRead p handle peek (now (ring .entry)) (now (table .entry)) (now (buffer .entry)) (now (buffer .exit)) r ⌝ }
-{
-    let a = read_answer(p, handle, ring, table, buffer.len());
-    let k = endpoint::answer::count_of(a);
-    let one = handle == 1;
-    let own = endpoint::ends::own(p, one);
-    let peer = endpoint::ends::peer(p, one);
-    let q = own.queue;
-    let first = first_delivered(p.datagram, q, table, k);
-    deliver(p.capacity, q.bytes.start, k, ring, buffer);
-    let moved = consumed_ends(p.datagram, p.capacity, one, own, peer, peek, first, k);
-    endpoint::ends::put_back(p.waits, one, a, moved, endpoint::ends::no_visits())
-}
-
 // What changes where n bytes left the own queue.
 fn drained(
     datagram: bool,
@@ -190,7 +96,7 @@ fn drained(
     n: u32,
 ) -> Transfer
     requires { ⌜ Drain datagram capacity n (own .queue) ⌝ }
-    ensures { λ r. ⌜ r ≡ drainedTransfer datagram capacity own peer answer n ⌝ }
+    ensures { λ r. ⌜ (r .answer ≡ answer) × (r .moves ≡ true) × (drainedEffect own peer r ≡ readEffect datagram capacity own peer n) ⌝ }
 {
     let q = own.queue;
     let queued = q.bytes.count - n;
@@ -207,7 +113,7 @@ fn drained(
 }
 
 // What changes by a read that delivered k bytes: a peek, or a read that delivered nothing, changes nothing.
-fn drain_transfer(
+pub(crate) fn drain_transfer(
     datagram: bool,
     capacity: u32,
     own: Endpoint,
@@ -218,7 +124,7 @@ fn drain_transfer(
     k: u32,
 ) -> Transfer
     requires { ⌜ ((k ≡ 0 → ⊥) → Drain datagram capacity (leaving datagram first k) (own .queue)) ⌝ }
-    ensures { λ r. ⌜ r ≡ pick (peek or eqb k 0) (keptTransfer (own .queue) answer) (drainedTransfer datagram capacity own peer answer (leaving datagram first k)) ⌝ }
+    ensures { λ r. ⌜ (r .answer ≡ answer) × Drained datagram capacity own peer peek first k r ⌝ }
 {
     let q = own.queue;
     if peek {
@@ -231,7 +137,7 @@ fn drain_transfer(
     drained(datagram, capacity, own, peer, answer, n)
 }
 
-// A read or peek by the end of a handle that leaves both ends as they are and gives what changes. The ring and the table are the reader's.
+// A read or peek by the end of a handle: both ends stay as they are, and it gives what changes. The ring and the table are the reader's.
 pub fn read_transfer(
     p: Ends,
     handle: u32,
@@ -240,9 +146,9 @@ pub fn read_transfer(
     table: &[u32],
     buffer: &mut [u8],
 ) -> Transfer
-    ensures { λ t. ⌜ TransferRead p handle peek (now (ring .entry)) (now (table .entry)) (now (buffer .entry)) (now (buffer .exit)) t ⌝ }
+    ensures { λ t. ⌜ Read p handle peek (now (ring .entry)) (now (table .entry)) (now (buffer .entry)) (now (buffer .exit)) t ⌝ }
 {
-    let a = plain_read_answer(p, handle, ring, table, buffer.len());
+    let a = read_answer(p, handle, ring, table, buffer.len());
     let k = endpoint::answer::count_of(a);
     let one = handle == 1;
     let own = endpoint::ends::own(p, one);
@@ -255,7 +161,7 @@ pub fn read_transfer(
 
 // The changes of both words by a read; none of a closed peer's.
 fn drained_visits(one: bool, own: Endpoint, peer: Endpoint, t: Transfer) -> Visits
-    ensures { λ r. ⌜ r ≡ drainedVisits one own peer t ⌝ }
+    ensures { λ r. ⌜ r ≡ movedBy one (drainedEffect own peer t) .visits ⌝ }
 {
     let first = Pending {
         one,
@@ -281,7 +187,7 @@ fn drained_visits(one: bool, own: Endpoint, peer: Endpoint, t: Transfer) -> Visi
 
 // The ends after a read; a closed peer stays as it is.
 fn drained_moved(one: bool, own: Endpoint, peer: Endpoint, t: Transfer) -> Moved
-    ensures { λ r. ⌜ r ≡ drainedMoved one own peer t ⌝ }
+    ensures { λ r. ⌜ r ≡ movedBy one (drainedEffect own peer t) ⌝ }
 {
     let queue = t.queue;
     let drained = endpoint::end::with_queue(own, queue);
@@ -321,7 +227,7 @@ pub fn read_outcome(p: Ends, handle: u32, t: Transfer) -> EndsOutcome
 
 // Whether bytes left by a read whose peer is open, and no wait can fire.
 pub fn is_read_without_visit(p: Ends, handle: u32, t: Transfer) -> bool
-    ensures { λ r. ⌜ r ≡ (t .moves and not (peer (isOne handle) p .closed) and not (canFire (p .waits) (drainedVisits (isOne handle) (own (isOne handle) p) (peer (isOne handle) p) t))) ⌝ }
+    ensures { λ r. ⌜ r ≡ (t .moves and not (peer (isOne handle) p .closed) and not (canFire (p .waits) (movedBy (isOne handle) (drainedEffect (own (isOne handle) p) (peer (isOne handle) p) t) .visits))) ⌝ }
 {
     if !t.moves {
         return false;

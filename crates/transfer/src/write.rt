@@ -1,7 +1,6 @@
 // Write over both ends of a pair: the bytes go from the caller into the peer's ring, and the waits are visited later.
 // After `Socket::write` of ipc/socket.rs.
 use crate::change::Transfer;
-use answers::write::plain_write_answer;
 use answers::write::write_answer;
 use definition::Answer;
 use definition::Endpoint;
@@ -19,14 +18,12 @@ ghost use mathlib.Core.Path.{_≡_};
 ghost use mathlib.Core.Bool.{true, not};
 ghost use Prim.Native.Nat.{_+_, _≤_, _<_, _^_};
 ghost use lib.Dec.{eqb};
-ghost use Rattle.definition.specs.Status.{pick, _and_};
+ghost use Rattle.definition.specs.Status.{pick, _and_, countOf};
 ghost use Rattle.definition.specs.Pair.{isOne, own, peer};
-ghost use Rattle.definition.specs.Tests.{lentOf};
-ghost use Rattle.endpoint.specs.ends.Outcome.{keptEnds, canFire};
-ghost use Rattle.transfer.specs.change.NoChange.{keptTransfer};
-ghost use Rattle.transfer.specs.write.WriteChange.{fedTransfer, TransferWrote, fedVisits, fedMoved, wroteBy};
-ghost use Rattle.definition.specs.Write.{fedQueue, ringFed, tableFed};
-ghost use Rattle.transfer.specs.write.WriteEnds.{Feed, fedEnds, EndsWrote};
+ghost use Rattle.definition.specs.Write.{writeEffect, fedQueue, ringFed, ringWritten, tableFed, tableWritten};
+ghost use Rattle.endpoint.specs.ends.AtOnce.{movedBy};
+ghost use Rattle.endpoint.specs.ends.Outcome.{canFire};
+ghost use Rattle.transfer.specs.write.WriteChange.{fedEffect, wroteBy, Fed, WriteChanges, Feed, Wrote};
 
 // The queue that m bytes went into.
 fn fed_queue(datagram: bool, m: u32, q: Queue) -> Queue
@@ -52,7 +49,7 @@ fn fed_queue(datagram: bool, m: u32, q: Queue) -> Queue
 }
 
 // Copies m bytes behind those queued, and on datagram pairs puts their length behind those queued.
-fn feed(
+pub(crate) fn feed(
     datagram: bool,
     capacity: u32,
     q: Queue,
@@ -81,98 +78,8 @@ fn feed(
     }
 }
 
-// The ends after m bytes went in.
-fn fed_ends(
-    datagram: bool,
-    capacity: u32,
-    one: bool,
-    own: Endpoint,
-    peer: Endpoint,
-    m: u32,
-) -> Moved
-    requires { ⌜ (peer .queue .bytes .count + m ≤ capacity) × (datagram ≡ true → peer .queue .lengths .count + 1 < 2 ^ 32) ⌝ }
-    ensures { λ r. ⌜ r ≡ fedEnds datagram capacity one own peer m ⌝ }
-{
-    let q = peer.queue;
-    let queued = q.bytes.count + m;
-    let gained = gained_by_peer(peer, queued);
-    let lost = lost_by_writer(own, capacity - queued);
-    let fed = endpoint::end::with_queue(peer, fed_queue(datagram, m, q));
-    let first = Pending {
-        one: !one,
-        word: peer.signals,
-        clear: 0,
-        set: gained,
-    };
-    let second = Pending {
-        one,
-        word: own.signals,
-        clear: lost,
-        set: 0,
-    };
-    Moved {
-        own: endpoint::end::with_signals(own, changed(own.signals, lost, 0)),
-        peer: endpoint::end::with_signals(fed, changed(peer.signals, 0, gained)),
-        visits: Visits { first, second },
-    }
-}
-
-// Copies m bytes into the peer's queue; the ends after that. 0 bytes change nothing.
-fn feed_ends(
-    datagram: bool,
-    capacity: u32,
-    one: bool,
-    own: Endpoint,
-    peer: Endpoint,
-    m: u32,
-    bytes: &[u8],
-    ring: &mut [u8],
-    table: &mut [u32],
-) -> Moved
-    requires { ⌜ ((m ≡ 0 → ⊥) → Feed datagram capacity (peer .queue) m (now bytes) (now ring) (now table)) ⌝ }
-    ensures { λ r. ⌜ r ≡ pick (eqb m 0) (keptEnds own peer) (fedEnds datagram capacity one own peer m) ⌝ }
-    ensures { λ _. ⌜ now (ring .exit) ≡ pick (eqb m 0) (now (ring .entry)) (ringFed capacity (peer .queue) m (now (bytes .entry)) (now (ring .entry))) ⌝ }
-    ensures { λ _. ⌜ now (table .exit) ≡ pick (eqb m 0) (now (table .entry)) (tableFed datagram capacity (peer .queue) m (now (table .entry))) ⌝ }
-{
-    if m == 0 {
-        return endpoint::ends::kept_ends(own, peer);
-    }
-    let q = peer.queue;
-    feed(datagram, capacity, q, m, bytes, ring, table);
-    fed_ends(datagram, capacity, one, own, peer, m)
-}
-
-// A write by the end of a handle, but for the visit of the waits. The ring and the table are the peer's.
-pub fn write_ends(
-    p: Ends,
-    handle: u32,
-    ring: &mut [u8],
-    table: &mut [u32],
-    bytes: &[u8],
-) -> EndsOutcome
-    ensures { λ r. ⌜ EndsWrote p handle (now (bytes .entry)) (now (ring .entry)) (now (ring .exit)) (now (table .entry)) (now (table .exit)) r ⌝ }
-{
-    let a = write_answer(p, handle, ring, table, bytes.len());
-    let m = endpoint::answer::count_of(a);
-    let one = handle == 1;
-    let own = endpoint::ends::own(p, one);
-    let peer = endpoint::ends::peer(p, one);
-    let moved = feed_ends(
-        p.datagram,
-        p.capacity,
-        one,
-        own,
-        peer,
-        m,
-        bytes,
-        ring,
-        table,
-    );
-    endpoint::ends::put_back(p.waits, one, a, moved, endpoint::ends::no_visits())
-}
-
 // What changes where m bytes went in.
-fn fed(
+pub(crate) fn fed(
     datagram: bool,
     capacity: u32,
     own: Endpoint,
@@ -181,7 +88,7 @@ fn fed(
     m: u32,
 ) -> Transfer
     requires { ⌜ (peer .queue .bytes .count + m ≤ capacity) × (datagram ≡ true → peer .queue .lengths .count + 1 < 2 ^ 32) ⌝ }
-    ensures { λ r. ⌜ r ≡ fedTransfer datagram capacity own peer answer m ⌝ }
+    ensures { λ r. ⌜ (r .answer ≡ answer) × (r .moves ≡ true) × (fedEffect own peer r ≡ writeEffect datagram capacity own peer m) ⌝ }
 {
     let q = peer.queue;
     let queued = q.bytes.count + m;
@@ -197,32 +104,7 @@ fn fed(
     }
 }
 
-// Copies m bytes into the peer's queue; what changes by that. 0 bytes change nothing.
-fn feed_transfer(
-    datagram: bool,
-    capacity: u32,
-    own: Endpoint,
-    peer: Endpoint,
-    answer: Answer,
-    m: u32,
-    bytes: &[u8],
-    ring: &mut [u8],
-    table: &mut [u32],
-) -> Transfer
-    requires { ⌜ ((m ≡ 0 → ⊥) → Feed datagram capacity (peer .queue) m (now bytes) (now ring) (now table)) ⌝ }
-    ensures { λ r. ⌜ r ≡ pick (eqb m 0) (keptTransfer (peer .queue) answer) (fedTransfer datagram capacity own peer answer m) ⌝ }
-    ensures { λ _. ⌜ now (ring .exit) ≡ pick (eqb m 0) (now (ring .entry)) (ringFed capacity (peer .queue) m (now (bytes .entry)) (now (ring .entry))) ⌝ }
-    ensures { λ _. ⌜ now (table .exit) ≡ pick (eqb m 0) (now (table .entry)) (tableFed datagram capacity (peer .queue) m (now (table .entry))) ⌝ }
-{
-    let q = peer.queue;
-    if m == 0 {
-        return crate::change::kept(q, answer);
-    }
-    feed(datagram, capacity, q, m, bytes, ring, table);
-    fed(datagram, capacity, own, peer, answer, m)
-}
-
-// A write by the end of a handle that leaves both ends as they are and gives what changes. The ring and the table are the peer's.
+// A write by the end of a handle: both ends stay as they are, and it gives what changes. The ring and the table are the peer's.
 pub fn write_transfer(
     p: Ends,
     handle: u32,
@@ -230,19 +112,24 @@ pub fn write_transfer(
     table: &mut [u32],
     bytes: &[u8],
 ) -> Transfer
-    ensures { λ t. ⌜ TransferWrote p handle (now (bytes .entry)) (now (ring .entry)) (now (ring .exit)) (now (table .entry)) (now (table .exit)) t ⌝ }
+    ensures { λ t. ⌜ Wrote p handle (now (bytes .entry)) (now (ring .entry)) (now (ring .exit)) (now (table .entry)) (now (table .exit)) t ⌝ }
 {
-    let a = plain_write_answer(p, handle, ring, table, bytes.len());
+    let a = write_answer(p, handle, ring, table, bytes.len());
     let m = endpoint::answer::count_of(a);
     let one = handle == 1;
     let own = endpoint::ends::own(p, one);
     let peer = endpoint::ends::peer(p, one);
-    feed_transfer(p.datagram, p.capacity, own, peer, a, m, bytes, ring, table)
+    let q = peer.queue;
+    if m == 0 {
+        return crate::change::kept(q, a);
+    }
+    feed(p.datagram, p.capacity, q, m, bytes, ring, table);
+    fed(p.datagram, p.capacity, own, peer, a, m)
 }
 
 // The changes of both words by a write.
 fn fed_visits(one: bool, own: Endpoint, peer: Endpoint, t: Transfer) -> Visits
-    ensures { λ r. ⌜ r ≡ fedVisits one own peer t ⌝ }
+    ensures { λ r. ⌜ r ≡ movedBy one (fedEffect own peer t) .visits ⌝ }
 {
     let first = Pending {
         one: !one,
@@ -261,7 +148,7 @@ fn fed_visits(one: bool, own: Endpoint, peer: Endpoint, t: Transfer) -> Visits
 
 // The ends after a write.
 fn fed_moved(one: bool, own: Endpoint, peer: Endpoint, t: Transfer) -> Moved
-    ensures { λ r. ⌜ r ≡ fedMoved one own peer t ⌝ }
+    ensures { λ r. ⌜ r ≡ movedBy one (fedEffect own peer t) ⌝ }
 {
     let queue = t.queue;
     let fed = endpoint::end::with_queue(peer, queue);
@@ -292,7 +179,7 @@ pub fn write_outcome(p: Ends, handle: u32, t: Transfer) -> EndsOutcome
 
 // Whether bytes went in by a write, and no wait can fire.
 pub fn is_write_without_visit(p: Ends, handle: u32, t: Transfer) -> bool
-    ensures { λ r. ⌜ r ≡ (t .moves and not (canFire (p .waits) (fedVisits (isOne handle) (own (isOne handle) p) (peer (isOne handle) p) t))) ⌝ }
+    ensures { λ r. ⌜ r ≡ (t .moves and not (canFire (p .waits) (movedBy (isOne handle) (fedEffect (own (isOne handle) p) (peer (isOne handle) p) t) .visits))) ⌝ }
 {
     if !t.moves {
         return false;

@@ -11,21 +11,24 @@ use Rattle.definition.specs.Pair.{withQueue, withSignals, own, peer, isOne, end
 use Rattle.endpoint.specs.declared.ends.Visits.{Visits}
 use Rattle.endpoint.specs.declared.ends.Moved.{Moved}
 use Rattle.endpoint.specs.declared.ends.EndsOutcome.{EndsOutcome}
+use Rattle.definition.specs.Effect.{ifOpen, keepingWaits}
+use Rattle.endpoint.specs.ends.AtOnce.{ownChanged, peerChanged, ownAfter, peerAfter, movedBy}
 use Rattle.endpoint.specs.ends.Outcome.{noVisits, keepsWord, canFire, anyCanFire, outcomeOf}
 use Rattle.transfer.specs.declared.change.Transfer.{Transfer}
-use Rattle.transfer.specs.write.WriteChange.{fedVisits, fedMoved, wroteBy}
-use Rattle.transfer.specs.read.ReadChange.{drainedVisits, drainedMoved, readBy}
+use Rattle.transfer.specs.change.Changes.{outcomeBy}
+use Rattle.transfer.specs.write.WriteChange.{fedEffect, wroteBy}
+use Rattle.transfer.specs.read.ReadChange.{drainedEffect, readBy}
 use Rattle.definition.specs.declared.Pair.{Pair}
 use Rattle.socket.specs.Deferred.{withEnds, settledStep}
 use Rattle.kept.specs.transferred.Transferred.{transferredPair, withMoved, wrotePair, readPair, writeWithoutVisit, readWithoutVisit}
 
 pub transferred-wrote : (t : Bool) (x : Transfer) (p : Pair) → transferredPair t (not t) x p ≡ wrotePair t x p
-unfolding transferredPair wrotePair withMoved fedMoved withSignals withQueue pick
+unfolding transferredPair wrotePair withMoved fedEffect keepingWaits movedBy ownAfter peerAfter ownChanged peerChanged withSignals withQueue pick
 transferred-wrote true x p = refl
 transferred-wrote false x p = refl
 
 transferred-read : (t : Bool) (x : Transfer) (p : Pair) → peer t (endsOf p) .closed ≡ false → transferredPair t t x p ≡ readPair t x p
-unfolding transferredPair readPair withMoved drainedMoved withSignals withQueue pick
+unfolding transferredPair readPair withMoved drainedEffect keepingWaits ifOpen movedBy ownAfter peerAfter ownChanged peerChanged withSignals withQueue pick
 transferred-read true x p e = rw e refl
 transferred-read false x p e = rw e refl
 
@@ -52,19 +55,19 @@ settled-no-visit w t x d p e = pick-off _ _ _ _ _ (none-visited w (d .visits) e)
 pub no-visit-wrote : (h : ℕ) (x : Transfer) (p q : Pair)
     → writeWithoutVisit h x p ≡ true
     → q ≡ wrotePair (isOne h) x p → q ≡ settledStep (wroteBy (endsOf p) h x) p .pair
-unfolding wrotePair wroteBy fedMoved writeWithoutVisit
+unfolding wrotePair wroteBy outcomeBy writeWithoutVisit
 no-visit-wrote h x p q e f =
     let w = both _ _ e in
-    f ∙ settled-no-visit (endsOf p .waits) (isOne h) x (fedMoved (isOne h) (own (isOne h) (endsOf p)) (peer (isOne h) (endsOf p)) x) p (via-not refl (w .1))
+    f ∙ settled-no-visit (endsOf p .waits) (isOne h) x (movedBy (isOne h) (fedEffect (own (isOne h) (endsOf p)) (peer (isOne h) (endsOf p)) x)) p (via-not refl (w .1))
     ∙ ap (λ (r : EndsOutcome). settledStep r p .pair) (pick-on _ _ _ _ _ (w .0) refl)
 
 pub no-visit-read : (h : ℕ) (x : Transfer) (p q : Pair)
     → readWithoutVisit h x p ≡ true
     → q ≡ transferredPair (isOne h) (isOne h) x p → q ≡ settledStep (readBy (endsOf p) h x) p .pair
-unfolding readPair readBy drainedMoved readWithoutVisit
+unfolding readPair readBy outcomeBy readWithoutVisit
 no-visit-read h x p q e f =
     let w = both _ _ e in
     let v = both _ _ (w .1) in
     f ∙ transferred-read (isOne h) x p (via-not refl (v .0))
-    ∙ settled-no-visit (endsOf p .waits) (isOne h) x (drainedMoved (isOne h) (own (isOne h) (endsOf p)) (peer (isOne h) (endsOf p)) x) p (via-not refl (v .1))
+    ∙ settled-no-visit (endsOf p .waits) (isOne h) x (movedBy (isOne h) (drainedEffect (own (isOne h) (endsOf p)) (peer (isOne h) (endsOf p)) x)) p (via-not refl (v .1))
     ∙ ap (λ (r : EndsOutcome). settledStep r p .pair) (pick-on _ _ _ _ _ (w .0) refl)

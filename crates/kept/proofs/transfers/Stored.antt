@@ -1,17 +1,16 @@
 -- What the stored pair is after a write and a read, by the way that the code went. Assumes nothing.
 use Prim.Native.Nat.{ℕ}
-use mathlib.Core.Path.{_≡_, refl, sym, ap, _∙_}
+use mathlib.Core.Path.{_≡_, sym, ap, _∙_}
 use mathlib.Core.Bool.{Bool, true, false}
 use lib.Dec.{T}
-use Rattle.definition.specs.Status.{pick}
 use Rattle.endpoint.specs.declared.ends.EndsOutcome.{EndsOutcome}
 use Rattle.definition.specs.declared.Pair.{Pair}
 use Rattle.transfer.specs.declared.change.Transfer.{Transfer}
-use Rattle.transfer.specs.write.WriteChange.{fedMoved, wroteBy}
-use Rattle.transfer.specs.read.ReadChange.{drainedMoved, readBy}
+use Rattle.transfer.specs.write.WriteChange.{wroteBy}
+use Rattle.transfer.specs.read.ReadChange.{readBy}
+use Rattle.transfer.proofs.change.Changes.{outcome-answer}
 use Rattle.definition.specs.declared.Ends.{Ends}
-use Rattle.definition.specs.Pair.{own as end-own, peer, isOne, endsOf}
-use Rattle.endpoint.specs.ends.Outcome.{noVisits, outcomeOf, unchangedEnds}
+use Rattle.definition.specs.Pair.{isOne, endsOf}
 use Rattle.kept.specs.transferred.Transferred.{transferredPair, wrotePair, writeWithoutVisit, readWithoutVisit}
 use Rattle.kept.proofs.transferred.NoVisit.{no-visit-wrote, no-visit-read}
 use Rattle.socket.specs.Deferred.{settledStep}
@@ -33,19 +32,9 @@ pub passed-on : (r s : EndsOutcome) (p q : Pair) → s ≡ r → q ≡ settledSt
 passed-on r s p q e f = f ∙ ap (λ (k : EndsOutcome). settledStep k p .pair) e
 
 pub wrote-answer : (e : Ends) (h : ℕ) (t : Transfer) → t .answer ≡ wroteBy e h t .answer
-unfolding wroteBy outcomeOf unchangedEnds pick
-wrote-answer e h t = by (t .moves)
-  where
-    by : (b : Bool) → t .answer
-        ≡ pick b (outcomeOf (e .waits) (isOne h) (t .answer) (fedMoved (isOne h) (end-own (isOne h) e) (peer (isOne h) e) t) noVisits) (unchangedEnds e (t .answer)) .answer
-    by true = refl
-    by false = refl
+unfolding wroteBy
+wrote-answer e h t = outcome-answer e h t _
 
 pub read-answer : (e : Ends) (h : ℕ) (t : Transfer) → t .answer ≡ readBy e h t .answer
-unfolding readBy outcomeOf unchangedEnds pick
-read-answer e h t = by (t .moves)
-  where
-    by : (b : Bool) → t .answer
-        ≡ pick b (outcomeOf (e .waits) (isOne h) (t .answer) (drainedMoved (isOne h) (end-own (isOne h) e) (peer (isOne h) e) t) noVisits) (unchangedEnds e (t .answer)) .answer
-    by true = refl
-    by false = refl
+unfolding readBy
+read-answer e h t = outcome-answer e h t _

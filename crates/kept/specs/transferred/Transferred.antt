@@ -9,8 +9,9 @@ use Rattle.definition.specs.Status.{pick, _and_}
 use Rattle.definition.specs.Signal.{changedWord}
 use Rattle.definition.specs.Pair.{withQueue, withSignals, own, peer, endsOf, isOne}
 use Rattle.socket.specs.Deferred.{withEnds}
-use Rattle.transfer.specs.write.WriteChange.{fedMoved, fedVisits}
-use Rattle.transfer.specs.read.ReadChange.{drainedMoved, drainedVisits}
+use Rattle.transfer.specs.write.WriteChange.{fedEffect}
+use Rattle.transfer.specs.read.ReadChange.{drainedEffect}
+use Rattle.endpoint.specs.ends.AtOnce.{movedBy}
 use Rattle.endpoint.specs.ends.Outcome.{canFire}
 
 -- the pair after a call by end t, whose end 1 takes the queue if so asked, and else end 2
@@ -27,17 +28,18 @@ withMoved t d p = withEnds (pick t (d .own) (d .peer)) (pick t (d .peer) (d .own
 
 -- after a write, and after a read, by end t
 unfoldable pub wrotePair : Bool → Transfer → Pair → Pair
-wrotePair t x p = withMoved t (fedMoved t (own t (endsOf p)) (peer t (endsOf p)) x) p
+wrotePair t x p = withMoved t (movedBy t (fedEffect (own t (endsOf p)) (peer t (endsOf p)) x)) p
 
 unfoldable pub readPair : Bool → Transfer → Pair → Pair
-readPair t x p = withMoved t (drainedMoved t (own t (endsOf p)) (peer t (endsOf p)) x) p
+readPair t x p = withMoved t (movedBy t (drainedEffect (own t (endsOf p)) (peer t (endsOf p)) x)) p
 
 -- whether bytes went in by a write of the end of handle h, and no wait can fire; of a read also whether its peer is open
 unfoldable pub writeWithoutVisit : (h : ℕ) → Transfer → Pair → Bool
-writeWithoutVisit h x p = x .moves and not (canFire (endsOf p .waits) (fedVisits (isOne h) (own (isOne h) (endsOf p)) (peer (isOne h) (endsOf p)) x))
+writeWithoutVisit h x p =
+    x .moves and not (canFire (endsOf p .waits) (movedBy (isOne h) (fedEffect (own (isOne h) (endsOf p)) (peer (isOne h) (endsOf p)) x) .visits))
 
 unfoldable pub readWithoutVisit : (h : ℕ) → Transfer → Pair → Bool
 readWithoutVisit h x p =
     x .moves
     and not (peer (isOne h) (endsOf p) .closed)
-    and not (canFire (endsOf p .waits) (drainedVisits (isOne h) (own (isOne h) (endsOf p)) (peer (isOne h) (endsOf p)) x))
+    and not (canFire (endsOf p .waits) (movedBy (isOne h) (drainedEffect (own (isOne h) (endsOf p)) (peer (isOne h) (endsOf p)) x) .visits))

@@ -17,7 +17,7 @@ use Rattle.definition.specs.Tests.{hasLength, firstLength, badFirst, lentOf}
 use Rattle.definition.specs.Read.{emptyAnswer, availableIn, readSize, readAnswer, leaving}
 use Rattle.definition.specs.declared.Ends.{Ends}
 use Rattle.definition.specs.Pair.{isOne, own, peer}
-use Rattle.transfer.specs.read.ReadEnds.{Drain}
+use Rattle.transfer.specs.read.ReadChange.{Deliver}
 use Rattle.answers.proofs.tests.Sound.{sound-own, passed}
 use Rattle.transfer.proofs.change.Smaller.{min-left, min-right}
 
@@ -54,29 +54,24 @@ unfolding leaving availableIn pick
 most true o first n k C e w q = omega (arith, min-right n first)
 most false o first n k C e w q = omega arith
 
-pub record Drained (p : Ends) (t : Bool) (first k n : ℕ) (ring : ℕ) : Type 0 where
-  pub drain : Drain (p .datagram) (p .capacity) (leaving (p .datagram) first k) (own t p .queue)
-  pub most : k ≤ p .capacity
-  pub long : p .capacity ≤ ring
-  pub fits : k ≤ n
-
-pub read-drains : (p : Ends) (h : ℕ) (ring table buffer : List ℕ) (x : Answer) (k : ℕ)
-    → x ≡ readAnswer p (lentOf (p .datagram) (own (isOne h) p .queue) ring table) h (length buffer) → k ≡ countOf x → (k ≡ 0 → ⊥)
-    → Drained p (isOne h) (firstLength (p .datagram) (own (isOne h) p .queue) table) k (length buffer) (length ring)
+-- n is the number of bytes asked for
+pub read-drains : (p : Ends) (h : ℕ) (ring table : List ℕ) (n : ℕ) (x : Answer) (k : ℕ)
+    → x ≡ readAnswer p (lentOf (p .datagram) (own (isOne h) p .queue) ring table) h n → k ≡ countOf x → (k ≡ 0 → ⊥)
+    → Deliver p h (firstLength (p .datagram) (own (isOne h) p .queue) table) k (length ring) n
 unfolding readAnswer lentOf
-read-drains p h ring table buffer x k e c z =
+read-drains p h ring table n x k e c z =
     let o = own (isOne h) p in
     let first = firstLength (p .datagram) (o .queue) table in
     let done : isDone x ≡ true = counted x (λ y. z (c ∙ y)) in
     let w = passed p h (o .queue) (lentOf (p .datagram) (o .queue) ring table) _ x e done in
     let s = sound-own (isOne h) p (w .sound) in
-    let f = read-fits (p .datagram) o (peer (isOne h) p) first (length buffer) (ap isDone (sym (w .rest)) ∙ done) in
-    let is : k ≡ min (length buffer) (availableIn (p .datagram) o first) = c ∙ ap countOf (w .rest) ∙ f .1 in
+    let f = read-fits (p .datagram) o (peer (isOne h) p) first n (ap isDone (sym (w .rest)) ∙ done) in
+    let is : k ≡ min n (availableIn (p .datagram) o first) = c ∙ ap countOf (w .rest) ∙ f .1 in
     let some : p .datagram ≡ true → 0 < o .queue .lengths .count = λ d. s .some d (eqb-false _ _ (f .0)) in
-    let within = leaves (p .datagram) o first (length buffer) k (w .first) some is in
+    let within = leaves (p .datagram) o first n k (w .first) some is in
     record {
       drain = record { small = w .sound .small; start = s .start; queued = s .queued; within = within; first = s .first; lengths = some };
-      most = most (p .datagram) o first (length buffer) k (p .capacity) is within (s .queued);
+      most = most (p .datagram) o first n k (p .capacity) is within (s .queued);
       long = w .long .ring;
-      fits = omega (arith, is, min-left (length buffer) (availableIn (p .datagram) o first));
+      fits = omega (arith, is, min-left n (availableIn (p .datagram) o first));
     }

@@ -16,7 +16,7 @@ use Rattle.definition.specs.Write.{datagramSize, writeSize, writeAnswer}
 use Rattle.definition.specs.declared.Ends.{Ends}
 use Rattle.definition.specs.Pair.{isOne, own, peer}
 use Rattle.definition.specs.Tests.{lentOf}
-use Rattle.transfer.specs.write.WriteEnds.{Feed}
+use Rattle.transfer.specs.write.WriteChange.{Feed}
 use Rattle.answers.proofs.tests.Sound.{sound-peer, passed}
 use Rattle.transfer.proofs.change.Smaller.{min-left, min-right}
 
@@ -49,21 +49,22 @@ write-fits datagram C o e n d =
     let w = kind-fits datagram C (C - e .queue .bytes .count) n (f .1) in
     rw (then-is _ _ (a .0), then-is _ _ (b .0), then-is _ _ (c .0), then-is _ _ (f .0)) (w .0, w .1, full)
 
-pub write-feeds : (p : Ends) (h : ℕ) (src ring table : List ℕ) (x : Answer) (m : ℕ)
-    → x ≡ writeAnswer p (lentOf (p .datagram) (peer (isOne h) p .queue) ring table) h (length src) → m ≡ countOf x → (m ≡ 0 → ⊥)
+-- src is what the bytes are taken from, n the number asked for
+pub write-feeds : (p : Ends) (h : ℕ) (src ring table : List ℕ) (n : ℕ) (x : Answer) (m : ℕ)
+    → x ≡ writeAnswer p (lentOf (p .datagram) (peer (isOne h) p .queue) ring table) h n → m ≡ countOf x → (m ≡ 0 → ⊥) → (m ≤ n → m ≤ length src)
     → Feed (p .datagram) (p .capacity) (peer (isOne h) p .queue) m src ring table
 unfolding writeAnswer lentOf
-write-feeds p h src ring table x m e k z =
+write-feeds p h src ring table n x m e k z has =
     let done : isDone x ≡ true = counted x (λ y. z (k ∙ y)) in
     let w = passed p h (peer (isOne h) p .queue) (lentOf (p .datagram) (peer (isOne h) p .queue) ring table) _ x e done in
     let s = sound-peer (isOne h) p (w .sound) in
-    let f = write-fits (p .datagram) (p .capacity) (own (isOne h) p) (peer (isOne h) p) (length src) (ap isDone (sym (w .rest)) ∙ done) in
-    let is : m ≡ countOf (writeSize (p .datagram) (p .capacity) (own (isOne h) p) (peer (isOne h) p) (length src)) = k ∙ ap countOf (w .rest) in
+    let f = write-fits (p .datagram) (p .capacity) (own (isOne h) p) (peer (isOne h) p) n (ap isDone (sym (w .rest)) ∙ done) in
+    let is : m ≡ countOf (writeSize (p .datagram) (p .capacity) (own (isOne h) p) (peer (isOne h) p) n) = k ∙ ap countOf (w .rest) in
     record {
       small = w .sound .small;
       start = s .start;
       fits = omega (arith, is, f .1, f .2);
-      has = omega (arith, is, f .0);
+      has = has (omega (arith, is, f .0));
       long = w .long .ring;
       first = s .first;
       lengths = λ d. omega (arith, s .lengths d, f .2);

@@ -1,68 +1,53 @@
--- How the code goes: a write by what it changes, by the queue and the bits of the two words, which are put into the two ends later. 01 "Delivered bytes", write.
--- The laws of proofs/ say that this is the outcome of a write.
-use Prim.Native.Nat.{ℕ, _+_, _-_}
-use mathlib.Core.Bool.{Bool, true, not}
+-- How the code goes: a write by what it changes, the queue and the bits of the two words, which are put into the two ends later. What it does is in
+-- crates/definition/specs/Write. 01 "Delivered bytes", write.
+use Prim.Native.Nat.{ℕ, _+_, _≤_, _<_}
+use mathlib.Core.Bool.{Bool, true}
 use mathlib.Core.Path.{_≡_}
-use mathlib.Core.List.{List}
+use mathlib.Core.List.{List, [], _∷_}
 use lib.Dec.{eqb}
-use Rattle.definition.specs.declared.Answer.{Answer}
+use lib.ListN.{length}
 use Rattle.definition.specs.declared.Endpoint.{Endpoint}
-use Rattle.transfer.specs.declared.change.Transfer.{Transfer}
 use Rattle.definition.specs.declared.Ends.{Ends}
-use Rattle.endpoint.specs.declared.ends.Visits.{Visits}
-use Rattle.endpoint.specs.declared.ends.Moved.{Moved}
+use Rattle.definition.specs.declared.Queue.{Queue}
+use Rattle.definition.specs.Effect.{Effect, ownWord, peerWord, keepingWaits}
+use Rattle.definition.specs.Pair.{own, peer, isOne, withQueue}
+use Rattle.definition.specs.Status.{countOf}
+use Rattle.definition.specs.Tests.{lentOf}
+use Rattle.definition.specs.Write.{writeEffect, writeAnswer, ringWritten, tableWritten}
 use Rattle.endpoint.specs.declared.ends.EndsOutcome.{EndsOutcome}
-use Rattle.definition.specs.Write.{gainedByPeer, lostByWriter, fedQueue}
-use Rattle.definition.specs.Pair.{own, peer, isOne, withQueue, withSignals}
-use Rattle.definition.specs.Status.{pick, countOf}
-use Rattle.transfer.specs.change.NoChange.{keptTransfer}
-use Rattle.definition.specs.Signal.{changedWord}
-use Rattle.endpoint.specs.ends.Outcome.{noVisits, outcomeOf, unchangedEnds}
-use Rattle.transfer.specs.write.WriteEnds.{EndsWrote}
+use Rattle.transfer.specs.declared.change.Transfer.{Transfer}
+use Rattle.transfer.specs.change.Changes.{outcomeBy, Changes}
 
--- what changes where m bytes went into the peer's queue
-unfoldable pub fedTransfer : (datagram : Bool) → (C : ℕ) → (own peer : Endpoint) → Answer → (m : ℕ) → Transfer
-fedTransfer datagram C o p a m =
-    record {
-      queue = fedQueue datagram m (p .queue);
-      lost = lostByWriter o (C - (p .queue .bytes .count + m));
-      gained = gainedByPeer p (p .queue .bytes .count + m);
-      moves = true;
-      answer = a;
-    }
+-- the effect that t stands for: the peer has the queue and gains, then the writer loses
+unfoldable pub fedEffect : (own peer : Endpoint) → Transfer → Effect
+fedEffect own peer t = keepingWaits own (withQueue (t .queue) peer) (peerWord 0 (t .gained) ∷ ownWord (t .lost) 0 ∷ [])
 
--- what a write by the end of handle h with this answer changes
-unfoldable pub wroteTransfer : Ends → (h : ℕ) → Answer → Transfer
-wroteTransfer e h a =
-    pick (eqb (countOf a) 0)
-    (keptTransfer (peer (isOne h) e .queue) a)
-    (fedTransfer (e .datagram) (e .capacity) (own (isOne h) e) (peer (isOne h) e) a (countOf a))
-
--- the peer's change, then the writer's
-unfoldable pub fedVisits : Bool → (own peer : Endpoint) → Transfer → Visits
-fedVisits one o p t =
-    record {
-      first = record { one = not one; word = p .signals; clear = 0; set = t .gained };
-      second = record { one = one; word = o .signals; clear = t .lost; set = 0 };
-    }
-
--- both ends after it, and the two changes of words
-unfoldable pub fedMoved : Bool → (own peer : Endpoint) → Transfer → Moved
-fedMoved one o p t =
-    record {
-      own = withSignals (changedWord (t .lost) 0 (o .signals)) o;
-      peer = withSignals (changedWord 0 (t .gained) (p .signals)) (withQueue (t .queue) p);
-      visits = fedVisits one o p t;
-    }
-
--- the outcome of a write by the end of handle h that changes this
+-- the outcome of a write by the end of handle h that gives t
 unfoldable pub wroteBy : Ends → (h : ℕ) → Transfer → EndsOutcome
-wroteBy e h t =
-    pick (t .moves)
-    (outcomeOf (e .waits) (isOne h) (t .answer) (fedMoved (isOne h) (own (isOne h) e) (peer (isOne h) e) t) noVisits)
-    (unchangedEnds e (t .answer))
+wroteBy e h t = outcomeBy e h t (fedEffect (own (isOne h) e) (peer (isOne h) e) t)
 
--- what the function says that writes: which numbers it gives, and that their outcome is that of the write
-pub record TransferWrote (e : Ends) (h : ℕ) (src ring ring′ table table′ : List ℕ) (t : Transfer) : Type 0 where
-  pub changes : t ≡ wroteTransfer e h (t .answer)
-  pub outcome : EndsWrote e h src ring ring′ table table′ (wroteBy e h t)
+-- t is what a write of m bytes by end `own` changes
+abbrev pub Fed : (datagram : Bool) → (C : ℕ) → (own peer : Endpoint) → (m : ℕ) → Transfer → Type 0
+Fed datagram C own peer m t = Changes (eqb m 0) (peer .queue) (fedEffect own peer t) (writeEffect datagram C own peer m) t
+
+-- the same for the end of handle h, by the answer of t
+abbrev pub WriteChanges : Ends → (h : ℕ) → Transfer → Type 0
+WriteChanges e h t = Fed (e .datagram) (e .capacity) (own (isOne h) e) (peer (isOne h) e) (countOf (t .answer)) t
+
+-- what the code that puts m bytes into a queue relies on; an answer above 0 shows it
+pub record Feed (datagram : Bool) (C : ℕ) (q : Queue) (m : ℕ) (src ring table : List ℕ) : Type 0 where
+  pub small : C ≤ 262144
+  pub start : q .bytes .start < C
+  pub fits : q .bytes .count + m ≤ C
+  pub has : m ≤ length src
+  pub long : C ≤ length ring
+  pub first : q .lengths .start < C
+  pub lengths : datagram ≡ true → q .lengths .count < C
+  pub wide : datagram ≡ true → C ≤ length table
+
+-- A write of src by the end of handle h; ring and table are the peer's.
+pub record Wrote (e : Ends) (h : ℕ) (src ring ring′ table table′ : List ℕ) (t : Transfer) : Type 0 where
+  pub answer : t .answer ≡ writeAnswer e (lentOf (e .datagram) (peer (isOne h) e .queue) ring table) h (length src)
+  pub changes : WriteChanges e h t
+  pub bytes : ring′ ≡ ringWritten e h (countOf (t .answer)) src ring
+  pub lengths : table′ ≡ tableWritten e h (countOf (t .answer)) table

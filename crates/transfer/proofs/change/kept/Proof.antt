@@ -1,5 +1,5 @@
 use mathlib.Core.Path.{_≡_, refl, sym, ap, _∙_}
-use Rattle.transfer.specs.change.NoChange.{keptTransfer}
+use Rattle.transfer.specs.change.Changes.{keptTransfer}
 use Rattle.transfer.proofs.change.kept.Statement.{statement}
 use Rattle.transfer.proofs.change.kept.Tie as tie
 

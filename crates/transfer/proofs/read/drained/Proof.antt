@@ -1,6 +1,7 @@
 use mathlib.Core.Path.{_≡_, refl, sym, ap, _∙_}
 use native.Mathlib.Omega.{arith}
-use Rattle.transfer.specs.read.ReadChange.{drainedTransfer}
+use Rattle.definition.specs.Read.{readEffect}
+use Rattle.transfer.specs.read.ReadChange.{drainedEffect}
 use borrow.Author.Needs.{needs}
 use Rattle.transfer.proofs.read.drained.Statement.{statement}
 use Rattle.transfer.proofs.read.drained.Tie as tie
@@ -21,8 +22,8 @@ drained-queue-requires : tie.Need-drained-queue-requires
 drained-queue-requires c κs = search needs
 
 returns : tie.Need-returns
-unfolding drainedTransfer
-returns c = rw (← c .before .before .before .lost-by-reader .ensures, ← c .before .gained-by-writer .ensures, ← c .drained-queue .ensures) refl
+unfolding drainedEffect readEffect
+returns c = (refl, refl, rw (← c .before .before .before .lost-by-reader .ensures, ← c .before .gained-by-writer .ensures, ← c .drained-queue .ensures) refl)
 
 pub drained-spec : {M : Type 1} → statement M
 drained-spec =

@@ -1,5 +1,6 @@
 use mathlib.Core.Path.{_≡_, refl, sym, ap, _∙_}
-use Rattle.transfer.specs.write.WriteChange.{fedTransfer}
+use Rattle.definition.specs.Write.{writeEffect}
+use Rattle.transfer.specs.write.WriteChange.{fedEffect}
 use borrow.Author.Needs.{needs}
 use Rattle.transfer.proofs.write.fed.Statement.{statement}
 use Rattle.transfer.proofs.write.fed.Tie as tie
@@ -20,8 +21,8 @@ fed-queue-requires : tie.Need-fed-queue-requires
 fed-queue-requires c κs = search needs
 
 returns : tie.Need-returns
-unfolding fedTransfer
-returns c = rw (← c .before .before .gained-by-peer .ensures, ← c .before .lost-by-writer .ensures, ← c .fed-queue .ensures) refl
+unfolding fedEffect writeEffect
+returns c = (refl, refl, rw (← c .before .before .gained-by-peer .ensures, ← c .before .lost-by-writer .ensures, ← c .fed-queue .ensures) refl)
 
 pub fed-spec : {M : Type 1} → statement M
 fed-spec =

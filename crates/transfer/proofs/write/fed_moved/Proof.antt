@@ -1,5 +1,8 @@
 use mathlib.Core.Path.{_≡_, refl, sym, ap, _∙_}
-use Rattle.transfer.specs.write.WriteChange.{fedMoved}
+use Rattle.definition.specs.Effect.{keepingWaits}
+use Rattle.definition.specs.Pair.{withQueue}
+use Rattle.endpoint.specs.ends.AtOnce.{ownChanged, peerChanged, ownAfter, peerAfter, movedBy}
+use Rattle.transfer.specs.write.WriteChange.{fedEffect}
 use borrow.Author.Needs.{needs}
 use Rattle.transfer.proofs.write.fed_moved.Statement.{statement}
 use Rattle.transfer.proofs.write.fed_moved.Tie as tie
@@ -23,8 +26,11 @@ fed-visits-requires : tie.Need-fed-visits-requires
 fed-visits-requires c κs = search needs
 
 returns : tie.Need-returns
-unfolding fedMoved
-returns c = rw (← c .before .before .before .before .before .with-queue .ensures, ← c .before .before .before .before .changed .ensures, ← c .before .before .before .with-signals .ensures, ← c .before .before .changed2 .ensures, ← c .before .with-signals2 .ensures, ← c .fed-visits .ensures) refl
+unfolding fedEffect keepingWaits movedBy ownAfter peerAfter ownChanged peerChanged withQueue
+returns c =
+    rw
+    (c .before .before .before .with-signals .ensures, c .before .before .before .before .changed .ensures, c .before .with-signals2 .ensures, c .before .before .changed2 .ensures, c .before .before .before .before .before .with-queue .ensures, c .fed-visits .ensures)
+    refl
 
 pub fed-moved-spec : {M : Type 1} → statement M
 fed-moved-spec =

@@ -1,0 +1,30 @@
+use mathlib.Core.Path.{refl}
+use Rattle.endpoint.proofs.answer.Rules.{pick-on, pick-off, via}
+use borrow.Author.Needs.{needs}
+use Rattle.transfer.proofs.user_memory.land_none.Statement.{statement}
+use Rattle.transfer.proofs.user_memory.land_none.Tie as tie
+
+is-done-requires : tie.Need-is-done-requires
+is-done-requires c κs = search needs
+
+land-count-requires : tie.Need-land-count-requires
+land-count-requires c κs = search needs
+
+same-length : tie.Need-same-length
+same-length c = search needs
+
+returns : tie.Need-returns
+returns c = pick-on _ _ _ _ _ (via (c .before .before .before .before .before .is-done .ensures) (c .before .before .before .before .if1 .taken)) (c .before .before .land-count .ensures)
+
+returns-2 : tie.Need-returns-2
+returns-2 c = pick-off _ _ _ _ _ (via (c .before .is-done .ensures) (c .if1 .left)) refl
+
+pub land-none-spec : {M : Type 1} → statement M
+land-none-spec =
+    tie.close
+    (tie.spec
+    is-done-requires
+    land-count-requires
+    same-length
+    returns
+    returns-2)
