@@ -35,11 +35,11 @@ unfoldable pub movedLast : Bool → Effect → Moved
 movedLast t e = record { own = movedBy t e .own; peer = movedBy t e .peer; visits = moreBy t e }
 
 -- The outcome of a call that is done. Where it drops waits, it looks at the table wherever there are any.
-unfoldable pub outcomeBy : (waits : ℕ) → Bool → Answer → Effect → EndsOutcome
-outcomeBy waits t a e =
+unfoldable pub doneOutcome : (waits : ℕ) → Bool → Answer → Effect → EndsOutcome
+doneOutcome waits t a e =
     let r : EndsOutcome = outcomeOf waits t a (movedBy t e) (moreBy t e) in
     record { one = r .one; two = r .two; answer = r .answer; fires = pick (e .drops) (not (eqb waits 0)) (r .fires); visits = r .visits; more = r .more }
 
 -- the outcome of a call by its answer: a refused call changes nothing
 unfoldable pub movedIf : Ends → (h : ℕ) → Answer → Effect → EndsOutcome
-movedIf ends h a e = pick (isDone a) (outcomeBy (ends .waits) (isOne h) a e) (unchangedEnds ends a)
+movedIf ends h a e = pick (isDone a) (doneOutcome (ends .waits) (isOne h) a e) (unchangedEnds ends a)

@@ -17,7 +17,7 @@ ghost use Rattle.definition.specs.Pair.{isOne, own, peer};
 ghost use Rattle.definition.specs.Effect.{ownWord};
 ghost use Rattle.definition.specs.Disposition.{disposeAnswer, writing, disposeEffect};
 ghost use Rattle.endpoint.specs.ends.AtOnce.{movedBy};
-ghost use Rattle.control.specs.ByEffect.{visitAt, movedLast, outcomeBy, movedIf};
+ghost use Rattle.control.specs.ByEffect.{visitAt, movedLast, doneOutcome, movedIf};
 
 // The writing of an end, disabled or enabled.
 fn writing_visit(one: bool, word: u32, off: bool) -> Pending
@@ -90,7 +90,7 @@ fn peer_moved(one: bool, own: Endpoint, peer: Endpoint, d: Disposition) -> Moved
 
 // Own first, then peer.
 fn disposed_ends(e: Ends, one: bool, answer: Answer, d: Disposition, f: Disposition) -> EndsOutcome
-    ensures { λ r. ⌜ r ≡ outcomeBy (e .waits) one answer (disposeEffect (own one e) (peer one e) d f) ⌝ }
+    ensures { λ r. ⌜ r ≡ doneOutcome (e .waits) one answer (disposeEffect (own one e) (peer one e) d f) ⌝ }
 {
     let m = own_moved(
         one,

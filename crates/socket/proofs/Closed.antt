@@ -21,7 +21,7 @@ use Rattle.port.proofs.waits.Sound.{sound-drop}
 use Rattle.endpoint.specs.declared.ends.Visits.{Visits}
 use Rattle.endpoint.specs.declared.ends.EndsOutcome.{EndsOutcome}
 use Rattle.endpoint.specs.ends.Outcome.{canFire, outcomeOf}
-use Rattle.control.specs.ByEffect.{outcomeBy}
+use Rattle.control.specs.ByEffect.{doneOutcome}
 use Rattle.socket.specs.Deferred.{visitedPair, visitedAll, withEnds, withOutcome, settledStep, withoutWaits, closedWaits, settledClose}
 use Rattle.socket.proofs.Visiting.{applied-from, cannot-fire, settled-pair}
 
@@ -72,8 +72,8 @@ closing t r p q l f g =
     ∙ g)
 
 pub settled-dropping : (t : Bool) (e : Effect) (a : Answer) (p : Pair) → length (p .places .table) ≡ 128 → e .drops ≡ true → length (e .changes) ≤ 4 → sound (p .places) ≡ true
-    → settledClose t (outcomeBy (p .places .waits) t a e) p ≡ record { pair = applied t e p; answer = a }
-unfolding outcomeBy outcomeOf visitedAll withoutWaits withEnds withPlaces
+    → settledClose t (doneOutcome (p .places .waits) t a e) p ≡ record { pair = applied t e p; answer = a }
+unfolding doneOutcome outcomeOf visitedAll withoutWaits withEnds withPlaces
 settled-dropping t e a p l d n s =
-    closing t (outcomeBy (p .places .waits) t a e) p _ l (taken (e .drops) _ _ d)
+    closing t (doneOutcome (p .places .waits) t a e) p _ l (taken (e .drops) _ _ d)
     (applied-from t e p (dropOf t (p .places) .places) (taken (e .drops) _ _ d ∙ dropped t p s) (sound-drop (p .places) s t) n)

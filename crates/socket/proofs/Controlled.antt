@@ -23,7 +23,7 @@ use Rattle.endpoint.specs.ends.Outcome.{unchangedEnds}
 use Rattle.endpoint.specs.ends.AtOnce.{movedBy, moreBy}
 use Rattle.endpoint.proofs.answer.Chains.{then-both}
 use Rattle.answers.proofs.tests.Sound.{opening-passed}
-use Rattle.control.specs.ByEffect.{outcomeBy, movedIf}
+use Rattle.control.specs.ByEffect.{doneOutcome, movedIf}
 use Rattle.control.proofs.ends.Outcomes.{by-kept, refused, done}
 use Rattle.socket.specs.Deferred.{withEnds, settledStep, settledClose}
 use Rattle.socket.proofs.Visiting.{applied-last, settled-last}
@@ -37,11 +37,11 @@ abbrev settledBy : (drops t : Bool) → EndsOutcome → Pair → Step
 settledBy d t r p = pick d (settledClose t r p) (settledStep r p)
 
 settled-by : (t : Bool) (e : Effect) (a : Answer) (p : Pair) → length (p .places .table) ≡ 128 → length (e .changes) ≤ 4 → sound (p .places) ≡ true
-    → settledBy (e .drops) t (outcomeBy (p .places .waits) t a e) p ≡ record { pair = applied t e p; answer = a }
+    → settledBy (e .drops) t (doneOutcome (p .places .waits) t a e) p ≡ record { pair = applied t e p; answer = a }
 unfolding pick
 settled-by t e a p l n s = by (e .drops) refl
   where
-    by : (d : Bool) → e .drops ≡ d → settledBy d t (outcomeBy (p .places .waits) t a e) p ≡ record { pair = applied t e p; answer = a }
+    by : (d : Bool) → e .drops ≡ d → settledBy d t (doneOutcome (p .places .waits) t a e) p ≡ record { pair = applied t e p; answer = a }
     by true k = settled-dropping t e a p l k n s
     by false k =
         ap (λ (r : EndsOutcome). settledStep r p) (sym (by-kept (p .places .waits) t a e k))

@@ -11,20 +11,20 @@ use Rattle.definition.specs.Effect.{Effect}
 use Rattle.endpoint.specs.declared.ends.EndsOutcome.{EndsOutcome}
 use Rattle.endpoint.specs.ends.Outcome.{noVisits, outcomeOf, unchangedEnds}
 use Rattle.endpoint.specs.ends.AtOnce.{movedBy, moreBy}
-use Rattle.control.specs.ByEffect.{outcomeBy, movedIf}
+use Rattle.control.specs.ByEffect.{doneOutcome, movedIf}
 
 -- ---- a call that is done
 
 module _ (waits : ℕ) (t : Bool) (a : Answer) (e : Effect) where
   -- one that drops no wait
-  pub by-kept : e .drops ≡ false → outcomeOf waits t a (movedBy t e) (moreBy t e) ≡ outcomeBy waits t a e
-  unfolding outcomeBy outcomeOf pick
+  pub by-kept : e .drops ≡ false → outcomeOf waits t a (movedBy t e) (moreBy t e) ≡ doneOutcome waits t a e
+  unfolding doneOutcome outcomeOf pick
   by-kept k = rw k refl
 
   -- one that drops waits
   pub by-dropped : (r : EndsOutcome) → e .drops ≡ true → r ≡ outcomeOf waits t a (movedBy t e) (moreBy t e)
-      → record { one = r .one; two = r .two; answer = r .answer; fires = not (eqb waits 0); visits = r .visits; more = r .more } ≡ outcomeBy waits t a e
-  unfolding outcomeBy pick
+      → record { one = r .one; two = r .two; answer = r .answer; fires = not (eqb waits 0); visits = r .visits; more = r .more } ≡ doneOutcome waits t a e
+  unfolding doneOutcome pick
   by-dropped r k q = rw (q, k) refl
 
 -- ---- a call by its answer
@@ -34,7 +34,7 @@ module _ (e : Ends) (h : ℕ) (x g : Answer) (f : Effect) (p : x ≡ g) where
   unfolding movedIf pick
   refused d = rw (← p, d)
 
-  pub done : isDone x ≡ true → outcomeBy (e .waits) (isOne h) x f ≡ movedIf e h g f
+  pub done : isDone x ≡ true → doneOutcome (e .waits) (isOne h) x f ≡ movedIf e h g f
   unfolding movedIf pick
   done d = rw (← p, d)
 

@@ -16,7 +16,7 @@ use Rattle.endpoint.specs.declared.ends.Pending.{Pending}
 use Rattle.endpoint.specs.declared.ends.Moved.{Moved}
 use Rattle.endpoint.specs.ends.Outcome.{noVisit, outcomeOf, keptEnds}
 use Rattle.endpoint.specs.ends.AtOnce.{ownChanged, peerChanged, visitOf, ownAfter, peerAfter, visitsOf, firstTwo, movedBy, moreBy}
-use Rattle.control.specs.ByEffect.{visitAt, changedEnd, movedLast, outcomeBy}
+use Rattle.control.specs.ByEffect.{visitAt, changedEnd, movedLast, doneOutcome}
 use Rattle.control.proofs.ends.Outcomes.{by-kept}
 
 -- the two ends with their visits
@@ -131,7 +131,7 @@ disposing t false a b Enable Enable e = rw e (refl, refl)
 
 pub disposed-by : (waits : ℕ) (t : Bool) (x : Answer) (a b : Endpoint) (d f : Disposition)
     → outcomeOf waits t x (record { own = afterOwn t a b d f .own; peer = afterOwn t a b d f .peer; visits = movedBy t (disposeEffect a b d Unchanged) .visits }) (afterOwn t a b d f .visits)
-    ≡ outcomeBy waits t x (disposeEffect a b d f)
+    ≡ doneOutcome waits t x (disposeEffect a b d f)
 unfolding disposeEffect keepingWaits
 disposed-by waits t x a b d f =
     let k = disposing t (b .closed) a b d f refl in
