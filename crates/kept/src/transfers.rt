@@ -1,4 +1,4 @@
-// A pair that is kept behind a reference: the next pair of a plain write and of a plain read, stored there, and its waits visited.
+// A pair that is kept behind a reference: the next pair of a write and of a read, stored there, and its waits visited.
 use definition::Pair;
 use transfer::change::Transfer;
 ghost use mathlib.Core.Path.{_≡_};
@@ -44,8 +44,8 @@ pub fn read(p: &mut Pair, handle: u32, t: Transfer) -> i64
     w
 }
 
-// The same for a write and a read over user memory. They stand here a second time because the compiler inlines a function that is called in one place:
-// shared, a plain write and read of 64 bytes took 53 ns and not 42.
+// The same for a write over user memory. It stands here a second time because the compiler inlines a function that is called in one place: shared, a
+// plain write and read of 64 bytes took 53 ns and not 42.
 pub fn user_wrote(p: &mut Pair, handle: u32, t: Transfer) -> i64
     ensures { λ w. ⌜ (w ≡ answerWord (t .answer)) × (now (p .exit) ≡ settledStep (wroteBy (endsOf (now (p .entry))) handle t) (now (p .entry)) .pair) ⌝ }
 {
@@ -59,6 +59,7 @@ pub fn user_wrote(p: &mut Pair, handle: u32, t: Transfer) -> i64
     w
 }
 
+// The same for a read over user memory.
 pub fn user_read(p: &mut Pair, handle: u32, t: Transfer) -> i64
     ensures { λ w. ⌜ (w ≡ answerWord (t .answer)) × (now (p .exit) ≡ settledStep (readBy (endsOf (now (p .entry))) handle t) (now (p .entry)) .pair) ⌝ }
 {

@@ -5,13 +5,12 @@ use mathlib.Core.Path.{_≡_, refl, sym, ap, _∙_}
 use mathlib.Core.Bool.{Bool, true, false}
 use mathlib.Core.List.{List, [], _∷_, _++_, append-assoc}
 use native.Mathlib.Omega.{arith}
-use lib.ListN.{length, take, drop, length-take, length-drop}
+use lib.ListN.{length, take, drop}
 use lib.Seq.{paste, paste-zero, take-all, drop-at, take-at, length-take-le}
 use lib.Dec.{eqb}
 use borrow.Author.Tests.{eqb-true, eqb-false}
 use Rattle.definition.specs.declared.Answer.{Answer}
 use Rattle.definition.specs.Status.{pick, countOf}
-use Rattle.endpoint.proofs.answer.Chains.{counted}
 use Rattle.definition.specs.Ring.{front}
 use Rattle.ring.proofs.copy.Laws.{length-front}
 use Rattle.definition.specs.Read.{bufferRead as endsBufferRead, readAnswer, bufferRead, userReadAnswer, bytesLanded}
@@ -19,8 +18,7 @@ use Rattle.transfer.proofs.read.Moved.{read-drains}
 use Rattle.definition.specs.declared.Pair.{Pair}
 use Rattle.definition.specs.Pair.{isOne, endsOf, own}
 use Rattle.definition.specs.Tests.{lentOf}
-use Rattle.syscall.proofs.Passed.{read-passed}
-use Rattle.syscall.proofs.Calls.{read-room}
+use Rattle.transfer.proofs.user_memory.Landed.{read-room, user-delivers}
 
 -- ---- lists
 
@@ -57,7 +55,7 @@ unfolding endsBufferRead
 buffer-back p h ring table buffer x e =
     back buffer (front (p .capacity) (own (isOne h) (endsOf p) .queue .bytes .start) (countOf x) ring) 0 (countOf x) (eqb (countOf x) 0) refl
     (λ f.
-    let d = read-drains (endsOf p) h ring table buffer x (countOf x) e refl (eqb-false (countOf x) 0 f) in
+    let d = read-drains (endsOf p) h ring table (length buffer) x (countOf x) e refl (eqb-false (countOf x) 0 f) in
     let has = length-front (p .capacity) (own (isOne h) (endsOf p) .queue .bytes .start) (countOf x) ring (d .drain .start) (d .most) (d .long) in
     (omega (arith, d .fits), omega (arith, has)))
 
@@ -73,11 +71,7 @@ module _ (p : Pair) (h base options address n countAt : ℕ) (ring table memory 
       back memory (front (p .capacity) (own (isOne h) (endsOf p) .queue .bytes .start) (countOf x) ring) (address - base) (countOf x) (eqb (countOf x) 0) refl
       (λ f.
       let z = eqb-false (countOf x) 0 f in
-      let w = read-passed p _ h base (length memory) options address n countAt x e (counted x z) in
-      let room = read-room p h base options address n countAt ring table memory x e z in
-      let part : List ℕ = take n (drop (address - base) memory) in
-      let size : length part ≡ n = simp (length-take, length-drop) (omega (arith, room .1)) in
-      let lent = lentOf (p .datagram) (own (isOne h) (endsOf p) .queue) ring table in
-      let d = read-drains (endsOf p) h ring table part x (countOf x) (w .plain ∙ ap (readAnswer (endsOf p) lent h) (sym size)) refl z in
+      let room = read-room (endsOf p) h base options address n countAt ring table memory x e z in
+      let d = user-delivers (endsOf p) h base options address n countAt ring table memory x e (countOf x) refl z in
       let has = length-front (p .capacity) (own (isOne h) (endsOf p) .queue .bytes .start) (countOf x) ring (d .drain .start) (d .most) (d .long) in
-      (omega (arith, w .most, room .1), omega (arith, has)))
+      (omega (arith, d .fits, room .1), omega (arith, has)))

@@ -44,7 +44,7 @@ use denote.Triple.Clauses.{ensured, lasts}
 use Rattle.definition.specs.Status.{answerWord}
 use Rattle.definition.specs.declared.Ends.{Ends}
 use Rattle.transfer.specs.declared.change.Transfer.{Transfer}
-use Rattle.transfer.specs.read.ReadChange.{readBy, TransferRead}
+use Rattle.transfer.specs.read.ReadChange.{readBy, Read}
 use Rattle.definition.specs.declared.Pair.{Pair}
 use Rattle.definition.specs.declared.Step.{Step}
 use Rattle.definition.proofs.Pair as T
@@ -149,7 +149,7 @@ module _ {M : Type 1} (𝓤 : URA M) (H : Heap 𝓤) (A : Atoms 𝓤) (W : Given
         move ! (36 ∷ 33 ∷ 32 ∷ 30 ∷ []) $ join ! $ join ! $ join ! $ use1 W (raw (Called 𝓤 H A at-mem run .pre (to-step y₈ v₈))) (goes-step y₈ v₈ s₈ g₁) $
         calls-at ! fm (Called 𝓤 H A at-mem run) known-step (to-step y₈ v₈) (and-then ! (load ! (from ! (stop !)) (look ! 13 refl)) (and-then ! (load ! (from ! (stop !)) (look ! 25 refl)) (and-then ! (load ! (from ! (stop !)) (look ! 23 refl)) (and-then ! (load ! (from ! (stop !)) (look ! 21 refl)) (and-then ! (load ! (from ! (stop !)) (look ! 19 refl)) (and-then ! (load ! (from ! (stop !)) (look ! 7 refl)) (no-more !))))))) (λ v₇.
         use1 W (later (some (λ (y₇ : Transfer). ((‵ (flft κ₁ q₁) ⊛ ‵ (flft κ₂ q₂) ⊛ ‵ (flft κ₃ q₃) ⊛ ‵ ftrue) ⊛ ‵ (K.the-row .own y₇ (v₇ ∷ []))) ⊛ raw (ensured 𝓤 H A step.ended (step.clauses 𝓤 H A at-mem run) (κ₁, (κ₂, (κ₃, tt))) (y₈, (x₁, (x₂, (x₃, (x₄, (r₅, tt)))))) tt y₇)))) (id⊢ 𝓤 _) $ await ! tt $ pick ! (λ y₇. split ! $ move ! (1 ∷ []) $
-        use1 W (some (λ (zs : (Unit {0} × (Unit {0} × (Unit {0} × (Unit {0} × (Unit {0} × (List ℕ × Unit {0}))))))). ‵ (lasts step.ended (κ₁, (κ₂, (κ₃, tt))) (y₈, (x₁, (x₂, (x₃, (x₄, (r₅, tt)))))) zs) ⊛ raw (fact 𝓤 (TransferRead y₈ x₁ x₂ (x₃ .now) (x₄ .now) ys₅ (zs .1 .1 .1 .1 .1 .0) y₇)))) (id⊢ 𝓤 _) $ pick ! (λ zs. split ! $ move ! (1 ∷ []) $ heard ! (TransferRead y₈ x₁ x₂ (x₃ .now) (x₄ .now) ys₅ (zs .1 .1 .1 .1 .1 .0) y₇) (λ e₇.
+        use1 W (some (λ (zs : (Unit {0} × (Unit {0} × (Unit {0} × (Unit {0} × (Unit {0} × (List ℕ × Unit {0}))))))). ‵ (lasts step.ended (κ₁, (κ₂, (κ₃, tt))) (y₈, (x₁, (x₂, (x₃, (x₄, (r₅, tt)))))) zs) ⊛ raw (fact 𝓤 (Read y₈ x₁ x₂ (x₃ .now) (x₄ .now) ys₅ (zs .1 .1 .1 .1 .1 .0) y₇)))) (id⊢ 𝓤 _) $ pick ! (λ zs. split ! $ move ! (1 ∷ []) $ heard ! (Read y₈ x₁ x₂ (x₃ .now) (x₄ .now) ys₅ (zs .1 .1 .1 .1 .1 .0) y₇) (λ e₇.
         fsplit ! $ move ! (1 ∷ []) $ fsplit ! $ move ! (1 ∷ []) $ fsplit ! $ move ! (1 ∷ []) $ fsplit ! $ move ! (1 ∷ []) $ fsplit ! $ move ! (1 ∷ []) $ fsplit ! $ fsplit ! $ move ! (1 ∷ []) $ feqL ! (λ len₅. move ! (7 ∷ []) $ split ! $ move ! (1 ∷ []) $
         peeks ! K.the-row (Is K.the-row) (shows 𝓤 H A K.the-row) y₇ (v₇ ∷ []) (λ s₇. land ! (from ! (stop !)) (fills ! 23 K.the-row (transfer-lawful 𝓤 H A at-mem run W) y₇ v₇ s₇ refl refl) $ drop ! $
         owned ! T.the-row (Is T.the-row) ((LL.makes T.the-type T′.the-plain) 𝓤 H A) h (vh ∷ []) was $ move ! (9 ∷ 0 ∷ 10 ∷ 11 ∷ 12 ∷ []) $ closes ! tt T.the-row h (vh ∷ []) b o $
@@ -157,7 +157,7 @@ module _ {M : Type 1} (𝓤 : URA M) (H : Heap 𝓤) (A : Atoms 𝓤) (W : Given
         land ! (from ! (stop !)) (init ! 36 refl (sint-lawful 𝓤 H A W w64 .typed z₀ _ i₀ .0)) $
         returns ! (look ! 36 refl) $
         move ! (36 ∷ 37 ∷ []) $ frees-cell ! $ move ! (34 ∷ 35 ∷ []) $ frees-cell ! $ move ! (32 ∷ 33 ∷ []) $ frees-cell ! $ move ! (30 ∷ 31 ∷ []) $ frees-cell ! $ move ! (28 ∷ 29 ∷ []) $ frees-cell ! $ move ! (26 ∷ 27 ∷ []) $ frees-cell ! $ move ! (24 ∷ 25 ∷ []) $ frees-cell ! $ move ! (22 ∷ 23 ∷ []) $ frees-cell ! $ move ! (20 ∷ 21 ∷ []) $ frees-cell ! $ move ! (18 ∷ 19 ∷ []) $ frees-cell ! $ move ! (16 ∷ 17 ∷ []) $ frees-cell ! $ move ! (14 ∷ 15 ∷ []) $ frees-cell ! $ move ! (12 ∷ 13 ∷ []) $ frees-cell ! $ free0 ! $
-        keep ! (2 ∷ 1 ∷ 4 ∷ 5 ∷ 0 ∷ []) $ by ! (exits (ws .0) z₀ v₀ (zs .1 .1 .1 .1 .1 .0) (record { answer = readBy y₈ x₁ y₇ .answer; word = e₀ .0 ∙ ap answerWord (read-answer y₈ x₁ y₇); kept = subst (λ (k : Step). Reads h x₁ x₂ (x₃ .now) (x₄ .now) ys₅ (zs .1 .1 .1 .1 .1 .0) k) (settled-as (readBy y₈ x₁ y₇) h (ws .0) (passed-on (readBy y₈ x₁ y₇) (readBy (endsOf h) x₁ y₇) h (ws .0) (ap (λ (k : Ends). readBy k x₁ y₇) (sym e₈)) (e₀ .1))) (read-whole h x₁ x₂ (x₃ .now) (x₄ .now) ys₅ (zs .1 .1 .1 .1 .1 .0) y₈ (readBy y₈ x₁ y₇) (places-128 h _ was) e₈ (e₇ .outcome)) }) len₅))))))))))))))))))))))))
+        keep ! (2 ∷ 1 ∷ 4 ∷ 5 ∷ 0 ∷ []) $ by ! (exits (ws .0) z₀ v₀ (zs .1 .1 .1 .1 .1 .0) (record { answer = readBy y₈ x₁ y₇ .answer; word = e₀ .0 ∙ ap answerWord (read-answer y₈ x₁ y₇); kept = subst (λ (k : Step). Reads h x₁ x₂ (x₃ .now) (x₄ .now) ys₅ (zs .1 .1 .1 .1 .1 .0) k) (settled-as (readBy y₈ x₁ y₇) h (ws .0) (passed-on (readBy y₈ x₁ y₇) (readBy (endsOf h) x₁ y₇) h (ws .0) (ap (λ (k : Ends). readBy k x₁ y₇) (sym e₈)) (e₀ .1))) (read-whole h x₁ x₂ (x₃ .now) (x₄ .now) ys₅ (zs .1 .1 .1 .1 .1 .0) y₈ y₇ (places-128 h _ was) e₈ e₇) }) len₅))))))))))))))))))))))))
 
 module _ {M : Type 1} (𝓤 : URA M) (H : Heap 𝓤) (A : Atoms 𝓤) (W : Given 𝓤 H A) (at-mem : Memory → SProp 𝓤) (run : Routine → Fun 𝓤) where
   walks : (C : Calls 𝓤 H) (Λ : Loops 𝓤 H) → FmC 𝓤 H (W .laws) C → Triple 𝓤 (C #step) (Called 𝓤 H A at-mem run) → Triple 𝓤 (C #ends) (ends-contract 𝓤 H A at-mem run) → Triple 𝓤 (C #read) (read-contract 𝓤 H A at-mem run) → Walks 𝓤 H A f.ended stayed (WpFn 𝓤 H C Λ code.function) (f.clauses 𝓤 H A at-mem run)

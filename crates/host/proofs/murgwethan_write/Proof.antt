@@ -43,7 +43,7 @@ use denote.Triple.Clauses.{ensured, lasts}
 use Rattle.definition.specs.Status.{answerWord}
 use Rattle.definition.specs.declared.Ends.{Ends}
 use Rattle.transfer.specs.declared.change.Transfer.{Transfer}
-use Rattle.transfer.specs.write.WriteChange.{wroteBy, TransferWrote}
+use Rattle.transfer.specs.write.WriteChange.{wroteBy, Wrote}
 use Rattle.definition.specs.declared.Pair.{Pair}
 use Rattle.definition.specs.declared.Step.{Step}
 use Rattle.definition.proofs.Pair as T
@@ -152,7 +152,7 @@ module _ {M : Type 1} (𝓤 : URA M) (H : Heap 𝓤) (A : Atoms 𝓤) (W : Given
         move ! (37 ∷ 35 ∷ 34 ∷ 32 ∷ []) $ join ! $ join ! $ join ! $ use1 W (raw (Called 𝓤 H A at-mem run .pre (to-step y₇ v₇))) (goes-step y₇ v₇ s₇ g₁) $
         calls-at ! fm (Called 𝓤 H A at-mem run) known-step (to-step y₇ v₇) (and-then ! (load ! (from ! (stop !)) (look ! 17 refl)) (and-then ! (load ! (from ! (stop !)) (look ! 27 refl)) (and-then ! (load ! (from ! (stop !)) (look ! 11 refl)) (and-then ! (load ! (from ! (stop !)) (look ! 7 refl)) (and-then ! (load ! (from ! (stop !)) (look ! 21 refl)) (no-more !)))))) (λ v₆.
         use1 W (later (some (λ (y₆ : Transfer). ((‵ (flft κ₁ q₁) ⊛ ‵ (flft κ₂ q₂) ⊛ ‵ (flft κ₃ q₃) ⊛ ‵ ftrue) ⊛ ‵ (K.the-row .own y₆ (v₆ ∷ []))) ⊛ raw (ensured 𝓤 H A step.ended (step.clauses 𝓤 H A at-mem run) (κ₁, (κ₂, (κ₃, tt))) (y₇, (x₁, (r₂, (r₃, (x₄, tt))))) tt y₆)))) (id⊢ 𝓤 _) $ await ! tt $ pick ! (λ y₆. split ! $ move ! (1 ∷ []) $
-        use1 W (some (λ (zs : (Unit {0} × (Unit {0} × (List ℕ × (List ℕ × (Unit {0} × Unit {0})))))). ‵ (lasts step.ended (κ₁, (κ₂, (κ₃, tt))) (y₇, (x₁, (r₂, (r₃, (x₄, tt))))) zs) ⊛ raw (fact 𝓤 (TransferWrote y₇ x₁ (x₄ .now) ys₂ (zs .1 .1 .0) ys₃ (zs .1 .1 .1 .0) y₆)))) (id⊢ 𝓤 _) $ pick ! (λ zs. split ! $ move ! (1 ∷ []) $ heard ! (TransferWrote y₇ x₁ (x₄ .now) ys₂ (zs .1 .1 .0) ys₃ (zs .1 .1 .1 .0) y₆) (λ e₆.
+        use1 W (some (λ (zs : (Unit {0} × (Unit {0} × (List ℕ × (List ℕ × (Unit {0} × Unit {0})))))). ‵ (lasts step.ended (κ₁, (κ₂, (κ₃, tt))) (y₇, (x₁, (r₂, (r₃, (x₄, tt))))) zs) ⊛ raw (fact 𝓤 (Wrote y₇ x₁ (x₄ .now) ys₂ (zs .1 .1 .0) ys₃ (zs .1 .1 .1 .0) y₆)))) (id⊢ 𝓤 _) $ pick ! (λ zs. split ! $ move ! (1 ∷ []) $ heard ! (Wrote y₇ x₁ (x₄ .now) ys₂ (zs .1 .1 .0) ys₃ (zs .1 .1 .1 .0) y₆) (λ e₆.
         fsplit ! $ move ! (1 ∷ []) $ fsplit ! $ move ! (1 ∷ []) $ fsplit ! $ fsplit ! $ move ! (1 ∷ []) $ feqL ! (λ len₂. move ! (1 ∷ []) $ fsplit ! $ fsplit ! $ move ! (1 ∷ []) $ feqL ! (λ len₃. move ! (1 ∷ []) $ fsplit ! $ move ! (6 ∷ []) $ split ! $ move ! (1 ∷ []) $
         peeks ! K.the-row (Is K.the-row) (shows 𝓤 H A K.the-row) y₆ (v₆ ∷ []) (λ s₆. land ! (from ! (stop !)) (fills ! 26 K.the-row (transfer-lawful 𝓤 H A at-mem run W) y₆ v₆ s₆ refl refl) $ drop ! $
         owned ! T.the-row (Is T.the-row) ((LL.makes T.the-type T′.the-plain) 𝓤 H A) h (vh ∷ []) was $ move ! (8 ∷ 0 ∷ 9 ∷ 10 ∷ 11 ∷ []) $ closes ! tt T.the-row h (vh ∷ []) b o $
@@ -160,7 +160,7 @@ module _ {M : Type 1} (𝓤 : URA M) (H : Heap 𝓤) (A : Atoms 𝓤) (W : Given
         land ! (from ! (stop !)) (init ! 37 refl (sint-lawful 𝓤 H A W w64 .typed z₀ _ i₀ .0)) $
         returns ! (look ! 37 refl) $
         move ! (37 ∷ 38 ∷ []) $ frees-cell ! $ move ! (35 ∷ 36 ∷ []) $ frees-cell ! $ move ! (33 ∷ 34 ∷ []) $ frees-cell ! $ move ! (31 ∷ 32 ∷ []) $ frees-cell ! $ move ! (29 ∷ 30 ∷ []) $ frees-cell ! $ move ! (27 ∷ 28 ∷ []) $ frees-cell ! $ move ! (25 ∷ 26 ∷ []) $ frees-cell ! $ move ! (23 ∷ 24 ∷ []) $ frees-cell ! $ move ! (21 ∷ 22 ∷ []) $ frees-cell ! $ move ! (19 ∷ 20 ∷ []) $ frees-cell ! $ move ! (17 ∷ 18 ∷ []) $ frees-cell ! $ move ! (15 ∷ 16 ∷ []) $ frees-cell ! $ move ! (13 ∷ 14 ∷ []) $ frees-cell ! $ move ! (11 ∷ 12 ∷ []) $ frees-cell ! $ free0 ! $
-        keep ! (2 ∷ 1 ∷ 4 ∷ 8 ∷ 7 ∷ 0 ∷ []) $ by ! (exits (ws .0) z₀ v₀ (zs .1 .1 .0) (zs .1 .1 .1 .0) (record { answer = wroteBy y₇ x₁ y₆ .answer; word = e₀ .0 ∙ ap answerWord (wrote-answer y₇ x₁ y₆); kept = subst (λ (k : Step). Writes h x₁ (x₄ .now) ys₂ (zs .1 .1 .0) ys₃ (zs .1 .1 .1 .0) k) (settled-as (wroteBy y₇ x₁ y₆) h (ws .0) (passed-on (wroteBy y₇ x₁ y₆) (wroteBy (endsOf h) x₁ y₆) h (ws .0) (ap (λ (k : Ends). wroteBy k x₁ y₆) (sym e₇)) (e₀ .1))) (wrote-whole h x₁ (x₄ .now) ys₂ (zs .1 .1 .0) ys₃ (zs .1 .1 .1 .0) y₇ (wroteBy y₇ x₁ y₆) (places-128 h _ was) e₇ (e₆ .outcome)) }) len₂ len₃))))))))))))))))))))))))))
+        keep ! (2 ∷ 1 ∷ 4 ∷ 8 ∷ 7 ∷ 0 ∷ []) $ by ! (exits (ws .0) z₀ v₀ (zs .1 .1 .0) (zs .1 .1 .1 .0) (record { answer = wroteBy y₇ x₁ y₆ .answer; word = e₀ .0 ∙ ap answerWord (wrote-answer y₇ x₁ y₆); kept = subst (λ (k : Step). Writes h x₁ (x₄ .now) ys₂ (zs .1 .1 .0) ys₃ (zs .1 .1 .1 .0) k) (settled-as (wroteBy y₇ x₁ y₆) h (ws .0) (passed-on (wroteBy y₇ x₁ y₆) (wroteBy (endsOf h) x₁ y₆) h (ws .0) (ap (λ (k : Ends). wroteBy k x₁ y₆) (sym e₇)) (e₀ .1))) (wrote-whole h x₁ (x₄ .now) ys₂ (zs .1 .1 .0) ys₃ (zs .1 .1 .1 .0) y₇ y₆ (places-128 h _ was) e₇ e₆) }) len₂ len₃))))))))))))))))))))))))))
 
 module _ {M : Type 1} (𝓤 : URA M) (H : Heap 𝓤) (A : Atoms 𝓤) (W : Given 𝓤 H A) (at-mem : Memory → SProp 𝓤) (run : Routine → Fun 𝓤) where
   walks : (C : Calls 𝓤 H) (Λ : Loops 𝓤 H) → FmC 𝓤 H (W .laws) C → Triple 𝓤 (C #step) (Called 𝓤 H A at-mem run) → Triple 𝓤 (C #ends) (ends-contract 𝓤 H A at-mem run) → Triple 𝓤 (C #wrote) (wrote-contract 𝓤 H A at-mem run) → Walks 𝓤 H A f.ended stayed (WpFn 𝓤 H C Λ code.function) (f.clauses 𝓤 H A at-mem run)

@@ -15,8 +15,8 @@ use Rattle.definition.specs.Pair.{isOne, peer, endsOf}
 use Rattle.definition.specs.Tests.{lentOf}
 use Rattle.definition.specs.Memory.{fits, littleEndian, countPut}
 use Rattle.user_answers.proofs.memory.Landed.{fits-in, count-put, count-none, count-out, count-in}
-use Rattle.syscall.proofs.Passed.{write-passed}
-use Rattle.syscall.proofs.Calls.{landed-length}
+use Rattle.transfer.proofs.user_memory.Landed.{landed-length}
+use Rattle.transfer.proofs.user_memory.Passed.{write-passed}
 use Rattle.definition_script.specs.declared.Decoded.{Decoded}
 use Rattle.definition_script.specs.declared.Decoded.the-variants.{Whole, Bad, Cut}
 use Rattle.definition_script.specs.declared.TransferBody.{TransferBody}
@@ -64,7 +64,7 @@ module _ (memory : List ℕ) (z : Rings) (p : Pair) where
       let a : Answer = writeAnswerOf memory z p t in
       cases (List ℕ) (Long (length memory)) (isDone a) _ memory
       (λ d.
-      let w = write-passed p lent (t .handle) BASE (length memory) (t .options) (t .address) (t .count) (t .«count_at») a refl d in
+      let w = write-passed (endsOf p) lent (t .handle) BASE (length memory) (t .options) (t .address) (t .count) (t .«count_at») a refl d in
       ap length (sym (count-put BASE (t .«count_at») (countOf a) memory (w .count))) ∙ put-length BASE (t .«count_at») (countOf a) memory)
       (λ d. refl)
 

@@ -25,7 +25,9 @@ returns c =
     let s = c .before .before .before .before .before .before .before .before .before .before in
     let a = s .args in
     rw (c .settle .ensures, c .before .read-outcome .ensures)
-    (bytes-whole (a .p) (a .handle) (a .base) (a .options) (a .address) (a .count) (a .count-at) _ _ (places-128 (a .p) _ (s .good .0)) (c .before .before .before .before .before .before .ends-of .ensures) (now (a .ring)) (now (a .table)) (now (a .memory)) _ (c .before .before .before .before .read-bytes-transfer .ensures))
+    (bytes-whole (a .p) (a .handle) (a .base) (a .options) (a .address) (a .count) (a .count-at) _ _ (places-128 (a .p) _ (s .good .0))
+    (c .before .before .before .before .before .before .ends-of .ensures) (now (a .ring)) (now (a .table)) (now (a .memory)) _
+    (c .before .before .before .before .read-bytes-transfer .ensures))
 
 pub read-bytes-spec : {M : Type 1} → statement M
 read-bytes-spec = tie.close (tie.spec ends-of-requires read-bytes-transfer-requires read-outcome-requires settle-requires same-length returns)

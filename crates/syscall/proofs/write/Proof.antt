@@ -31,7 +31,10 @@ returns c =
     let s = c .before .before .before .before .before .before .before .before .before .before .before .before .before .before .before .before in
     let a = s .args in
     rw (c .settle .ensures, c .before .write-outcome .ensures)
-    (wrote-whole (a .p) (a .handle) (a .base) (a .options) (a .address) (a .count) (a .count-at) _ _ (places-128 (a .p) _ (s .good .0)) (c .before .before .before .before .before .before .before .before .before .before .before .before .ends-of .ensures) (now (a .memory)) _ (now (a .ring)) _ (now (a .table)) _ (c .before .before .before .before .before .before .before .before .write-transfer .ensures))
+    (wrote-whole (a .p) (a .handle) (a .base) (a .options) (a .address) (a .count) (a .count-at) _ _ (places-128 (a .p) _ (s .good .0))
+    (c .before .before .before .before .before .before .before .before .before .before .before .before .ends-of .ensures) (now (a .memory)) _
+    (now (a .ring)) _ (now (a .table)) _ (c .before .before .before .before .before .before .before .before .write-transfer .ensures))
 
 pub write-spec : {M : Type 1} → statement M
-write-spec = tie.close (tie.spec ends-of-requires write-transfer-requires write-outcome-requires settle-requires same-length same-length-2 same-length-3 returns)
+write-spec = tie.close
+    (tie.spec ends-of-requires write-transfer-requires write-outcome-requires settle-requires same-length same-length-2 same-length-3 returns)

@@ -20,12 +20,14 @@ module _ (none : Bool) (q : Queue) (stands effect : Effect) (t : Transfer) where
   pub kept-changes : (a : Answer) → none ≡ true → t ≡ keptTransfer q a → (t .answer ≡ a) × Changes none q stands effect t
   unfolding keptTransfer
   kept-changes a n e =
-      let same : t .answer ≡ a = ap (λ (x : Transfer). x .answer) e in
-      (same, record {
-        kept = λ _. e ∙ ap (keptTransfer q) (sym same);
-        moves = λ o. absurd (false≢true (sym o ∙ n));
-        moved = λ o. absurd (false≢true (sym o ∙ n));
-      })
+      let same : t .answer ≡ a = ap (λ (x : Transfer). x .answer) e in (
+        same,
+        record {
+          kept = λ _. e ∙ ap (keptTransfer q) (sym same);
+          moves = λ o. absurd (false≢true (sym o ∙ n));
+          moved = λ o. absurd (false≢true (sym o ∙ n));
+        },
+      )
 
   pub moved-changes : none ≡ false → t .moves ≡ true → stands ≡ effect → Changes none q stands effect t
   moved-changes o m e = record { kept = λ n. absurd (false≢true (sym o ∙ n)); moves = λ _. m; moved = λ _. e }

@@ -1,6 +1,6 @@
--- `host::memory::murgwethan_user_write` meets its contract: a walk of its MIR, by hand. The ends are copied out and passed on, and the outcome is stored.
+-- `host::memory::murgwethan_user_write` meets its contract: a walk of its MIR, by hand. The ends are copied out and passed on, and the reference with what changes.
 -- Assumes nothing.
-use mathlib.Core.Path.{_≡_, refl, subst}
+use mathlib.Core.Path.{_≡_, refl, ap, subst, sym, _∙_}
 use Prim.Native.Nat.{ℕ}
 use lib.IntN.{ℤ}
 use lib.ListN.{length}
@@ -40,39 +40,42 @@ use denote.Triple.Spec.{Meets, tripleOf}
 use denote.Triple.Table.{entered, cited}
 use denote.Triple.Walked.{says, Stays, stay-dropped, gave-ref, gave-slice, walkOf, AllGo, goes-dropped, goes-gave-ref, goes-gave-slice, Walks, ends-at, walked, walk-meets}
 use denote.Triple.Clauses.{ensured, lasts}
+use Rattle.definition.specs.Status.{answerWord}
 use Rattle.definition.specs.declared.Ends.{Ends}
-use Rattle.endpoint.specs.declared.ends.EndsOutcome.{EndsOutcome}
+use Rattle.transfer.specs.declared.change.Transfer.{Transfer}
+use Rattle.transfer.specs.write.WriteChange.{wroteBy}
 use Rattle.definition.specs.declared.Pair.{Pair}
 use Rattle.definition.specs.declared.Step.{Step}
 use Rattle.definition.proofs.Pair as T
 use Rattle.definition.proofs.Pair.Laws as T′
-use Rattle.endpoint.proofs.ends.EndsOutcome as K
-use Rattle.endpoint.proofs.ends.EndsOutcome.Laws as K′
+use Rattle.transfer.proofs.change.Transfer as K
+use Rattle.transfer.proofs.change.Transfer.Laws as K′
 use Rattle.definition.proofs.Ends as E
 use Rattle.definition.proofs.Ends.Laws as E′
-use Rattle.kept.proofs.pair.Callees.{pair-one, pair-lawful, outcome-lawful}
+use Rattle.kept.proofs.transfers.Callees.{transfer-lawful}
+use Rattle.kept.proofs.pair.Callees.{pair-one, pair-lawful}
 use Rattle.kept.proofs.steps.Steps.{asks, hands, opened, fills, frees-cell}
-use Rattle.host.proofs.Callees.{ends-lawful, ends-contract, ask-ends}
-use Rattle.kept.proofs.transfers.Callees.{outcome-contract, hand-outcome}
-use Rattle.definition.specs.Pair.{own}
+use Rattle.host.proofs.Callees.{ends-lawful, ends-contract, ask-ends, wrote-contract, hand-wrote}
+use Rattle.definition.specs.Pair.{own, endsOf}
 use Rattle.definition_runs.specs.Exported.{Answered}
 use Rattle.socket.proofs.Visiting.{places-128}
 use Rattle.kept.proofs.pair.Stored.{settled-as}
+use Rattle.kept.proofs.transfers.Stored.{passed-on, wrote-answer}
 use Rattle.definition.specs.Write.{UserWrites}
-use Rattle.syscall.specs.Ends.{EndsUserWrote}
+use Rattle.transfer.specs.user_memory.Transfers.{UserWrote}
 use Rattle.syscall.proofs.Settled.{wrote-whole}
-use Rattle.syscall.proofs.write_ends as step
-use Rattle.syscall.proofs.write_ends.Symbol as step-def
-use Rattle.syscall.proofs.write_ends.Symbol.{name as #step}
-use Rattle.syscall.proofs.write_ends.Met as step-thm
+use Rattle.transfer.proofs.user_memory.write_transfer as step
+use Rattle.transfer.proofs.user_memory.write_transfer.Symbol as step-def
+use Rattle.transfer.proofs.user_memory.write_transfer.Symbol.{name as #step}
+use Rattle.transfer.proofs.user_memory.write_transfer.Met as step-thm
 use Rattle.socket.proofs.ends_of as ends
 use Rattle.socket.proofs.ends_of.Symbol as ends-def
 use Rattle.socket.proofs.ends_of.Symbol.{name as #ends}
 use Rattle.socket.proofs.ends_of.Met as ends-thm
-use Rattle.kept.proofs.pair.outcome as outcome
-use Rattle.kept.proofs.pair.outcome.Symbol as outcome-def
-use Rattle.kept.proofs.pair.outcome.Symbol.{name as #outcome}
-use Rattle.kept.proofs.pair.outcome.Met as outcome-thm
+use Rattle.kept.proofs.transfers.user_wrote as wrote
+use Rattle.kept.proofs.transfers.user_wrote.Symbol as wrote-def
+use Rattle.kept.proofs.transfers.user_wrote.Symbol.{name as #wrote}
+use Rattle.kept.proofs.transfers.user_wrote.Met as wrote-thm
 use Rattle.host.proofs.memory.murgwethan_user_write.Key.{name as #own}
 use Rattle.host.proofs.memory.murgwethan_user_write as f
 use Rattle.host.proofs.memory.murgwethan_user_write.Statement as stated
@@ -138,7 +141,7 @@ module _ {M : Type 1} (𝓤 : URA M) (H : Heap 𝓤) (A : Atoms 𝓤) (W : Given
   goes-step : (j : Ends) (vj : Val) → Is E.the-row j (vj ∷ []) → Is u32 x₁ (vint w32 x₁ ∷ []) → Is u32 x₂ (vint w32 x₂ ∷ []) → Is u64 x₃ (vint w64 x₃ ∷ []) → Is u64 x₅ (vint w64 x₅ ∷ []) → Is u64 x₆ (vint w64 x₆ ∷ []) → Is u64 x₇ (vint w64 x₇ ∷ []) → ent 𝓤 (⋆ 𝓤 H A (((((‵ (flft κ₁ q₁) ⊛ ‵ (flft κ₂ q₂) ⊛ ‵ (flft κ₃ q₃) ⊛ ‵ ftrue) ⊛ ‵ Own₄) ⊛ ‵ Own₈) ⊛ ‵ Own₉) ∷ [])) (Called 𝓤 H A at-mem run .pre (to-step j vj))
   goes-step j vj c₀ c₁ c₂ c₃ c₄ c₅ c₆ = qed W (((((‵ (flft κ₁ q₁) ⊛ ‵ (flft κ₂ q₂) ⊛ ‵ (flft κ₃ q₃) ⊛ ‵ ftrue) ⊛ ‵ Own₄) ⊛ ‵ Own₈) ⊛ ‵ Own₉) ∷ []) ∵ split ! $ split ! $ split ! $ nothing ! $ move ! (4 ∷ 0 ∷ []) $ join ! $ move ! (3 ∷ 0 ∷ []) $ join ! $ owned ! u64 (Is u64) (uint-makes 𝓤 H A W w64) x₇ _ c₆ $ join ! $ owned ! u64 (Is u64) (uint-makes 𝓤 H A W w64) x₆ _ c₅ $ join ! $ owned ! u64 (Is u64) (uint-makes 𝓤 H A W w64) x₅ _ c₄ $ join ! $ move ! (2 ∷ 0 ∷ []) $ join ! $ owned ! u64 (Is u64) (uint-makes 𝓤 H A W w64) x₃ _ c₃ $ join ! $ owned ! u32 (Is u32) (uint-makes 𝓤 H A W w32) x₂ _ c₂ $ join ! $ owned ! u32 (Is u32) (uint-makes 𝓤 H A W w32) x₁ _ c₁ $ join ! $ owned ! E.the-row (Is E.the-row) ((LL.makes E.the-type E′.the-plain) 𝓤 H A) j (vj ∷ []) c₀ $ join ! $ move ! (1 ∷ 0 ∷ []) $ join ! $ frame ! $ done !
 
-  module _ (C : Calls 𝓤 H) (Λ : Loops 𝓤 H) (fm : FmC 𝓤 H (W .laws) C) (known-step : Triple 𝓤 (C #step) (Called 𝓤 H A at-mem run)) (known-ends : Triple 𝓤 (C #ends) (ends-contract 𝓤 H A at-mem run)) (known-outcome : Triple 𝓤 (C #outcome) (outcome-contract 𝓤 H A at-mem run)) where
+  module _ (C : Calls 𝓤 H) (Λ : Loops 𝓤 H) (fm : FmC 𝓤 H (W .laws) C) (known-step : Triple 𝓤 (C #step) (Called 𝓤 H A at-mem run)) (known-ends : Triple 𝓤 (C #ends) (ends-contract 𝓤 H A at-mem run)) (known-wrote : Triple 𝓤 (C #wrote) (wrote-contract 𝓤 H A at-mem run)) where
     walk : Room u8 (length ys₄) → Room u8 (length ys₈) → Room u32 (length ys₉) → ent 𝓤 (onEntry 𝓤 H A f.signature bound (q, (q₁, (q₂, (q₃, tt)))) x at) (WpFn 𝓤 H C Λ code.function (vptr b o ∷ vint w32 x₁ ∷ vint w32 x₂ ∷ vint w64 x₃ ∷ s₄ ∷ vint w64 x₅ ∷ vint w64 x₆ ∷ vint w64 x₇ ∷ s₈ ∷ s₉ ∷ []) Post)
     walk room₄ room₈ room₉ =
         qed W ((‵ (flft κ q) ⊛ (‵ (flft κ₁ q₁) ⊛ ‵ (flft κ₂ q₂) ⊛ ‵ (flft κ₃ q₃) ⊛ ‵ ftrue)) ∷ ‵ (owns (MutRef (named 0) κ T.the-row ∷ u32 ∷ u32 ∷ u64 ∷ MutSlice (named 1) κ₁ u8 ∷ u64 ∷ u64 ∷ u64 ∷ MutSlice (named 2) κ₂ u8 ∷ MutSlice (named 3) κ₃ u32 ∷ []) x at) ∷ []) ∵ split ! $ move ! (2 ∷ []) $ fsplit ! $ move ! (1 ∷ []) $ fsplit ! $ peeks ! u32 (Is u32) (shows 𝓤 H A u32) x₁ (vint w32 x₁ ∷ []) (λ g₁. move ! (1 ∷ []) $ fsplit ! $ peeks ! u32 (Is u32) (shows 𝓤 H A u32) x₂ (vint w32 x₂ ∷ []) (λ g₂. move ! (1 ∷ []) $ fsplit ! $ peeks ! u64 (Is u64) (shows 𝓤 H A u64) x₃ (vint w64 x₃ ∷ []) (λ g₃. move ! (1 ∷ []) $ fsplit ! $ move ! (1 ∷ []) $ fsplit ! $ peeks ! u64 (Is u64) (shows 𝓤 H A u64) x₅ (vint w64 x₅ ∷ []) (λ g₅. move ! (1 ∷ []) $ fsplit ! $ peeks ! u64 (Is u64) (shows 𝓤 H A u64) x₆ (vint w64 x₆ ∷ []) (λ g₆. move ! (1 ∷ []) $ fsplit ! $ peeks ! u64 (Is u64) (shows 𝓤 H A u64) x₇ (vint w64 x₇ ∷ []) (λ g₇. move ! (1 ∷ []) $ fsplit ! $ move ! (1 ∷ []) $ fsplit ! $ move ! (10 ∷ []) $ fsplit3 ! $ drop ! $
@@ -153,19 +156,19 @@ module _ {M : Type 1} (𝓤 : URA M) (H : Heap 𝓤) (A : Atoms 𝓤) (W : Given
         assigns ! (addr ! (from ! (fld ! refl (hop ! (look-in ! 24 (sub ! 0 refl (whole !))) (stop !))))) (from ! (stop !)) (init ! 8 refl (tt, tt)) $ assigns ! (agg ! (and-then ! (load ! (from ! (stop !)) (look ! 8 refl)) (and-then ! (load ! (from ! (fld ! refl (stop !))) (look-in ! 24 (sub ! 1 refl (whole !)))) (no-more !)))) (from ! (stop !)) (init ! 6 refl (tt, (tt, (record { fits = room₉ .0 }, tt)))) $
         move ! (56 ∷ 52 ∷ 48 ∷ 46 ∷ []) $ join ! $ join ! $ join ! $ use1 W (raw (Called 𝓤 H A at-mem run .pre (to-step y₁₂ v₁₂))) (goes-step y₁₂ v₁₂ s₁₂ g₁ g₂ g₃ g₅ g₆ g₇) $
         calls-at ! fm (Called 𝓤 H A at-mem run) known-step (to-step y₁₂ v₁₂) (and-then ! (load ! (from ! (stop !)) (look ! 21 refl)) (and-then ! (load ! (from ! (stop !)) (look ! 41 refl)) (and-then ! (load ! (from ! (stop !)) (look ! 39 refl)) (and-then ! (load ! (from ! (stop !)) (look ! 37 refl)) (and-then ! (load ! (from ! (stop !)) (look ! 15 refl)) (and-then ! (load ! (from ! (stop !)) (look ! 33 refl)) (and-then ! (load ! (from ! (stop !)) (look ! 31 refl)) (and-then ! (load ! (from ! (stop !)) (look ! 29 refl)) (and-then ! (load ! (from ! (stop !)) (look ! 11 refl)) (and-then ! (load ! (from ! (stop !)) (look ! 7 refl)) (no-more !))))))))))) (λ v₁₁.
-        use1 W (later (some (λ (y₁₁ : EndsOutcome). ((‵ (flft κ₁ q₁) ⊛ ‵ (flft κ₂ q₂) ⊛ ‵ (flft κ₃ q₃) ⊛ ‵ ftrue) ⊛ ‵ (K.the-row .own y₁₁ (v₁₁ ∷ []))) ⊛ raw (ensured 𝓤 H A step.ended (step.clauses 𝓤 H A at-mem run) (κ₁, (κ₂, (κ₃, tt))) (y₁₂, (x₁, (x₂, (x₃, (r₄, (x₅, (x₆, (x₇, (r₈, (r₉, tt)))))))))) tt y₁₁)))) (id⊢ 𝓤 _) $ await ! tt $ pick ! (λ y₁₁. split ! $ move ! (1 ∷ []) $
-        use1 W (some (λ (zs : (Unit {0} × (Unit {0} × (Unit {0} × (Unit {0} × (List ℕ × (Unit {0} × (Unit {0} × (Unit {0} × (List ℕ × (List ℕ × Unit {0}))))))))))). ‵ (lasts step.ended (κ₁, (κ₂, (κ₃, tt))) (y₁₂, (x₁, (x₂, (x₃, (r₄, (x₅, (x₆, (x₇, (r₈, (r₉, tt)))))))))) zs) ⊛ raw (fact 𝓤 (EndsUserWrote y₁₂ x₁ x₃ x₂ x₅ x₆ x₇ ys₄ (zs .1 .1 .1 .1 .0) ys₈ (zs .1 .1 .1 .1 .1 .1 .1 .1 .0) ys₉ (zs .1 .1 .1 .1 .1 .1 .1 .1 .1 .0) y₁₁)))) (id⊢ 𝓤 _) $ pick ! (λ zs. split ! $ move ! (1 ∷ []) $ heard ! (EndsUserWrote y₁₂ x₁ x₃ x₂ x₅ x₆ x₇ ys₄ (zs .1 .1 .1 .1 .0) ys₈ (zs .1 .1 .1 .1 .1 .1 .1 .1 .0) ys₉ (zs .1 .1 .1 .1 .1 .1 .1 .1 .1 .0) y₁₁) (λ e₁₁.
+        use1 W (later (some (λ (y₁₁ : Transfer). ((‵ (flft κ₁ q₁) ⊛ ‵ (flft κ₂ q₂) ⊛ ‵ (flft κ₃ q₃) ⊛ ‵ ftrue) ⊛ ‵ (K.the-row .own y₁₁ (v₁₁ ∷ []))) ⊛ raw (ensured 𝓤 H A step.ended (step.clauses 𝓤 H A at-mem run) (κ₁, (κ₂, (κ₃, tt))) (y₁₂, (x₁, (x₂, (x₃, (r₄, (x₅, (x₆, (x₇, (r₈, (r₉, tt)))))))))) tt y₁₁)))) (id⊢ 𝓤 _) $ await ! tt $ pick ! (λ y₁₁. split ! $ move ! (1 ∷ []) $
+        use1 W (some (λ (zs : (Unit {0} × (Unit {0} × (Unit {0} × (Unit {0} × (List ℕ × (Unit {0} × (Unit {0} × (Unit {0} × (List ℕ × (List ℕ × Unit {0}))))))))))). ‵ (lasts step.ended (κ₁, (κ₂, (κ₃, tt))) (y₁₂, (x₁, (x₂, (x₃, (r₄, (x₅, (x₆, (x₇, (r₈, (r₉, tt)))))))))) zs) ⊛ raw (fact 𝓤 (UserWrote y₁₂ x₁ x₃ x₂ x₅ x₆ x₇ ys₄ (zs .1 .1 .1 .1 .0) ys₈ (zs .1 .1 .1 .1 .1 .1 .1 .1 .0) ys₉ (zs .1 .1 .1 .1 .1 .1 .1 .1 .1 .0) y₁₁)))) (id⊢ 𝓤 _) $ pick ! (λ zs. split ! $ move ! (1 ∷ []) $ heard ! (UserWrote y₁₂ x₁ x₃ x₂ x₅ x₆ x₇ ys₄ (zs .1 .1 .1 .1 .0) ys₈ (zs .1 .1 .1 .1 .1 .1 .1 .1 .0) ys₉ (zs .1 .1 .1 .1 .1 .1 .1 .1 .1 .0) y₁₁) (λ e₁₁.
         fsplit ! $ move ! (1 ∷ []) $ fsplit ! $ move ! (1 ∷ []) $ fsplit ! $ move ! (1 ∷ []) $ fsplit ! $ move ! (1 ∷ []) $ fsplit ! $ fsplit ! $ move ! (1 ∷ []) $ feqL ! (λ len₄. move ! (1 ∷ []) $ fsplit ! $ move ! (1 ∷ []) $ fsplit ! $ move ! (1 ∷ []) $ fsplit ! $ move ! (1 ∷ []) $ fsplit ! $ fsplit ! $ move ! (1 ∷ []) $ feqL ! (λ len₈. move ! (1 ∷ []) $ fsplit ! $ fsplit ! $ move ! (1 ∷ []) $ feqL ! (λ len₉. move ! (11 ∷ []) $ split ! $ move ! (1 ∷ []) $
-        peeks ! K.the-row (Is K.the-row) (shows 𝓤 H A K.the-row) y₁₁ (v₁₁ ∷ []) (λ s₁₁. land ! (from ! (stop !)) (fills ! 35 K.the-row (outcome-lawful 𝓤 H A at-mem run W) y₁₁ v₁₁ s₁₁ refl refl) $ drop ! $
+        peeks ! K.the-row (Is K.the-row) (shows 𝓤 H A K.the-row) y₁₁ (v₁₁ ∷ []) (λ s₁₁. land ! (from ! (stop !)) (fills ! 35 K.the-row (transfer-lawful 𝓤 H A at-mem run W) y₁₁ v₁₁ s₁₁ refl refl) $ drop ! $
         owned ! T.the-row (Is T.the-row) ((LL.makes T.the-type T′.the-plain) 𝓤 H A) h (vh ∷ []) was $ move ! (13 ∷ 0 ∷ 14 ∷ 15 ∷ 16 ∷ []) $ closes ! tt T.the-row h (vh ∷ []) b o $
-        assigns ! (addr ! (from ! (hop ! (look ! 53 refl) (stop !)))) (from ! (stop !)) (init ! 15 refl (tt, tt)) $ hands ! fm (hand-outcome 𝓤 H A at-mem run W κ q b o γ h y₁₁ v₁₁ s₁₁) known-outcome (and-then ! (load ! (from ! (stop !)) (look ! 13 refl)) (and-then ! (load ! (from ! (stop !)) (look ! 31 refl)) (no-more !))) (λ v₀ z₀ ws e₀ i₀.
+        assigns ! (addr ! (from ! (hop ! (look ! 53 refl) (stop !)))) (from ! (stop !)) (init ! 15 refl (tt, tt)) $ hands ! fm (hand-wrote 𝓤 H A at-mem run W κ q b o γ h x₁ y₁₁ v₁₁ g₁ s₁₁) known-wrote (and-then ! (load ! (from ! (stop !)) (look ! 13 refl)) (and-then ! (load ! (from ! (stop !)) (look ! 49 refl)) (and-then ! (load ! (from ! (stop !)) (look ! 31 refl)) (no-more !)))) (λ v₀ z₀ ws e₀ i₀.
         land ! (from ! (stop !)) (init ! 56 refl (sint-lawful 𝓤 H A W w64 .typed z₀ _ i₀ .0)) $
         returns ! (look ! 56 refl) $
         move ! (56 ∷ 57 ∷ []) $ frees-cell ! $ move ! (54 ∷ 55 ∷ []) $ frees-cell ! $ move ! (52 ∷ 53 ∷ []) $ frees-cell ! $ move ! (50 ∷ 51 ∷ []) $ frees-cell ! $ move ! (48 ∷ 49 ∷ []) $ frees-cell ! $ move ! (46 ∷ 47 ∷ []) $ frees-cell ! $ move ! (44 ∷ 45 ∷ []) $ frees-cell ! $ move ! (42 ∷ 43 ∷ []) $ frees-cell ! $ move ! (40 ∷ 41 ∷ []) $ frees-cell ! $ move ! (38 ∷ 39 ∷ []) $ frees-cell ! $ move ! (36 ∷ 37 ∷ []) $ frees-cell ! $ move ! (34 ∷ 35 ∷ []) $ frees-cell ! $ move ! (32 ∷ 33 ∷ []) $ frees-cell ! $ move ! (30 ∷ 31 ∷ []) $ frees-cell ! $ move ! (28 ∷ 29 ∷ []) $ frees-cell ! $ move ! (26 ∷ 27 ∷ []) $ frees-cell ! $ move ! (24 ∷ 25 ∷ []) $ frees-cell ! $ move ! (22 ∷ 23 ∷ []) $ frees-cell ! $ move ! (20 ∷ 21 ∷ []) $ frees-cell ! $ move ! (18 ∷ 19 ∷ []) $ frees-cell ! $ move ! (16 ∷ 17 ∷ []) $ frees-cell ! $ free0 ! $
-        keep ! (2 ∷ 1 ∷ 4 ∷ 11 ∷ 7 ∷ 5 ∷ 0 ∷ []) $ by ! (exits (ws .0) z₀ v₀ (zs .1 .1 .1 .1 .0) (zs .1 .1 .1 .1 .1 .1 .1 .1 .0) (zs .1 .1 .1 .1 .1 .1 .1 .1 .1 .0) (record { answer = y₁₁ .answer; word = e₀ .0; kept = subst (λ (k : Step). UserWrites h x₁ x₃ x₂ x₅ x₆ x₇ ys₄ (zs .1 .1 .1 .1 .0) ys₈ (zs .1 .1 .1 .1 .1 .1 .1 .1 .0) ys₉ (zs .1 .1 .1 .1 .1 .1 .1 .1 .1 .0) k) (settled-as y₁₁ h (ws .0) (e₀ .1)) (wrote-whole h x₁ x₃ x₂ x₅ x₆ x₇ y₁₂ y₁₁ (places-128 h _ was) e₁₂ ys₄ (zs .1 .1 .1 .1 .0) ys₈ (zs .1 .1 .1 .1 .1 .1 .1 .1 .0) ys₉ (zs .1 .1 .1 .1 .1 .1 .1 .1 .1 .0) e₁₁) }) len₄ len₈ len₉)))))))))))))))))))))))))))))))))))))))
+        keep ! (2 ∷ 1 ∷ 4 ∷ 11 ∷ 7 ∷ 5 ∷ 0 ∷ []) $ by ! (exits (ws .0) z₀ v₀ (zs .1 .1 .1 .1 .0) (zs .1 .1 .1 .1 .1 .1 .1 .1 .0) (zs .1 .1 .1 .1 .1 .1 .1 .1 .1 .0) (record { answer = wroteBy y₁₂ x₁ y₁₁ .answer; word = e₀ .0 ∙ ap answerWord (wrote-answer y₁₂ x₁ y₁₁); kept = subst (λ (k : Step). UserWrites h x₁ x₃ x₂ x₅ x₆ x₇ ys₄ (zs .1 .1 .1 .1 .0) ys₈ (zs .1 .1 .1 .1 .1 .1 .1 .1 .0) ys₉ (zs .1 .1 .1 .1 .1 .1 .1 .1 .1 .0) k) (settled-as (wroteBy y₁₂ x₁ y₁₁) h (ws .0) (passed-on (wroteBy y₁₂ x₁ y₁₁) (wroteBy (endsOf h) x₁ y₁₁) h (ws .0) (ap (λ (k : Ends). wroteBy k x₁ y₁₁) (sym e₁₂)) (e₀ .1))) (wrote-whole h x₁ x₃ x₂ x₅ x₆ x₇ y₁₂ y₁₁ (places-128 h _ was) e₁₂ ys₄ (zs .1 .1 .1 .1 .0) ys₈ (zs .1 .1 .1 .1 .1 .1 .1 .1 .0) ys₉ (zs .1 .1 .1 .1 .1 .1 .1 .1 .1 .0) e₁₁) }) len₄ len₈ len₉)))))))))))))))))))))))))))))))))))))))
 
 module _ {M : Type 1} (𝓤 : URA M) (H : Heap 𝓤) (A : Atoms 𝓤) (W : Given 𝓤 H A) (at-mem : Memory → SProp 𝓤) (run : Routine → Fun 𝓤) where
-  walks : (C : Calls 𝓤 H) (Λ : Loops 𝓤 H) → FmC 𝓤 H (W .laws) C → Triple 𝓤 (C #step) (Called 𝓤 H A at-mem run) → Triple 𝓤 (C #ends) (ends-contract 𝓤 H A at-mem run) → Triple 𝓤 (C #outcome) (outcome-contract 𝓤 H A at-mem run) → Walks 𝓤 H A f.ended stayed (WpFn 𝓤 H C Λ code.function) (f.clauses 𝓤 H A at-mem run)
+  walks : (C : Calls 𝓤 H) (Λ : Loops 𝓤 H) → FmC 𝓤 H (W .laws) C → Triple 𝓤 (C #step) (Called 𝓤 H A at-mem run) → Triple 𝓤 (C #ends) (ends-contract 𝓤 H A at-mem run) → Triple 𝓤 (C #wrote) (wrote-contract 𝓤 H A at-mem run) → Walks 𝓤 H A f.ended stayed (WpFn 𝓤 H C Λ code.function) (f.clauses 𝓤 H A at-mem run)
   walks C Λ fm k₀ k₁ k₂ = walked 𝓤 H A f.ended stayed (f.clauses 𝓤 H A at-mem run) (WpFn 𝓤 H C Λ code.function) (λ κs. (ptr-vals, (uint-vals w32, (uint-vals w32, (uint-vals w64, (slice-vals, (uint-vals w64, (uint-vals w64, (uint-vals w64, (slice-vals, (slice-vals, tt))))))))))) (λ κs. (mut-tells (named 0) (κs .0) T.the-row, (uint-tells w32, (uint-tells w32, (uint-tells w64, (mut-slice-tells (named 1) (κs .1 .0) u8, (uint-tells w64, (uint-tells w64, (uint-tells w64, (mut-slice-tells (named 2) (κs .1 .1 .0) u8, (mut-slice-tells (named 3) (κs .1 .1 .1 .0) u32, tt)))))))))))
       (λ κs qs bounds a _ are. via 𝓤 _ (fst∗ 𝓤 _ (emp 𝓤)) (walk 𝓤 H A W at-mem run (κs .0) (κs .1 .0) (κs .1 .1 .0) (κs .1 .1 .1 .0) (qs .0) (qs .1 .0) (qs .1 .1 .0) (qs .1 .1 .1 .0) (a .0 .ptr .0) (a .0 .ptr .1) (a .0 .name) (a .0 .now) (a .1 .0) (a .1 .1 .0) (a .1 .1 .1 .0) (a .1 .1 .1 .1 .0 .ptr .0) (a .1 .1 .1 .1 .0 .ptr .1) (a .1 .1 .1 .1 .0 .name) (a .1 .1 .1 .1 .0 .now) (a .1 .1 .1 .1 .1 .0) (a .1 .1 .1 .1 .1 .1 .0) (a .1 .1 .1 .1 .1 .1 .1 .0) (a .1 .1 .1 .1 .1 .1 .1 .1 .0 .ptr .0) (a .1 .1 .1 .1 .1 .1 .1 .1 .0 .ptr .1) (a .1 .1 .1 .1 .1 .1 .1 .1 .0 .name) (a .1 .1 .1 .1 .1 .1 .1 .1 .0 .now) (a .1 .1 .1 .1 .1 .1 .1 .1 .1 .0 .ptr .0) (a .1 .1 .1 .1 .1 .1 .1 .1 .1 .0 .ptr .1) (a .1 .1 .1 .1 .1 .1 .1 .1 .1 .0 .name) (a .1 .1 .1 .1 .1 .1 .1 .1 .1 .0 .now) C Λ fm k₀ k₁ k₂ (are .1 .1 .1 .1 .0 .0 .1) (are .1 .1 .1 .1 .1 .1 .1 .1 .0 .0 .1) (are .1 .1 .1 .1 .1 .1 .1 .1 .1 .0 .0 .1)))
 
@@ -173,7 +176,7 @@ module _ {M : Type 1} (𝓤 : URA M) (H : Heap 𝓤) (A : Atoms 𝓤) (W : Given
   goes = (goes-gave-ref 𝓤 H A W 4 0 tt (plain (λ _. T.the-row)), (goes-dropped 𝓤 H A W 4 (plain (λ _. u32)) yes (λ κs x f. refl), (goes-dropped 𝓤 H A W 4 (plain (λ _. u32)) yes (λ κs x f. refl), (goes-dropped 𝓤 H A W 4 (plain (λ _. u64)) yes (λ κs x f. refl), (goes-gave-slice 𝓤 H A W 4 1 tt (plain (λ _. u8)), (goes-dropped 𝓤 H A W 4 (plain (λ _. u64)) yes (λ κs x f. refl), (goes-dropped 𝓤 H A W 4 (plain (λ _. u64)) yes (λ κs x f. refl), (goes-dropped 𝓤 H A W 4 (plain (λ _. u64)) yes (λ κs x f. refl), (goes-gave-slice 𝓤 H A W 4 2 tt (plain (λ _. u8)), (goes-gave-slice 𝓤 H A W 4 3 tt (plain (λ _. u32)), tt))))))))))
 
 meets : {M : Type 1} (𝓤 : URA M) (H : Heap 𝓤) (A : Atoms 𝓤) (W : Given 𝓤 H A) (at-mem : Memory → SProp 𝓤) (run : Routine → Fun 𝓤) (𝓣 : Tables 𝓤 H)
-    → Triple 𝓤 (𝓣 .C #step) (Called 𝓤 H A at-mem run) → Triple 𝓤 (𝓣 .C #ends) (ends-contract 𝓤 H A at-mem run) → Triple 𝓤 (𝓣 .C #outcome) (outcome-contract 𝓤 H A at-mem run) → Meets 𝓤 H A f.signature (WpFn 𝓤 H (𝓣 .C) (𝓣 .Λ) code.function) (f.spec 𝓤 H A at-mem run)
+    → Triple 𝓤 (𝓣 .C #step) (Called 𝓤 H A at-mem run) → Triple 𝓤 (𝓣 .C #ends) (ends-contract 𝓤 H A at-mem run) → Triple 𝓤 (𝓣 .C #wrote) (wrote-contract 𝓤 H A at-mem run) → Meets 𝓤 H A f.signature (WpFn 𝓤 H (𝓣 .C) (𝓣 .Λ) code.function) (f.spec 𝓤 H A at-mem run)
 meets 𝓤 H A W at-mem run 𝓣 k₀ k₁ k₂ = walk-meets 𝓤 H A f.ended stayed W (goes 𝓤 H A W at-mem run) (f.clauses 𝓤 H A at-mem run) (WpFn 𝓤 H (𝓣 .C) (𝓣 .Λ) code.function) (WpFn-mono 𝓤 H (W .laws) 𝓣 code.function)
     (walks 𝓤 H A W at-mem run (𝓣 .C) (𝓣 .Λ) (fmOf 𝓤 H (W .laws) 𝓣) k₀ k₁ k₂)
 
@@ -183,6 +186,6 @@ murgwethan-user-write-spec 𝓤 H 𝓜 𝓖 𝓡 =
     entered 𝓤 H (tripleOf 𝓤 H (𝓖 .A) f.signature (f.spec 𝓤 H (𝓖 .A) (𝓜 .mem) (𝓡 .run)))
     (tables 𝓤 H 𝓜 𝓡 code.env .C) (tables 𝓤 H 𝓜 𝓡 code.env .Λ) #own code.function (code.unfolded 𝓤 H 𝓜 𝓡)
     (meets 𝓤 H (𝓖 .A) (givenOf 𝓤 H 𝓜 𝓖) (𝓜 .mem) (𝓡 .run) (tablesOf 𝓤 H 𝓜 (tables 𝓤 H 𝓜 𝓡 code.env))
-    (cited 𝓤 H (Called 𝓤 H (𝓖 .A) (𝓜 .mem) (𝓡 .run)) 𝓜 𝓡 code.env #step step-def.routine code.calls-syscall·write-ends (step-thm.met 𝓤 H 𝓜 𝓖 𝓡))
+    (cited 𝓤 H (Called 𝓤 H (𝓖 .A) (𝓜 .mem) (𝓡 .run)) 𝓜 𝓡 code.env #step step-def.routine code.calls-transfer·user-memory·write-transfer (step-thm.met 𝓤 H 𝓜 𝓖 𝓡))
     (cited 𝓤 H (ends-contract 𝓤 H (𝓖 .A) (𝓜 .mem) (𝓡 .run)) 𝓜 𝓡 code.env #ends ends-def.routine code.calls-socket·ends-of (ends-thm.met 𝓤 H 𝓜 𝓖 𝓡))
-    (cited 𝓤 H (outcome-contract 𝓤 H (𝓖 .A) (𝓜 .mem) (𝓡 .run)) 𝓜 𝓡 code.env #outcome outcome-def.routine code.calls-kept·pair·outcome (outcome-thm.met 𝓤 H 𝓜 𝓖 𝓡)))
+    (cited 𝓤 H (wrote-contract 𝓤 H (𝓖 .A) (𝓜 .mem) (𝓡 .run)) 𝓜 𝓡 code.env #wrote wrote-def.routine code.calls-kept·transfers·user-wrote (wrote-thm.met 𝓤 H 𝓜 𝓖 𝓡)))

@@ -1,4 +1,4 @@
--- `kept_transfer::read` meets its contract: a walk of its MIR, by hand. Where the test holds, the pair is stored; else the reference is passed on with the outcome.
+-- `kept::transfers::read` meets its contract: a walk of its MIR, by hand. Where the test holds, the pair is stored; else the reference is passed on with the outcome.
 -- Assumes nothing.
 use mathlib.Core.Path.{_≡_, refl}
 use Prim.Native.Nat.{ℕ}

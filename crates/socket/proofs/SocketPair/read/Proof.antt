@@ -28,7 +28,9 @@ returns c =
     let s = c .before .before .before .before .before .before .before .before .before .before .before .before in
     let a = s .args in
     rw (c .stepped .ensures, c .before .settle .ensures, c .before .before .read-outcome .ensures)
-    (read-whole (a .self .inner) (a .handle) (a .peek) (now (a .ring)) (now (a .table)) (now (a .buffer)) _ _ _ (inner-128 (a .self) _ (s .good .0)) (c .before .before .before .before .before .before .before .ends-of .ensures) (c .before .before .before .before .before .read-transfer .ensures))
+    (read-whole (a .self .inner) (a .handle) (a .peek) (now (a .ring)) (now (a .table)) (now (a .buffer)) _ _ _
+    (inner-128 (a .self) _ (s .good .0)) (c .before .before .before .before .before .before .before .ends-of .ensures)
+    (c .before .before .before .before .before .read-transfer .ensures))
 
 pub read-spec : {M : Type 1} → statement M
 read-spec = tie.close (tie.spec ends-of-requires read-transfer-requires read-outcome-requires settle-requires stepped-requires same-length returns)

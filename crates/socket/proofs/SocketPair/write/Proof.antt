@@ -31,7 +31,10 @@ returns c =
     let s = c .before .before .before .before .before .before .before .before .before .before .before .before .before .before .before in
     let a = s .args in
     rw (c .stepped .ensures, c .before .settle .ensures, c .before .before .write-outcome .ensures)
-    (wrote-whole (a .self .inner) (a .handle) (now (a .bytes)) (now (a .ring)) _ (now (a .table)) _ _ _ (inner-128 (a .self) _ (s .good .0)) (c .before .before .before .before .before .before .before .before .before .before .ends-of .ensures) (c .before .before .before .before .before .before .before .write-transfer .ensures))
+    (wrote-whole (a .self .inner) (a .handle) (now (a .bytes)) (now (a .ring)) _ (now (a .table)) _ _ _ (inner-128 (a .self) _ (s .good .0))
+    (c .before .before .before .before .before .before .before .before .before .before .ends-of .ensures)
+    (c .before .before .before .before .before .before .before .write-transfer .ensures))
 
 pub write-spec : {M : Type 1} → statement M
-write-spec = tie.close (tie.spec ends-of-requires write-transfer-requires write-outcome-requires settle-requires stepped-requires same-length same-length-2 returns)
+write-spec = tie.close
+    (tie.spec ends-of-requires write-transfer-requires write-outcome-requires settle-requires stepped-requires same-length same-length-2 returns)

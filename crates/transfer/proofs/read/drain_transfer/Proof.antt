@@ -16,7 +16,8 @@ kept-requires-2 : tie.Need-kept-requires-2
 kept-requires-2 c κs = search needs
 
 returns-2 : tie.Need-returns-2
-returns-2 c = kept-changes _ _ _ _ _ _ (sym (or-off _ _ _ (c .before .before .if1 .left) (sym (eq-eqb _ _ (c .before .if2 .taken))))) (c .kept2 .ensures)
+returns-2 c = kept-changes _ _ _ _ _ _ (sym (or-off _ _ _ (c .before .before .if1 .left) (sym (eq-eqb _ _ (c .before .if2 .taken)))))
+    (c .kept2 .ensures)
 
 leaving-of-requires : tie.Need-leaving-of-requires
 leaving-of-requires c κs = search needs

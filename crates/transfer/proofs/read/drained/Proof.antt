@@ -23,7 +23,8 @@ drained-queue-requires c κs = search needs
 
 returns : tie.Need-returns
 unfolding drainedEffect readEffect
-returns c = (refl, refl, rw (← c .before .before .before .lost-by-reader .ensures, ← c .before .gained-by-writer .ensures, ← c .drained-queue .ensures) refl)
+returns c =
+    (refl, refl, rw (← c .before .before .before .lost-by-reader .ensures, ← c .before .gained-by-writer .ensures, ← c .drained-queue .ensures) refl)
 
 pub drained-spec : {M : Type 1} → statement M
 drained-spec =

@@ -23,8 +23,14 @@ drained-visits-requires c κs = search needs
 returns : tie.Need-returns
 unfolding drainedEffect ifOpen keepingWaits movedBy ownAfter peerAfter ownChanged peerChanged withQueue pick
 returns c =
-    rw
-    (c .before .before .with-signals .ensures, c .before .before .before .changed .ensures, c .before .before .before .before .with-queue .ensures, c .before .drained-visits .ensures, c .if1 .taken)
+    rw (
+      c .before .before .with-signals .ensures,
+      c .before .before .before .changed .ensures,
+      c .before .before .before .before .with-queue
+          .ensures,
+      c .before .drained-visits .ensures,
+      c .if1 .taken,
+    )
     refl
 
 changed-requires-2 : tie.Need-changed-requires-2
@@ -36,8 +42,17 @@ with-signals-requires-2 c κs = search needs
 returns-2 : tie.Need-returns-2
 unfolding drainedEffect ifOpen keepingWaits movedBy ownAfter peerAfter ownChanged peerChanged withQueue pick
 returns-2 c =
-    rw
-    (c .before .before .before .before .with-signals .ensures, c .before .before .before .before .before .changed .ensures, c .before .before .before .before .before .before .with-queue .ensures, c .before .before .before .drained-visits .ensures, c .with-signals2 .ensures, c .before .changed2 .ensures, c .before .before .if1 .left)
+    rw (
+      c .before .before .before .before .with-signals .ensures,
+      c .before .before .before .before .before .changed .ensures,
+      c .before .before
+          .before .before .before .before .with-queue .ensures,
+      c .before .before .before .drained-visits .ensures,
+      c .with-signals2 .ensures,
+      c .before
+          .changed2 .ensures,
+      c .before .before .if1 .left,
+    )
     refl
 
 pub drained-moved-spec : {M : Type 1} → statement M

@@ -22,21 +22,30 @@ first-delivered-requires c κs = search needs
 
 deliver-requires : tie.Need-deliver-requires
 deliver-requires c κs = let a = c .before .before .before .before .before .before .before .before .before .before .args in
-    λ z. let f = read-drains (a .p) (a .handle) (now (a .ring)) (now (a .table)) _ _ _ (c .before .before .before .before .before .before .read-answer .ensures) (c .before .before .before .before .before .count-of .ensures) z in
+    λ z. let f = read-drains (a .p) (a .handle) (now (a .ring)) (now (a .table)) _ _ _
+    (c .before .before .before .before .before .before .read-answer .ensures) (c .before .before .before .before .before .count-of .ensures) z in
     rw (c .before .before .before .before .own .ensures) (f .drain .start, f .most, f .long, f .fits)
 
 drain-transfer-requires : tie.Need-drain-transfer-requires
-drain-transfer-requires c κs = let a = c .before .before .before .before .before .before .before .before .before .before .before .before .before .args in
+drain-transfer-requires c κs = let a = c .before .before .before .before .before .before .before .before .before .before .before .before .before
+    .args in
     λ z. let l = delivered-first _ _ _ (c .before .before .before .before .first-delivered .ensures) z in
-    rw (l, c .before .before .before .before .before .before .before .own .ensures) (read-drains (a .p) (a .handle) (now (a .ring)) (now (a .table)) _ _ _ (c .before .before .before .before .before .before .before .before .before .read-answer .ensures) (c .before .before .before .before .before .before .before .before .count-of .ensures) z .drain)
+    rw (l, c .before .before .before .before .before .before .before .own .ensures) (read-drains (a .p) (a .handle) (now (a .ring))
+    (now (a .table)) _ _ _ (c .before .before .before .before .before .before .before .before .before .read-answer .ensures)
+    (c .before .before .before .before .before .before .before .before .count-of .ensures) z .drain)
 
 same-length : tie.Need-same-length
 same-length c = search needs
 
 returns : tie.Need-returns
 returns c = let a = c .before .before .before .before .before .before .before .before .before .before .before .before .before .before .args in
-    transfer-read (a .p) (a .handle) (a .peek) (now (a .table)) _ _ _ _ _ (c .before .before .before .before .before .before .before .before .before .count-of .ensures) (c .before .before .before .before .before .before .before .before .own .ensures) (c .before .before .before .before .before .before .before .peer .ensures) (now (a .ring)) (now (a .buffer)) _ _
-    (c .before .before .before .before .before .before .before .before .before .before .read-answer .ensures) (c .before .before .before .before .before .first-delivered .ensures) (c .before .before .before .deliver .ensures) (c .drain-transfer .ensures)
+    transfer-read (a .p) (a .handle) (a .peek) (now (a .table)) _ _ _ _ _
+    (c .before .before .before .before .before .before .before .before .before .count-of .ensures)
+    (c .before .before .before .before .before .before .before .before .own .ensures)
+    (c .before .before .before .before .before .before .before .peer .ensures) (now (a .ring)) (now (a .buffer)) _ _
+    (c .before .before .before .before .before .before .before .before .before .before .read-answer .ensures)
+    (c .before .before .before .before .before .first-delivered .ensures) (c .before .before .before .deliver .ensures)
+    (c .drain-transfer .ensures)
 
 pub read-transfer-spec : {M : Type 1} → statement M
 read-transfer-spec =

@@ -14,7 +14,8 @@ same-length : tie.Need-same-length
 same-length c = search needs
 
 returns : tie.Need-returns
-returns c = pick-on _ _ _ _ _ (via (c .before .before .before .before .before .is-done .ensures) (c .before .before .before .before .if1 .taken)) (c .before .before .land-count .ensures)
+returns c = pick-on _ _ _ _ _ (via (c .before .before .before .before .before .is-done .ensures) (c .before .before .before .before .if1 .taken))
+    (c .before .before .land-count .ensures)
 
 returns-2 : tie.Need-returns-2
 returns-2 c = pick-off _ _ _ _ _ (via (c .before .is-done .ensures) (c .if1 .left)) refl

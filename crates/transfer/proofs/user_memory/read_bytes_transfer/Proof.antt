@@ -27,7 +27,9 @@ returns : tie.Need-returns
 returns c =
     let p = c .before .before .before in
     let a = p .before .before .before .before .before .before .before .args in
-    bytes-none (a .p) (a .handle) (a .base) (a .options) (a .address) (a .count) (a .count-at) (now (a .ring)) (now (a .table)) (now (a .memory)) _ _ _ _ _ (p .before .before .before .read-answer .ensures) (p .before .before .count-of .ensures) (p .before .own .ensures) (p .peer .ensures) (c .before .if1 .taken) (c .kept .ensures)
+    bytes-none (a .p) (a .handle) (a .base) (a .options) (a .address) (a .count) (a .count-at) (now (a .ring)) (now (a .table)) (now (a .memory))
+    _ _ _ _ _ (p .before .before .before .read-answer .ensures) (p .before .before .count-of .ensures) (p .before .own .ensures)
+    (p .peer .ensures) (c .before .if1 .taken) (c .kept .ensures)
 
 first-length-requires : tie.Need-first-length-requires
 first-length-requires c κs = search needs
@@ -36,7 +38,8 @@ sub-from : tie.Need-sub-from
 sub-from c =
     let p = c .before .before .before in
     let a = p .before .before .before .before .before .before .before .args in
-    read-room (a .p) (a .handle) (a .base) (a .options) (a .address) (a .count) (a .count-at) (now (a .ring)) (now (a .table)) (now (a .memory)) _ (p .before .before .before .read-answer .ensures) (λ y. c .before .if1 .left (p .before .before .count-of .ensures ∙ y)) .0
+    read-room (a .p) (a .handle) (a .base) (a .options) (a .address) (a .count) (a .count-at) (now (a .ring)) (now (a .table)) (now (a .memory)) _
+    (p .before .before .before .read-answer .ensures) (λ y. c .before .if1 .left (p .before .before .count-of .ensures ∙ y)) .0
 
 cast-to : tie.Need-cast-to
 cast-to c = search needs
@@ -45,8 +48,11 @@ add-to : tie.Need-add-to
 add-to c =
     let p = c .before .before .before in
     let a = p .before .before .before .before .before .before .before .args in
-    let room = read-room (a .p) (a .handle) (a .base) (a .options) (a .address) (a .count) (a .count-at) (now (a .ring)) (now (a .table)) (now (a .memory)) _ (p .before .before .before .read-answer .ensures) (λ y. c .before .if1 .left (p .before .before .count-of .ensures ∙ y)) in
-    let got = user-delivers (a .p) (a .handle) (a .base) (a .options) (a .address) (a .count) (a .count-at) (now (a .ring)) (now (a .table)) (now (a .memory)) _ (p .before .before .before .read-answer .ensures) _ (p .before .before .count-of .ensures) (c .before .if1 .left) in
+    let room = read-room (a .p) (a .handle) (a .base) (a .options) (a .address) (a .count) (a .count-at) (now (a .ring)) (now (a .table))
+    (now (a .memory)) _ (p .before .before .before .read-answer .ensures) (λ y. c .before .if1 .left (p .before .before .count-of .ensures ∙ y))
+    in
+    let got = user-delivers (a .p) (a .handle) (a .base) (a .options) (a .address) (a .count) (a .count-at) (now (a .ring)) (now (a .table))
+    (now (a .memory)) _ (p .before .before .before .read-answer .ensures) _ (p .before .before .count-of .ensures) (c .before .if1 .left) in
     omega (arith, room .1, got .fits, p .before .before .before .before .before .before .before .good .1 .1 .1 .1 .0 .0)
 
 sub-deliver : tie.Need-sub-deliver
@@ -59,18 +65,26 @@ part-deliver-end : tie.Need-part-deliver-end
 part-deliver-end c =
     let p = c .before .before .before in
     let a = p .before .before .before .before .before .before .before .args in
-    let room = read-room (a .p) (a .handle) (a .base) (a .options) (a .address) (a .count) (a .count-at) (now (a .ring)) (now (a .table)) (now (a .memory)) _ (p .before .before .before .read-answer .ensures) (λ y. c .before .if1 .left (p .before .before .count-of .ensures ∙ y)) in
-    let got = user-delivers (a .p) (a .handle) (a .base) (a .options) (a .address) (a .count) (a .count-at) (now (a .ring)) (now (a .table)) (now (a .memory)) _ (p .before .before .before .read-answer .ensures) _ (p .before .before .count-of .ensures) (c .before .if1 .left) in
+    let room = read-room (a .p) (a .handle) (a .base) (a .options) (a .address) (a .count) (a .count-at) (now (a .ring)) (now (a .table))
+    (now (a .memory)) _ (p .before .before .before .read-answer .ensures) (λ y. c .before .if1 .left (p .before .before .count-of .ensures ∙ y))
+    in
+    let got = user-delivers (a .p) (a .handle) (a .base) (a .options) (a .address) (a .count) (a .count-at) (now (a .ring)) (now (a .table))
+    (now (a .memory)) _ (p .before .before .before .read-answer .ensures) _ (p .before .before .count-of .ensures) (c .before .if1 .left) in
     omega (arith, room .1, got .fits)
 
 deliver-requires : tie.Need-deliver-requires
 deliver-requires c κs =
     let p = c .before .before .before .before in
     let a = p .before .before .before .before .before .before .before .args in
-    let room = read-room (a .p) (a .handle) (a .base) (a .options) (a .address) (a .count) (a .count-at) (now (a .ring)) (now (a .table)) (now (a .memory)) _ (p .before .before .before .read-answer .ensures) (λ y. c .before .before .if1 .left (p .before .before .count-of .ensures ∙ y)) in
-    let got = user-delivers (a .p) (a .handle) (a .base) (a .options) (a .address) (a .count) (a .count-at) (now (a .ring)) (now (a .table)) (now (a .memory)) _ (p .before .before .before .read-answer .ensures) _ (p .before .before .count-of .ensures) (c .before .before .if1 .left) in
+    let room = read-room (a .p) (a .handle) (a .base) (a .options) (a .address) (a .count) (a .count-at) (now (a .ring)) (now (a .table))
+    (now (a .memory)) _ (p .before .before .before .read-answer .ensures)
+    (λ y. c .before .before .if1 .left (p .before .before .count-of .ensures ∙ y)) in
+    let got = user-delivers (a .p) (a .handle) (a .base) (a .options) (a .address) (a .count) (a .count-at) (now (a .ring)) (now (a .table))
+    (now (a .memory)) _ (p .before .before .before .read-answer .ensures) _ (p .before .before .count-of .ensures) (c .before .before .if1 .left)
+    in
     let m = p .before .before .count-of .result in
-    let size = part-length (now (a .memory)) (a .address - a .base) (a .address - a .base + m - (a .address - a .base)) (omega (arith, room .1, got .fits)) in
+    let size = part-length (now (a .memory)) (a .address - a .base) (a .address - a .base + m - (a .address - a .base))
+    (omega (arith, room .1, got .fits)) in
     λ z. rw (p .before .own .ensures) (got .drain .start, got .most, got .long, omega (arith, size))
 
 drain-transfer-requires : tie.Need-drain-transfer-requires
@@ -78,7 +92,8 @@ drain-transfer-requires c κs =
     let p = c .before .before .before .before .before .before .before in
     let a = p .before .before .before .before .before .before .before .args in
     λ z. rw (c .before .before .before .before .first-length .ensures, p .before .own .ensures)
-    (user-delivers (a .p) (a .handle) (a .base) (a .options) (a .address) (a .count) (a .count-at) (now (a .ring)) (now (a .table)) (now (a .memory)) _ (p .before .before .before .read-answer .ensures) _ (p .before .before .count-of .ensures) z .drain)
+    (user-delivers (a .p) (a .handle) (a .base) (a .options) (a .address) (a .count) (a .count-at) (now (a .ring)) (now (a .table))
+    (now (a .memory)) _ (p .before .before .before .read-answer .ensures) _ (p .before .before .count-of .ensures) z .drain)
 
 same-length : tie.Need-same-length
 same-length c = search needs
@@ -88,8 +103,12 @@ returns-2 c =
     let p = c .before .before .before .before .before .before .before .before in
     let a = p .before .before .before .before .before .before .before .args in
     let m = p .before .before .count-of .result in
-    bytes-some (a .p) (a .handle) (a .base) (a .options) (a .address) (a .count) (a .count-at) (now (a .ring)) (now (a .table)) (now (a .memory)) _ _ _ _ _ (p .before .before .before .read-answer .ensures) (p .before .before .count-of .ensures) (p .before .own .ensures) (p .peer .ensures)
-    (a .address - a .base + m - (a .address - a .base)) _ (c .before .before .before .before .before .before .if1 .left) (omega arith) (c .before .before .before .deliver .ensures) (rw (c .before .before .before .before .before .first-length .ensures) at (c .drain-transfer .ensures))
+    bytes-some (a .p) (a .handle) (a .base) (a .options) (a .address) (a .count) (a .count-at) (now (a .ring)) (now (a .table)) (now (a .memory))
+    _ _ _ _ _ (p .before .before .before .read-answer .ensures) (p .before .before .count-of .ensures) (p .before .own .ensures)
+    (p .peer .ensures)
+    (a .address - a .base + m - (a .address - a .base)) _ (c .before .before .before .before .before .before .if1 .left) (omega arith)
+    (c .before .before .before .deliver .ensures)
+    (rw (c .before .before .before .before .before .first-length .ensures) at (c .drain-transfer .ensures))
 
 pub read-bytes-transfer-spec : {M : Type 1} → statement M
 read-bytes-transfer-spec =

@@ -24,8 +24,11 @@ same-length c = search needs
 returns : tie.Need-returns
 returns c =
     let a = c .before .before .before .before .before .before .before .before .before .before .before .before .before .before .args in
-    read-after (a .p) (a .handle) (a .base) (a .options) (a .address) (a .count) (a .count-at) (now (a .ring)) (now (a .table)) (now (a .memory)) _ _ _ (c .before .before .before .before .before .before .before .before .before .read-bytes-transfer .ensures)
-    (pick-on _ _ _ _ _ (via (c .before .before .before .before .before .before .is-done .ensures) (c .before .before .before .before .before .if1 .taken)) (rw (← c .before .before .before .count-of .ensures) (c .before .before .land-count .ensures)))
+    read-after (a .p) (a .handle) (a .base) (a .options) (a .address) (a .count) (a .count-at) (now (a .ring)) (now (a .table)) (now (a .memory))
+    _ _ _ (c .before .before .before .before .before .before .before .before .before .read-bytes-transfer .ensures)
+    (pick-on _ _ _ _ _
+    (via (c .before .before .before .before .before .before .is-done .ensures) (c .before .before .before .before .before .if1 .taken))
+    (rw (← c .before .before .before .count-of .ensures) (c .before .before .land-count .ensures)))
 
 same-length-2 : tie.Need-same-length-2
 same-length-2 c = search needs
@@ -33,7 +36,9 @@ same-length-2 c = search needs
 returns-2 : tie.Need-returns-2
 returns-2 c =
     let a = c .before .before .before .before .before .before .before .before .before .args in
-    read-after (a .p) (a .handle) (a .base) (a .options) (a .address) (a .count) (a .count-at) (now (a .ring)) (now (a .table)) (now (a .memory)) _ _ _ (c .before .before .before .before .read-bytes-transfer .ensures) (pick-off _ _ _ _ _ (via (c .before .is-done .ensures) (c .if1 .left)) refl)
+    read-after (a .p) (a .handle) (a .base) (a .options) (a .address) (a .count) (a .count-at) (now (a .ring)) (now (a .table)) (now (a .memory))
+    _ _ _ (c .before .before .before .before .read-bytes-transfer .ensures)
+    (pick-off _ _ _ _ _ (via (c .before .is-done .ensures) (c .if1 .left)) refl)
 
 pub read-transfer-spec : {M : Type 1} → statement M
 read-transfer-spec =

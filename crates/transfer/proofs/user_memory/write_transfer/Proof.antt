@@ -39,14 +39,17 @@ returns : tie.Need-returns
 returns c =
     let p = c .before .before .before .before .before .before .before in
     let a = p .before .before .before .before .before .before .before .before .before .args in
-    wrote-none (a .p) (a .handle) (a .base) (a .options) (a .address) (a .count) (a .count-at) (now (a .memory)) (now (a .ring)) (now (a .table)) _ _ _ _ _ (p .before .before .before .write-answer .ensures) (p .before .before .count-of .ensures) (p .before .own .ensures) (p .peer .ensures)
+    wrote-none (a .p) (a .handle) (a .base) (a .options) (a .address) (a .count) (a .count-at) (now (a .memory)) (now (a .ring)) (now (a .table))
+    _ _ _ _ _ (p .before .before .before .write-answer .ensures) (p .before .before .count-of .ensures) (p .before .own .ensures)
+    (p .peer .ensures)
     _ (c .before .before .before .before .before .if1 .taken) (c .before .before .before .land-none .ensures) (c .kept .ensures)
 
 sub-from : tie.Need-sub-from
 sub-from c =
     let p = c .before .before in
     let a = p .before .before .before .before .before .before .before .before .before .args in
-    write-room (a .p) (a .handle) (a .base) (a .options) (a .address) (a .count) (a .count-at) (now (a .memory)) (now (a .ring)) (now (a .table)) _ (p .before .before .before .write-answer .ensures) (λ y. c .if1 .left (p .before .before .count-of .ensures ∙ y)) .0
+    write-room (a .p) (a .handle) (a .base) (a .options) (a .address) (a .count) (a .count-at) (now (a .memory)) (now (a .ring)) (now (a .table))
+    _ (p .before .before .before .write-answer .ensures) (λ y. c .if1 .left (p .before .before .count-of .ensures ∙ y)) .0
 
 cast-to : tie.Need-cast-to
 cast-to c = search needs
@@ -55,8 +58,10 @@ add-to : tie.Need-add-to
 add-to c =
     let p = c .before .before in
     let a = p .before .before .before .before .before .before .before .before .before .args in
-    let room = write-room (a .p) (a .handle) (a .base) (a .options) (a .address) (a .count) (a .count-at) (now (a .memory)) (now (a .ring)) (now (a .table)) _ (p .before .before .before .write-answer .ensures) (λ y. c .if1 .left (p .before .before .count-of .ensures ∙ y)) in
-    omega (arith, p .before .before .count-of .ensures, room .1, p .before .before .before .before .before .before .before .before .before .good .1 .1 .1 .1 .0 .0)
+    let room = write-room (a .p) (a .handle) (a .base) (a .options) (a .address) (a .count) (a .count-at) (now (a .memory)) (now (a .ring))
+    (now (a .table)) _ (p .before .before .before .write-answer .ensures) (λ y. c .if1 .left (p .before .before .count-of .ensures ∙ y)) in
+    omega
+    (arith, p .before .before .count-of .ensures, room .1, p .before .before .before .before .before .before .before .before .before .good .1 .1 .1 .1 .0 .0)
 
 sub-feed : tie.Need-sub-feed
 sub-feed c = search needs
@@ -68,7 +73,9 @@ part-feed-end : tie.Need-part-feed-end
 part-feed-end c =
     let p = c .before .before .before in
     let a = p .before .before .before .before .before .before .before .before .before .args in
-    let room = write-room (a .p) (a .handle) (a .base) (a .options) (a .address) (a .count) (a .count-at) (now (a .memory)) (now (a .ring)) (now (a .table)) _ (p .before .before .before .write-answer .ensures) (λ y. c .before .if1 .left (p .before .before .count-of .ensures ∙ y)) in
+    let room = write-room (a .p) (a .handle) (a .base) (a .options) (a .address) (a .count) (a .count-at) (now (a .memory)) (now (a .ring))
+    (now (a .table)) _ (p .before .before .before .write-answer .ensures) (λ y. c .before .if1 .left (p .before .before .count-of .ensures ∙ y))
+    in
     omega (arith, p .before .before .count-of .ensures, room .1)
 
 feed-requires : tie.Need-feed-requires
@@ -77,7 +84,9 @@ feed-requires c κs =
     let a = p .before .before .before .before .before .before .before .before .before .args in
     let m = p .before .before .count-of .result in
     rw (p .peer .ensures)
-    (user-feeds (a .p) (a .handle) (a .base) (a .options) (a .address) (a .count) (a .count-at) (now (a .memory)) (now (a .ring)) (now (a .table)) _ (p .before .before .before .write-answer .ensures) m (a .address - a .base + m - (a .address - a .base)) (p .before .before .count-of .ensures) (c .before .before .before .before .if1 .left) (omega arith))
+    (user-feeds (a .p) (a .handle) (a .base) (a .options) (a .address) (a .count) (a .count-at) (now (a .memory)) (now (a .ring)) (now (a .table))
+    _ (p .before .before .before .write-answer .ensures) m (a .address - a .base + m - (a .address - a .base))
+    (p .before .before .count-of .ensures) (c .before .before .before .before .if1 .left) (omega arith))
 
 land-count-requires : tie.Need-land-count-requires
 land-count-requires c κs = search needs
@@ -87,7 +96,9 @@ fed-requires c κs =
     let p = c .before .before .before .before .before .before .before .before .before .before .before .before .before .before .before in
     let a = p .before .before .before .before .before .before .before .before .before .args in
     let m = p .before .before .count-of .result in
-    let f = user-feeds (a .p) (a .handle) (a .base) (a .options) (a .address) (a .count) (a .count-at) (now (a .memory)) (now (a .ring)) (now (a .table)) _ (p .before .before .before .write-answer .ensures) m m (p .before .before .count-of .ensures) (c .before .before .before .before .before .before .before .before .before .before .before .before .before .if1 .left) refl in
+    let f = user-feeds (a .p) (a .handle) (a .base) (a .options) (a .address) (a .count) (a .count-at) (now (a .memory)) (now (a .ring))
+    (now (a .table)) _ (p .before .before .before .write-answer .ensures) m m (p .before .before .count-of .ensures)
+    (c .before .before .before .before .before .before .before .before .before .before .before .before .before .if1 .left) refl in
     rw (p .peer .ensures) (f .fits, λ d. let l = f .lengths d in omega (arith, l, f .small))
 
 same-length-4 : tie.Need-same-length-4
@@ -104,8 +115,14 @@ returns-2 c =
     let p = c .before .before .before .before .before .before .before .before .before .before .before .before .before .before .before .before in
     let a = p .before .before .before .before .before .before .before .before .before .args in
     let m = p .before .before .count-of .result in
-    wrote-some (a .p) (a .handle) (a .base) (a .options) (a .address) (a .count) (a .count-at) (now (a .memory)) (now (a .ring)) (now (a .table)) _ _ _ _ _ (p .before .before .before .write-answer .ensures) (p .before .before .count-of .ensures) (p .before .own .ensures) (p .peer .ensures)
-    (a .address - a .base + m - (a .address - a .base)) _ _ _ (c .before .before .before .before .before .before .before .before .before .before .before .before .before .before .if1 .left) (omega arith) (c .before .before .before .before .before .before .before .before .before .feed .ensures .0) (c .before .before .before .before .before .before .before .before .before .feed .ensures .1) (c .before .before .before .land-count .ensures) (c .fed .ensures)
+    wrote-some (a .p) (a .handle) (a .base) (a .options) (a .address) (a .count) (a .count-at) (now (a .memory)) (now (a .ring)) (now (a .table))
+    _ _ _ _ _ (p .before .before .before .write-answer .ensures) (p .before .before .count-of .ensures) (p .before .own .ensures)
+    (p .peer .ensures)
+    (a .address - a .base + m - (a .address - a .base)) _ _ _
+    (c .before .before .before .before .before .before .before .before .before .before .before .before .before .before .if1 .left) (omega arith)
+    (c .before .before .before .before .before .before .before .before .before .feed .ensures .0)
+    (c .before .before .before .before .before .before .before .before .before .feed .ensures .1) (c .before .before .before .land-count .ensures)
+    (c .fed .ensures)
 
 pub write-transfer-spec : {M : Type 1} → statement M
 write-transfer-spec =

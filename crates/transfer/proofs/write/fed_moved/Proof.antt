@@ -28,8 +28,15 @@ fed-visits-requires c κs = search needs
 returns : tie.Need-returns
 unfolding fedEffect keepingWaits movedBy ownAfter peerAfter ownChanged peerChanged withQueue
 returns c =
-    rw
-    (c .before .before .before .with-signals .ensures, c .before .before .before .before .changed .ensures, c .before .with-signals2 .ensures, c .before .before .changed2 .ensures, c .before .before .before .before .before .with-queue .ensures, c .fed-visits .ensures)
+    rw (
+      c .before .before .before .with-signals .ensures,
+      c .before .before .before .before .changed .ensures,
+      c .before .with-signals2 .ensures,
+      c
+          .before .before .changed2 .ensures,
+      c .before .before .before .before .before .with-queue .ensures,
+      c .fed-visits .ensures,
+    )
     refl
 
 pub fed-moved-spec : {M : Type 1} → statement M

@@ -36,7 +36,8 @@ unfolding wroteBy
 returns-2 c =
     let a = c .before .before .before .before .before .before .before .args in
     let on : a .t .moves ≡ true = via-not-not refl (c .before .before .before .before .before .if1 .left) in
-    let moved = rw (c .before .before .before .before .own .ensures, c .before .before .before .peer .ensures) at (c .before .before .fed-moved .ensures) in
+    let moved = rw (c .before .before .before .before .own .ensures, c .before .before .before .peer .ensures) at
+    (c .before .before .fed-moved .ensures) in
     outcome-moved (a .p) (a .handle) (a .t) _ _ _ _ on moved (c .before .no-visits .ensures) (c .put-back .ensures)
 
 pub write-outcome-spec : {M : Type 1} → statement M

@@ -31,7 +31,8 @@ returns : tie.Need-returns
 returns c =
     let p = c .before .before .before in
     let a = p .before .before .before .before .before .before .before .before .before .args in
-    wrote-none (a .p) (a .handle) _ _ _ _ _ (p .before .before .count-of .ensures) (p .before .own .ensures) (p .peer .ensures) (now (a .bytes)) (now (a .ring)) (now (a .table)) (p .before .before .before .write-answer .ensures)
+    wrote-none (a .p) (a .handle) _ _ _ _ _ (p .before .before .count-of .ensures) (p .before .own .ensures) (p .peer .ensures) (now (a .bytes))
+    (now (a .ring)) (now (a .table)) (p .before .before .before .write-answer .ensures)
     (c .before .if1 .taken) (c .kept .ensures)
 
 feed-requires : tie.Need-feed-requires
@@ -39,13 +40,16 @@ feed-requires c κs =
     let p = c .before .before .before .before in
     let a = p .before .before .before .before .before .before .before .before .before .args in
     rw (p .peer .ensures)
-    (write-feeds (a .p) (a .handle) (now (a .bytes)) (now (a .ring)) (now (a .table)) _ _ _ (p .before .before .before .write-answer .ensures) (p .before .before .count-of .ensures) (c .before .before .if1 .left) (λ l. l))
+    (write-feeds (a .p) (a .handle) (now (a .bytes)) (now (a .ring)) (now (a .table)) _ _ _ (p .before .before .before .write-answer .ensures)
+    (p .before .before .count-of .ensures) (c .before .before .if1 .left) (λ l. l))
 
 fed-requires : tie.Need-fed-requires
 fed-requires c κs =
     let p = c .before .before .before .before .before .before .before .before .before in
     let a = p .before .before .before .before .before .before .before .before .before .args in
-    let f = write-feeds (a .p) (a .handle) (now (a .bytes)) (now (a .ring)) (now (a .table)) _ _ _ (p .before .before .before .write-answer .ensures) (p .before .before .count-of .ensures) (c .before .before .before .before .before .before .before .if1 .left) (λ l. l) in
+    let f = write-feeds (a .p) (a .handle) (now (a .bytes)) (now (a .ring)) (now (a .table)) _ _ _
+    (p .before .before .before .write-answer .ensures) (p .before .before .count-of .ensures)
+    (c .before .before .before .before .before .before .before .if1 .left) (λ l. l) in
     rw (p .peer .ensures) (f .fits, λ d. let l = f .lengths d in omega (arith, l, f .small))
 
 same-length-3 : tie.Need-same-length-3
@@ -58,8 +62,10 @@ returns-2 : tie.Need-returns-2
 returns-2 c =
     let p = c .before .before .before .before .before .before .before .before .before .before in
     let a = p .before .before .before .before .before .before .before .before .before .args in
-    wrote-some (a .p) (a .handle) _ _ _ _ _ (p .before .before .count-of .ensures) (p .before .own .ensures) (p .peer .ensures) (now (a .bytes)) (now (a .ring)) (now (a .table)) (p .before .before .before .write-answer .ensures)
-    _ _ (c .before .before .before .before .before .before .before .before .if1 .left) (c .fed .ensures) (c .before .before .before .before .before .feed .ensures .0) (c .before .before .before .before .before .feed .ensures .1)
+    wrote-some (a .p) (a .handle) _ _ _ _ _ (p .before .before .count-of .ensures) (p .before .own .ensures) (p .peer .ensures) (now (a .bytes))
+    (now (a .ring)) (now (a .table)) (p .before .before .before .write-answer .ensures)
+    _ _ (c .before .before .before .before .before .before .before .before .if1 .left) (c .fed .ensures)
+    (c .before .before .before .before .before .feed .ensures .0) (c .before .before .before .before .before .feed .ensures .1)
 
 pub write-transfer-spec : {M : Type 1} → statement M
 write-transfer-spec =
