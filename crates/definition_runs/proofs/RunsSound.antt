@@ -10,7 +10,7 @@ use lib.ListN.{length, getElem?}
 use lib.Dec.{eqb}
 use borrow.Author.Tests.{lt-ltb, le-leb}
 use Rattle.definition.specs.declared.Status.{Status}
-use Rattle.definition.specs.declared.Status.the-variants.{Internal, NoResources, InvalidArgs, BadHandle, OutOfRange, BadState, ShouldWait, PeerClosed, AccessDenied}
+use Rattle.definition.specs.declared.Status.the-variants.{Internal, NoResources, InvalidArgs, BadHandle, OutOfRange, BadState, ShouldWait, PeerClosed, NotFound, AccessDenied}
 use Rattle.definition.specs.declared.Answer.{Answer}
 use Rattle.definition.specs.declared.Answer.the-variants.{Done, Refused}
 use Rattle.definition.specs.Status.{pick, _and_, isDone, refuseIf, refuseUnless, _then_}
@@ -51,6 +51,7 @@ internal (Refused OutOfRange) = false
 internal (Refused BadState) = false
 internal (Refused ShouldWait) = false
 internal (Refused PeerClosed) = false
+internal (Refused NotFound) = false
 internal (Refused AccessDenied) = false
 
 Not : Answer → Type 0
