@@ -8,3 +8,4 @@ pub mod Disposed
 pub mod Closed
 pub mod Waits
 pub mod Created
+pub mod Cancels
