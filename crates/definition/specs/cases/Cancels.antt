@@ -80,7 +80,7 @@ after2 =
     (place 5 4 0 1 ∷ place 4294967301 6 0 1 ∷ place 5 7 0 3 ∷ [])
     (free ∷ free ∷ unusedPlaces)
 
-pub record Cancels : Type 0 where
+pub record CancelCases : Type 0 where
   pub lines : Show cancelScripts
   pub first : cancelledOf true 5 before ≡ after1
   pub second : cancelledOf false 5 before ≡ after2

@@ -29,9 +29,10 @@ loop-holds : tie.Need-loop-holds Inv-loop μ-loop
 loop-holds c =
     let t = c .before .args .t in
     let l : length (t .table) ≡ 128 = table-128 t _ (c .before .good .0) in
-    let h : t .packets + t .waits ≤ 128 = c .before .pre in
-    (compact-start (keeps (c .before .args .one) (c .before .args .key)) free (t .table) 0 (t .packets + t .waits) (omega arith) (omega arith),
-    ((λ (q : t .packets < 0). absurd (omega (arith, q)), omega arith), h))
+    let h : t .packets + t .waits ≤ 128 = c .before .pre in (
+      compact-start (keeps (c .before .args .one) (c .before .args .key)) free (t .table) 0 (t .packets + t .waits) (omega arith) (omega arith),
+      ((λ (q : t .packets < 0). absurd (omega (arith, q)), omega arith), h),
+    )
 
 mul-p : tie.Need-mul-p Inv-loop μ-loop
 mul-p c = search needs
@@ -67,33 +68,45 @@ loop-less : tie.Need-loop-less Inv-loop μ-loop
 loop-less c = search needs
 
 loop-again : tie.Need-loop-again Inv-loop μ-loop
-loop-again c = 
+loop-again c =
     let a = c .before .before .before .before .before .before .before .args in
     let t = a .t in
     let o = c .before .before .before .before .before .loop in
     let f = keeps (a .one) (a .key) in
-    let u = t .packets + t .waits in
-    (compact-keep f free (t .table) 0 u (o .out .table) (o .n) (o .i) free (o .inv .0) (c .before .before .before .before .loop-test .taken)
-    (ap not (sym (c .before .is-match .ensures)) ∙ c .if1 .taken),
-    ((λ (q : t .packets < o .i + 1). c .before .before .count-if .ensures
-    ∙ kept-packets f (t .table) (t .packets) u (o .out .table) (o .m) (o .n) (o .i) (o .inv .0) (o .inv .1 .0 .0) (omega (arith, q)),
-    o .inv .1 .0 .1), o .inv .1 .1))
+    let u = t .packets + t .waits in (
+      compact-keep f free (t .table) 0 u (o .out .table) (o .n) (o .i) free (o .inv .0) (c .before .before .before .before .loop-test .taken)
+          (ap not (sym (c .before .is-match .ensures)) ∙ c .if1 .taken),
+      (
+        (
+          λ (q : t .packets < o .i + 1). c .before .before .count-if .ensures
+              ∙ kept-packets f (t .table) (t .packets) u (o .out .table) (o .m) (o .n) (o .i) (o .inv .0) (o .inv .1 .0 .0) (omega (arith, q)),
+          o .inv .1 .0 .1,
+        ),
+        o .inv .1 .1,
+      ),
+    )
 
 loop-less-2 : tie.Need-loop-less-2 Inv-loop μ-loop
 loop-less-2 c = search needs
 
 loop-again-2 : tie.Need-loop-again-2 Inv-loop μ-loop
-loop-again-2 c = 
+loop-again-2 c =
     let a = c .before .before .before .before .before .before .before .args in
     let t = a .t in
     let o = c .before .before .before .before .before .loop in
     let f = keeps (a .one) (a .key) in
-    let u = t .packets + t .waits in
-    (compact-drop f free (t .table) 0 u (o .out .table) (o .n) (o .i) free (o .inv .0) (c .before .before .before .before .loop-test .taken)
-    (ap not (sym (c .before .is-match .ensures)) ∙ c .if1 .left),
-    ((λ (q : t .packets < o .i + 1). c .before .before .count-if .ensures
-    ∙ kept-packets f (t .table) (t .packets) u (o .out .table) (o .m) (o .n) (o .i) (o .inv .0) (o .inv .1 .0 .0) (omega (arith, q)),
-    o .inv .1 .0 .1), o .inv .1 .1))
+    let u = t .packets + t .waits in (
+      compact-drop f free (t .table) 0 u (o .out .table) (o .n) (o .i) free (o .inv .0) (c .before .before .before .before .loop-test .taken)
+          (ap not (sym (c .before .is-match .ensures)) ∙ c .if1 .left),
+      (
+        (
+          λ (q : t .packets < o .i + 1). c .before .before .count-if .ensures
+              ∙ kept-packets f (t .table) (t .packets) u (o .out .table) (o .m) (o .n) (o .i) (o .inv .0) (o .inv .1 .0 .0) (omega (arith, q)),
+          o .inv .1 .0 .1,
+        ),
+        o .inv .1 .1,
+      ),
+    )
 
 count-if-requires-2 : tie.Need-count-if-requires-2 Inv-loop μ-loop
 count-if-requires-2 c κs = search needs
