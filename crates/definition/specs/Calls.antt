@@ -14,7 +14,7 @@ use Rattle.definition.specs.Tests.{Lent, lentOf}
 use Rattle.definition.specs.Threshold.{readThresholdAnswer, writeThresholdAnswer, thresholdsAnswer, readThresholdSet, writeThresholdSet}
 use Rattle.definition.specs.Shutdown.{shutdownAnswer, userShutdownAnswer, shut, shutsRead, shutsWrite}
 use Rattle.definition.specs.Info.{infoAnswer}
-use Rattle.definition.specs.Port.{waitAnswer, takeAnswer, waited, took}
+use Rattle.definition.specs.Port.{waitAnswer, takeAnswer, cancelAnswer, waited, took, cancelled}
 use Rattle.definition.specs.Disposition.{plainDisposeAnswer, userDisposeAnswer, disposed, dispositionOf}
 use Rattle.definition.specs.Write.{writeAnswer, userWriteAnswer, pairWritten, ringWritten, tableWritten}
 use Rattle.definition.specs.Read.{readAnswer, userReadAnswer, pairRead, isPeek, bufferRead, bytesLanded}
@@ -34,7 +34,7 @@ pub record Create : Type 0 where
 
 -- The calls that move no byte. Disposition and shutdown are there twice: with a lookup of the right, and plain. Both dispositions are by 01's numbers, so
 -- that one above 2 is a call of a run too, refused with −10; the plain one by value takes an enum, whose cases are 0, 1 and 2.
--- 01 "Signal word and packets", "Delivered bytes", "Info record", "Calls over user memory".
+-- 01 "Signal word and packets", "Delivered bytes", "Info record", "Calls over user memory"; cancel is 02 (i).
 pub data Control : Type 0 where
   setDisposition : (handle disposition peerDisposition : ℕ) → Control
   shutdown : (handle options : ℕ) → Control
@@ -46,6 +46,7 @@ pub data Control : Type 0 where
   getInfo : (handle : ℕ) → Control
   wait : (handle key mask edge : ℕ) → Control
   takePacket : Control
+  cancel : (handle key : ℕ) → Control
 
 -- Every call on a pair. A call named plain is the one without user memory; its bytes are a slice. Options 8 of a read make it a peek;
 -- `countAt` is the address of the count. 01 "Delivered bytes", "Calls over user memory".
@@ -187,6 +188,7 @@ controlAnswer v (getThresholds h) = thresholdsAnswer (endsOf (v .pair)) h
 controlAnswer v (getInfo h) = infoAnswer (endsOf (v .pair)) (tableOnly (ownLent (isOne h) v)) h
 controlAnswer v (wait h k m e) = waitAnswer (endsOf (v .pair)) h e
 controlAnswer v takePacket = takeAnswer (v .pair)
+controlAnswer v (cancel h k) = cancelAnswer (v .pair) h k
 
 -- base and size are those of user memory; size is the length of a plain call's slice
 unfoldable pub answerTo : View → (base size : ℕ) → Call → Answer
@@ -209,6 +211,7 @@ controlled (getThresholds h) p = p
 controlled (getInfo h) p = p
 controlled (wait h k m e) p = waited (isOne h) k m e p
 controlled takePacket p = took p
+controlled (cancel h k) p = cancelled (isOne h) k p
 
 unfoldable pub pairAfter : View → Call → Answer → Pair
 pairAfter v (write h o a n at) r = pairWritten (v .pair) h (countOf r)

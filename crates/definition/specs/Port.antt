@@ -1,4 +1,4 @@
--- The table of 128 places: its packets, its waits and its unused places; what fires a wait; wait and take. 01 "Signal word and packets".
+-- The table of 128 places: its packets, its waits and its unused places; what fires a wait; wait, take and cancel. 01 "Signal word and packets", 02 (i).
 -- An end is named by a Bool, true for end 1 and false for end 2; a place holds the end's number.
 use Prim.Native.Nat.{ℕ, _+_, _-_}
 use mathlib.Core.Bool.{Bool, false, not}
@@ -11,9 +11,9 @@ use Rattle.definition.specs.declared.PortPacket.{PortPacket}
 use Rattle.definition.specs.declared.Status.{Status}
 use Rattle.definition.specs.declared.Answer.the-variants.{Refused, Done}
 use Rattle.definition.specs.declared.Next.{Next}
-use Rattle.definition.specs.declared.Status.the-variants.{Internal, ShouldWait, NoResources, InvalidArgs}
+use Rattle.definition.specs.declared.Status.the-variants.{Internal, ShouldWait, NoResources, InvalidArgs, NotFound}
 use Rattle.definition.specs.declared.Change.{Change}
-use Rattle.definition.specs.declared.Record.the-variants.{Packet}
+use Rattle.definition.specs.declared.Record.the-variants.{Count, Packet}
 use Rattle.definition.specs.declared.Answer.{Answer}
 use Rattle.definition.specs.declared.Ends.{Ends}
 use Rattle.definition.specs.declared.Pair.{Pair}
@@ -187,6 +187,26 @@ registerOf one w key mask edge t =
 unfoldable pub dropOf : Bool → Places → Next
 dropOf one t = pick (sound t) (done (droppedOf one t)) (refused Internal t)
 
+-- ---- cancelling
+
+-- 02 (i): whether a wait, or the packet that it made, is of that end and has that key, all 64 bits of it
+unfoldable pub matches : Bool → (key : ℕ) → Place → Bool
+matches one key p = eqb (p .end) (endNumber one) and eqb (p .key) key
+
+-- those that do not match, in their order
+unfoldable pub unmatched : Bool → (key : ℕ) → List Place → List Place
+unmatched one key ps = filter (λ p. not (matches one key p)) ps
+
+-- how many packets and waits match
+unfoldable pub matching : Bool → (key : ℕ) → Places → ℕ
+matching one key t = length (filter (matches one key) (packetsOf t)) + length (filter (matches one key) (waitsOf t))
+
+-- 02 (i): every wait of that end with that key goes, and so does every packet that such a wait made. What is left keeps its order, and the freed
+-- places stand before the unused ones.
+unfoldable pub cancelledOf : Bool → (key : ℕ) → Places → Places
+cancelledOf one key t =
+    tableOf (unmatched one key (packetsOf t)) (unmatched one key (waitsOf t)) (replicate (matching one key t) free ++ unusedOf t)
+
 -- ---- the calls
 
 -- ---- wait
@@ -215,10 +235,26 @@ takeAnswer p =
 unfoldable pub took : Pair → Pair
 took p = withPlaces (takenOf (p .places)) p
 
--- ---- what the two calls do
+-- ---- cancel
+
+-- 02 (i): the number of waits and packets removed, or −25 where nothing matched, after −11
+unfoldable pub cancelAnswer : Pair → (h key : ℕ) → Answer
+cancelAnswer p h key =
+    openingTest (endsOf p) h
+    then refuseIf (eqb (matching (isOne h) key (p .places)) 0) NotFound
+    then Done (Count (matching (isOne h) key (p .places)))
+
+-- the pair without them; no word changes, so nothing fires
+unfoldable pub cancelled : Bool → (key : ℕ) → Pair → Pair
+cancelled t key p = withPlaces (cancelledOf t key (p .places)) p
+
+-- ---- what the three calls do
 
 abbrev pub Waits : Pair → (h key mask edge : ℕ) → Step → Type 0
 Waits p h key mask edge = Steps p (waitAnswer (endsOf p) h edge) (waited (isOne h) key mask edge p)
 
 abbrev pub Takes : Pair → Step → Type 0
 Takes p = Steps p (takeAnswer p) (took p)
+
+abbrev pub Cancels : Pair → (h key : ℕ) → Step → Type 0
+Cancels p h key = Steps p (cancelAnswer p h key) (cancelled (isOne h) key p)

@@ -3,7 +3,7 @@ use Prim.Native.Nat.{ℕ}
 use mathlib.Core.Bool.{Bool, true, false}
 use lib.IntN.{ℤ, pos, negℤ}
 use Rattle.definition.specs.declared.Status.{Status}
-use Rattle.definition.specs.declared.Status.the-variants.{Internal, NoResources, InvalidArgs, BadHandle, OutOfRange, BadState, ShouldWait, PeerClosed, AccessDenied}
+use Rattle.definition.specs.declared.Status.the-variants.{Internal, NoResources, InvalidArgs, BadHandle, OutOfRange, BadState, ShouldWait, PeerClosed, NotFound, AccessDenied}
 use Rattle.definition.specs.declared.Record.{Record}
 use Rattle.definition.specs.declared.Record.the-variants.{Empty, Count, Info, Limits, Packet}
 use Rattle.definition.specs.declared.Answer.{Answer}
@@ -40,6 +40,7 @@ statusNumber OutOfRange = 14
 statusNumber BadState = 20
 statusNumber ShouldWait = 22
 statusNumber PeerClosed = 24
+statusNumber NotFound = 25
 statusNumber AccessDenied = 30
 
 -- the number that a done call answers: its count, 0 for a record without one

@@ -11,6 +11,7 @@ pub enum Status {
     BadState,
     ShouldWait,
     PeerClosed,
+    NotFound,
     AccessDenied,
 }
 

@@ -8,7 +8,8 @@ use Rattle.definition_runs.proofs.Example.{examples}
 use Rattle.definition_runs.proofs.Refused.{refused-changes-nothing, memory-at-exit}
 use Rattle.definition_runs.proofs.RunsSound.{runs-are-sound}
 use Rattle.definition_runs.proofs.cases.Lines.{lines-match}
-use Rattle.definition.proofs.cases.Edges.{at-the-edges, in-order, packets-in-order}
+use Rattle.definition.proofs.cases.Edges.{at-the-edges, in-order, packets-in-order, cancels-in-order}
+use Rattle.port.proofs.cancel.Kept.{used-cancelled}
 use Rattle.definition.proofs.cases.Damaged.{damaged-records, lent-slices, first-lengths, create-arguments}
 
 pub claims : Claims
@@ -26,6 +27,8 @@ claims =
       edges = at-the-edges;
       orders = in-order;
       packets = packets-in-order;
+      frees = used-cancelled;
+      cancels = cancels-in-order;
       damaged = damaged-records;
       lent = lent-slices;
       firsts = first-lengths;

@@ -44,4 +44,4 @@ on-streams =
 
 pub examples : Examples
 unfolding outcomesOf
-examples = record { datagrams = on-datagrams; streams = on-streams; rings = refl }
+examples = record { datagrams = on-datagrams; streams = on-streams; rings = refl; cancels = refl; cancels′ = refl }

@@ -22,7 +22,7 @@ use Rattle.definition.specs.declared.Pair.{Pair}
 use Rattle.definition.specs.Tests.{lentOf}
 use Rattle.definition.specs.Disposition.{dispositionOf}
 use Rattle.definition.specs.Shutdown.{shutsRead, shutsWrite}
-use Rattle.definition.specs.Calls.{Control, setDisposition, shutdown, plainDisposition, plainShutdown, setReadThreshold, setWriteThreshold, getThresholds, getInfo, wait, takePacket, Call, write, read, plainWrite, plainRead, close, control, Input, bytesOf, offsetOf, Slices, State, peerSlices, withPair, withPeerSlices, view, ownLent, peerLent, controlAnswer, answerTo, controlled, pairAfter, written, stateAfter, answerOf, after}
+use Rattle.definition.specs.Calls.{Control, setDisposition, shutdown, plainDisposition, plainShutdown, setReadThreshold, setWriteThreshold, getThresholds, getInfo, wait, takePacket, cancel, Call, write, read, plainWrite, plainRead, close, control, Input, bytesOf, offsetOf, Slices, State, peerSlices, withPair, withPeerSlices, view, ownLent, peerLent, controlAnswer, answerTo, controlled, pairAfter, written, stateAfter, answerOf, after}
 use Rattle.definition_runs.specs.TwoRuns.{Origin, origins, OriginLine, OriginLines, ownLine, withOwn, fed, added, shrunk, removed, linesAfter}
 use Rattle.definition_runs.proofs.Lists.{length-origins, origin-bytes}
 use Rattle.definition_runs.proofs.Holds.{Size, Holds, firstOf, first-is}
@@ -223,6 +223,7 @@ module _ (f : Origin → Option ℕ) (dg : Bool) (z1 z2 : Size) where
         let most : used (s .pair .places) ≤ 128 = leb-true (used (s .pair .places)) 128 (v .places) in
         Kept.waited-kept (isOne h) key mask edge (s .pair) (omega (arith, full, most))
     control-kept takePacket e = Kept.took-kept (s .pair) (take-any (s .pair) e)
+    control-kept (cancel h key) e = Kept.cancelled-kept (isOne h) key (s .pair)
 
     call-inv : (w : ℕ) (i : Input) (c : Call) → ((o : ℕ) → f (record { call = w; offset = o }) ≡ getElem? (drop (offsetOf (i .base) c) (i .memory)) o)
         → Inv f dg z1 z2

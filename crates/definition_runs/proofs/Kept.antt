@@ -6,7 +6,8 @@ use mathlib.Core.List.{List, [], _∷_}
 use lib.Dec.{eqb}
 use Rattle.definition.specs.Status.{pick}
 use Rattle.definition.specs.declared.Places.{Places}
-use Rattle.definition.specs.Port.{used, sound, done, droppedOf, waited, took}
+use Rattle.port.proofs.cancel.Kept.{sound-cancelled}
+use Rattle.definition.specs.Port.{used, sound, done, droppedOf, waited, took, cancelled}
 use Rattle.port.proofs.packets.Operations.{take-done}
 use Rattle.port.proofs.waits.Operations.{register-done, drop-done}
 use Rattle.port.proofs.waits.Sound.{sound-register, sound-change, sound-take, sound-drop}
@@ -131,6 +132,10 @@ waited-kept t key mask edge p below =
 pub took-kept : (p : Pair) → 0 < p .places .packets → Kept p (took p)
 unfolding took
 took-kept p any = places-kept _ p (λ s. rw (take-done (p .places) s any) at (sound-take (p .places) s))
+
+pub cancelled-kept : (t : Bool) (key : ℕ) (p : Pair) → Kept p (cancelled t key p)
+unfolding cancelled
+cancelled-kept t key p = places-kept _ p (sound-cancelled t key (p .places))
 
 -- ---- what follows where bytes go in, where they leave, and where an end closes
 

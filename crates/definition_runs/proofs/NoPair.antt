@@ -13,13 +13,13 @@ use Rattle.definition.specs.Info.{infoAnswer}
 use Rattle.definition.specs.Read.{readAnswer, userReadAnswer}
 use Rattle.definition.specs.Tests.{soundEnds, soundTest, openingTest, Lent}
 use Rattle.definition.specs.Threshold.{readThresholdAnswer, writeThresholdAnswer, thresholdsAnswer}
-use Rattle.definition.specs.Port.{waitAnswer, takeAnswer}
+use Rattle.definition.specs.Port.{waitAnswer, takeAnswer, cancelAnswer}
 use Rattle.definition.specs.Write.{writeAnswer, userWriteAnswer}
 use Rattle.definition.specs.Create.{noPair}
 use Rattle.definition.specs.Shutdown.{shutdownAnswer, userShutdownAnswer}
 use Rattle.definition.specs.Close.{closeAnswer}
 use Rattle.definition.specs.Disposition.{plainDisposeAnswer, userDisposeAnswer}
-use Rattle.definition.specs.Calls.{Control, setDisposition, shutdown, plainDisposition, plainShutdown, setReadThreshold, setWriteThreshold, getThresholds, getInfo, wait, takePacket, Call, write, read, plainWrite, plainRead, close, control, Input, Public, public, Slices, State, state, seenOf, View, view, controlAnswer, answerTo, pairAfter, answerOf, outcome, outcomes}
+use Rattle.definition.specs.Calls.{Control, setDisposition, shutdown, plainDisposition, plainShutdown, setReadThreshold, setWriteThreshold, getThresholds, getInfo, wait, takePacket, cancel, Call, write, read, plainWrite, plainRead, close, control, Input, Public, public, Slices, State, state, seenOf, View, view, controlAnswer, answerTo, pairAfter, answerOf, outcome, outcomes}
 use Rattle.definition_runs.specs.TwoRuns.{Origin, OriginLines, noLines, linesAfter, sourceOf, sourcesFrom, seen, answers, deliveries, calls}
 use Rattle.definition_runs.proofs.Lists.{cons-path}
 use Rattle.definition_runs.proofs.Refused.{pair-stays, lines-stay, no-source, refused-after, refused-delivers}
@@ -28,7 +28,7 @@ abbrev no-view : (z1 z2 : Lent) → View
 no-view z1 z2 = record { pair = noPair; one = z1; two = z2 }
 
 control-internal : (z1 z2 : Lent) (c : Control) → controlAnswer (no-view z1 z2) c ≡ Refused Internal
-unfolding controlAnswer noPair soundEnds soundTest openingTest refuseUnless _then_ _and_ readThresholdAnswer writeThresholdAnswer thresholdsAnswer shutdownAnswer infoAnswer waitAnswer takeAnswer plainDisposeAnswer userDisposeAnswer userShutdownAnswer
+unfolding controlAnswer noPair soundEnds soundTest openingTest refuseUnless _then_ _and_ readThresholdAnswer writeThresholdAnswer thresholdsAnswer shutdownAnswer infoAnswer waitAnswer takeAnswer cancelAnswer plainDisposeAnswer userDisposeAnswer userShutdownAnswer
 control-internal z1 z2 (setDisposition h a b) = refl
 control-internal z1 z2 (shutdown h o) = refl
 control-internal z1 z2 (plainDisposition h a b) = refl
@@ -39,6 +39,7 @@ control-internal z1 z2 (getThresholds h) = refl
 control-internal z1 z2 (getInfo h) = refl
 control-internal z1 z2 (wait h k m x) = refl
 control-internal z1 z2 takePacket = refl
+control-internal z1 z2 (cancel h k) = refl
 
 internal : (z1 z2 : Lent) (base size : ℕ) (c : Call) → answerTo (no-view z1 z2) base size c ≡ Refused Internal
 unfolding answerTo noPair soundEnds soundTest openingTest refuseUnless _then_ _and_ writeAnswer readAnswer closeAnswer userWriteAnswer userReadAnswer

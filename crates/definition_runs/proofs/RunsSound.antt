@@ -10,7 +10,7 @@ use lib.ListN.{length, getElem?}
 use lib.Dec.{eqb}
 use borrow.Author.Tests.{lt-ltb, le-leb}
 use Rattle.definition.specs.declared.Status.{Status}
-use Rattle.definition.specs.declared.Status.the-variants.{Internal, NoResources, InvalidArgs, BadHandle, OutOfRange, BadState, ShouldWait, PeerClosed, AccessDenied}
+use Rattle.definition.specs.declared.Status.the-variants.{Internal, NoResources, InvalidArgs, BadHandle, OutOfRange, BadState, ShouldWait, PeerClosed, NotFound, AccessDenied}
 use Rattle.definition.specs.declared.Answer.{Answer}
 use Rattle.definition.specs.declared.Answer.the-variants.{Done, Refused}
 use Rattle.definition.specs.Status.{pick, _and_, isDone, refuseIf, refuseUnless, _then_}
@@ -23,13 +23,13 @@ use Rattle.definition.specs.Read.{emptyAnswer, readSize, readAnswer, userReadAn
 use Rattle.definition.specs.Disposition.{disposeChecks, plainDisposeAnswer, userDisposeAnswer}
 use Rattle.definition.specs.Info.{infoAnswer}
 use Rattle.definition.specs.Threshold.{readThresholdAnswer, writeThresholdAnswer, thresholdsAnswer}
-use Rattle.definition.specs.Port.{waitAnswer, takeAnswer}
+use Rattle.definition.specs.Port.{waitAnswer, takeAnswer, cancelAnswer}
 use Rattle.definition.specs.declared.Pair.{Pair}
 use Rattle.definition.specs.Pair.{isOne, endsOf, own, peer}
 use Rattle.definition.specs.Shutdown.{shutdownAnswer, userShutdownAnswer}
 use Rattle.definition.specs.Close.{closeAnswer}
 use Rattle.definition.specs.Memory.{lookup}
-use Rattle.definition.specs.Calls.{Control, setDisposition, shutdown, plainDisposition, plainShutdown, setReadThreshold, setWriteThreshold, getThresholds, getInfo, wait, takePacket, Call, write, read, plainWrite, plainRead, close, control, Input, State, state, ownSlices, Outcome, createdBy, View, view, ownLent, peerLent, tableOnly, controlAnswer, answerTo, answerOf, outcome, pairCreated}
+use Rattle.definition.specs.Calls.{Control, setDisposition, shutdown, plainDisposition, plainShutdown, setReadThreshold, setWriteThreshold, getThresholds, getInfo, wait, takePacket, cancel, Call, write, read, plainWrite, plainRead, close, control, Input, State, state, ownSlices, Outcome, createdBy, View, view, ownLent, peerLent, tableOnly, controlAnswer, answerTo, answerOf, outcome, pairCreated}
 use Rattle.definition_runs.specs.Run.{Chain, none, next, Does, run}
 use Rattle.definition_runs.specs.TwoRuns.{Origin, OriginLines, noLines, found, linesAfter}
 use Rattle.definition_runs.specs.Laws.{Sound, RunsAreSound}
@@ -51,6 +51,7 @@ internal (Refused OutOfRange) = false
 internal (Refused BadState) = false
 internal (Refused ShouldWait) = false
 internal (Refused PeerClosed) = false
+internal (Refused NotFound) = false
 internal (Refused AccessDenied) = false
 
 Not : Answer → Type 0
@@ -152,7 +153,7 @@ module _ (v : View) (g : Good v) where
   opening-not h = then-not _ _ sound-not (handle-not (v .pair) h)
 
   control-not : (c : Control) → Not (controlAnswer v c)
-  unfolding controlAnswer readThresholdAnswer writeThresholdAnswer thresholdsAnswer shutdownAnswer infoAnswer waitAnswer takeAnswer plainDisposeAnswer userDisposeAnswer userShutdownAnswer Not internal
+  unfolding controlAnswer readThresholdAnswer writeThresholdAnswer thresholdsAnswer shutdownAnswer infoAnswer waitAnswer takeAnswer cancelAnswer plainDisposeAnswer userDisposeAnswer userShutdownAnswer Not internal
   control-not (setDisposition h a b) =
       then-not _ _ sound-not
       (then-not _ _ (if-not _ InvalidArgs refl)
@@ -171,6 +172,7 @@ module _ (v : View) (g : Good v) where
   control-not (wait h k m e) =
       then-not _ _ (opening-not h) (then-not _ _ (if-not _ InvalidArgs refl) (if-not _ NoResources refl))
   control-not takePacket = then-not _ _ sound-not (then-not _ _ (if-not _ ShouldWait refl) refl)
+  control-not (cancel h k) = then-not _ _ (opening-not h) (then-not _ _ (if-not _ NotFound refl) refl)
 
   answer-not : (base size : ℕ) (c : Call) → Not (answerTo v base size c)
   unfolding answerTo writeAnswer readAnswer closeAnswer userWriteAnswer userReadAnswer Not internal

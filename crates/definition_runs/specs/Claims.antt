@@ -1,10 +1,11 @@
 -- All that is claimed of runs of calls, as one record. 01 "Two runs", "Status and answer word", "At the edges".
 use Rattle.definition_runs.specs.Run.{CallsMatch, RunsMatch, RunsExist, LinesMatch}
 use Rattle.definition_runs.specs.TwoRuns.{TwoRuns}
-use Rattle.definition_runs.specs.Laws.{RefusedChangesNothing, MemoryAtExit, RunsAreSound}
+use Rattle.definition_runs.specs.Laws.{RefusedChangesNothing, MemoryAtExit, RunsAreSound, CancelFrees}
 use Rattle.definition.specs.cases.Edges.{AtTheEdges}
 use Rattle.definition.specs.cases.Orders.{Orders}
 use Rattle.definition.specs.cases.Packets.{Packets}
+use Rattle.definition.specs.cases.Cancels.{CancelCases}
 use Rattle.definition_runs.specs.Example.{Examples}
 use Rattle.definition.specs.cases.Damaged.{DamagedRecords}
 use Rattle.definition.specs.cases.Lends.{LentSlices}
@@ -31,6 +32,9 @@ pub record Claims : Type 0 where
   -- beside them: orders of tests and of packets, rights, thresholds, info, memory at exit
   pub orders : Orders
   pub packets : Packets
+  -- 02 (i): cancel frees as many places as it answers; and its cases
+  pub frees : CancelFrees
+  pub cancels : CancelCases
   -- 01 "Status and answer word": damaged records, short slices and first lengths, create's arguments
   pub damaged : DamagedRecords
   pub lent : LentSlices

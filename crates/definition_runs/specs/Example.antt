@@ -2,11 +2,14 @@
 -- 01 "Two runs".
 use Prim.Native.Nat.{ℕ}
 use mathlib.Core.Bool.{false, true}
-use mathlib.Core.List.{List, [], _∷_, map}
+use mathlib.Core.List.{List, [], _∷_, _++_, map}
 use mathlib.Core.Path.{_≡_}
-use lib.ListN.{replicate}
+use lib.ListN.{replicate, getD}
 use lib.Dec.{eqb}
-use Rattle.definition.specs.Calls.{write, read, plainWrite, plainRead, close, Input, input, Slices, Outcome, outcomes, stateCreated, State, afterAll, Seen, seenOf, createdBy, pairCreated}
+use Rattle.definition.specs.Calls.{write, read, plainWrite, plainRead, close, control, wait, cancel, Input, input, Slices, Outcome, outcomes, stateCreated, State, afterAll, Seen, seenOf, createdBy, pairCreated}
+use Rattle.definition.specs.declared.Answer.the-variants.{Done}
+use Rattle.definition.specs.declared.Record.the-variants.{Count}
+use Rattle.definition.specs.Status.{ok}
 use Rattle.definition.specs.cases.Lines.{linesOf}
 use Rattle.definition.specs.cases.Scripts.{create, datagramKind, streamKind}
 use Rattle.definition_runs.specs.TwoRuns.{Origin, origins, flat, added, shrunk, removed, linesAfter, sourceOf, sourcesFrom, sources, answers, calls, deliveries, Alike}
@@ -27,12 +30,15 @@ datagramCalls memory row =
     ∷ input (close 2) 0 []
     ∷ []
 
--- On a stream 6 bytes are written and 4 of them read. The write of 8 then takes 6, which run past the ring's end of 8 and continue at its start.
+-- On a stream end 2 has two waits of one key. 6 bytes are written, which fires one of them; a cancel removes its packet and the other. 4 bytes are read. The write of 8 then takes 6, which run past the ring's end of 8 and continue at its start.
 -- A peek and a plain read into 5 and 3 bytes go over both writes; a read of 0 consumes nothing. The rest is read, over the ring's end, with the
 -- count put over it. Then a plain row goes the other way and is peeked at, its writer closes, and it is read.
 abbrev pub streamCalls : (memory row : List ℕ) → List Input
 streamCalls memory row =
-    input (write 1 0 4096 6 0) 4096 memory
+    input (control (wait 2 5 1 0)) 0 []
+    ∷ input (control (wait 2 5 4 0)) 0 []
+    ∷ input (write 1 0 4096 6 0) 4096 memory
+    ∷ input (control (cancel 2 5)) 0 []
     ∷ input (read 2 0 4104 4 0) 4096 memory
     ∷ input (write 1 0 4100 8 4104) 4096 memory
     ∷ input (read 2 8 4100 5 0) 4096 memory
@@ -117,6 +123,9 @@ abbrev pub OnStreams : Type 0
 OnStreams =
     Differ streamKind streamSalary streamFiller
     ([]
+    ∷ []
+    ∷ []
+    ∷ []
     ∷ (49 ∷ 50 ∷ 51 ∷ 52 ∷ [])
     ∷ []
     ∷ (53 ∷ 54 ∷ 53 ∷ 54 ∷ 55 ∷ [])
@@ -129,6 +138,9 @@ OnStreams =
     ∷ (65 ∷ 66 ∷ [])
     ∷ [])
     ([]
+    ∷ []
+    ∷ []
+    ∷ []
     ∷ replicate 4 42
     ∷ []
     ∷ replicate 5 42
@@ -141,19 +153,22 @@ OnStreams =
     ∷ replicate 2 42
     ∷ [])
     ([]
-    ∷ (from 0 0 ∷ from 0 1 ∷ from 0 2 ∷ from 0 3 ∷ [])
     ∷ []
-    ∷ (from 0 4 ∷ from 0 5 ∷ from 2 0 ∷ from 2 1 ∷ from 2 2 ∷ [])
-    ∷ (from 0 4 ∷ from 0 5 ∷ from 2 0 ∷ [])
     ∷ []
-    ∷ (from 2 1 ∷ from 2 2 ∷ from 2 3 ∷ from 2 4 ∷ from 2 5 ∷ [])
     ∷ []
-    ∷ (from 7 0 ∷ from 7 1 ∷ [])
+    ∷ (from 2 0 ∷ from 2 1 ∷ from 2 2 ∷ from 2 3 ∷ [])
     ∷ []
-    ∷ (from 7 0 ∷ from 7 1 ∷ [])
+    ∷ (from 2 4 ∷ from 2 5 ∷ from 5 0 ∷ from 5 1 ∷ from 5 2 ∷ [])
+    ∷ (from 2 4 ∷ from 2 5 ∷ from 5 0 ∷ [])
+    ∷ []
+    ∷ (from 5 1 ∷ from 5 2 ∷ from 5 3 ∷ from 5 4 ∷ from 5 5 ∷ [])
+    ∷ []
+    ∷ (from 10 0 ∷ from 10 1 ∷ [])
+    ∷ []
+    ∷ (from 10 0 ∷ from 10 1 ∷ [])
     ∷ [])
 
--- the ring of the stream's end 2: from the third call on it holds 6 bytes of the second write, from place 6 on and then from its start
+-- the ring of the stream's end 2: from the sixth call on it holds 6 bytes of the second write, from place 6 on and then from its start
 abbrev pub wrapped : List ℕ
 wrapped = 55 ∷ 56 ∷ 57 ∷ 58 ∷ 53 ∷ 54 ∷ 53 ∷ 54 ∷ []
 
@@ -162,4 +177,7 @@ pub record Examples : Type 0 where
   pub streams : OnStreams
   pub rings :
       ringsOf (outcomesOf streamKind emptySlices streamSalary)
-      ≡ (49 ∷ 50 ∷ 51 ∷ 52 ∷ 53 ∷ 54 ∷ 0 ∷ 0 ∷ []) ∷ (49 ∷ 50 ∷ 51 ∷ 52 ∷ 53 ∷ 54 ∷ 0 ∷ 0 ∷ []) ∷ replicate 9 wrapped
+      ≡ replicate 2 (replicate 8 0) ++ (replicate 3 (49 ∷ 50 ∷ 51 ∷ 52 ∷ 53 ∷ 54 ∷ 0 ∷ 0 ∷ []) ++ replicate 9 wrapped)
+  -- 02 (i): the cancel answers 2 in both runs
+  pub cancels : getD (answers (outcomesOf streamKind emptySlices streamSalary)) 3 ok ≡ Done (Count 2)
+  pub cancels′ : getD (answers (outcomesOf streamKind usedSlices streamFiller)) 3 ok ≡ Done (Count 2)

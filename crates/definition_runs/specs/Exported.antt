@@ -16,13 +16,13 @@ use Rattle.definition.specs.declared.Answer.the-variants.{Done, Refused}
 use Rattle.definition.specs.Status.{answerWord, pick, isDone}
 use Rattle.definition.specs.Tests.{openingTest}
 use Rattle.definition.specs.Pair.{isOne, own, endsOf}
-use Rattle.definition.specs.Calls.{Create, Slices, createdBy, Input, input, Call, Control, setDisposition, shutdown, plainDisposition, plainShutdown, setReadThreshold, setWriteThreshold, getThresholds, getInfo, wait, takePacket, write, read, plainWrite, plainRead, close, control, State, ownSlices, peerSlices, withPair, withPeerSlices, state, Outcome, seenOf, memoriesAfter, public, CreatesBy}
+use Rattle.definition.specs.Calls.{Create, Slices, createdBy, Input, input, Call, Control, setDisposition, shutdown, plainDisposition, plainShutdown, setReadThreshold, setWriteThreshold, getThresholds, getInfo, wait, takePacket, cancel, write, read, plainWrite, plainRead, close, control, State, ownSlices, peerSlices, withPair, withPeerSlices, state, Outcome, seenOf, memoriesAfter, public, CreatesBy}
 use Rattle.definition.specs.Write.{Writes, UserWrites}
 use Rattle.definition.specs.Read.{Reads, UserReads, bytesLanded}
 use Rattle.definition.specs.Disposition.{PlainDisposes, UserDisposes}
 use Rattle.definition.specs.Shutdown.{Shuts, UserShuts}
 use Rattle.definition.specs.Threshold.{SetsReadThreshold, SetsWriteThreshold, AsksThresholds}
-use Rattle.definition.specs.Port.{Waits, Takes}
+use Rattle.definition.specs.Port.{Waits, Takes, Cancels}
 use Rattle.definition.specs.Close.{Closes}
 use Rattle.definition.specs.Info.{AsksInfo}
 use Rattle.definition_runs.specs.Run.{Chain, Run, Does}
@@ -127,6 +127,7 @@ recordIn (getThresholds h) r out = arrayOf thresholdNumbers r out
 recordIn (getInfo h) r out = arrayOf infoNumbers r out
 recordIn (wait h key mask edge) r out = out
 recordIn takePacket r out = arrayOf packetNumbers r out
+recordIn (cancel h key) r out = out
 
 unfoldable pub arrayAfter : Call → Answer → List ℕ → List ℕ
 arrayAfter (write h o a n at) r out = out
@@ -175,6 +176,9 @@ pub data Exported (s : State) : Passed → State → Returned → Type 0 where
   murgwethan-take : {out out′ : List ℕ} {p : Pair} {w : ℤ}
       → Answered (Recorded packetNumbers (Takes (s .pair)) out out′) p w
       → Exported s (passed (control takePacket) 0 [] out) (withPair p s) (returned w p [] [] out′)
+  murgwethan-cancel : {h key : ℕ} {p : Pair} {w : ℤ}
+      → Answered (Cancels (s .pair) h key) p w
+      → Exported s (passed (control (cancel h key)) 0 [] []) (withPair p s) (returned w p [] [] [])
   murgwethan-close : {h : ℕ} {p : Pair} {w : ℤ}
       → Answered (Closes (s .pair) h) p w
       → Exported s (passed (close h) 0 [] []) (withPair p s) (returned w p [] [] [])
@@ -299,6 +303,7 @@ pub data Passable : Passed → Type 0 where
   to-info : (h : ℕ) (out : List ℕ) → Passable (passed (control (getInfo h)) 0 [] out)
   to-wait : (h key mask edge : ℕ) → Passable (passed (control (wait h key mask edge)) 0 [] [])
   to-take : (out : List ℕ) → Passable (passed (control takePacket) 0 [] out)
+  to-cancel : (h key : ℕ) → Passable (passed (control (cancel h key)) 0 [] [])
   to-close : (h : ℕ) → Passable (passed (close h) 0 [] [])
   to-user-write : (h o base a n at : ℕ) (memory : List ℕ) → Passable (passed (write h o a n at) base memory [])
   to-user-read : (h o base a n at : ℕ) (memory : List ℕ) → Passable (passed (read h o a n at) base memory [])

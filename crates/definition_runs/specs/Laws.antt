@@ -12,6 +12,9 @@ use Rattle.definition_runs.specs.Run.{Does, Run}
 use Rattle.definition.specs.Tests.{shortSlices, firstLength, badFirst, soundEnds}
 use Rattle.definition.specs.Pair.{own, endsOf}
 use Rattle.definition.specs.Status.{isDone}
+use Rattle.definition.specs.declared.Places.{Places}
+use Rattle.definition.specs.Port.{used, matching, cancelledOf}
+use Prim.Native.Nat.{ℕ, _+_, _≤_}
 
 pub record Unchanged (s : State) (i : Input) (s′ : State) (o : Outcome) : Type 0 where
   -- pair, rings and tables
@@ -44,3 +47,7 @@ RunsAreSound =
     (c : Create) (one two : Slices) (is : List Input) (x : Seen) (os : List Outcome) (s : State)
     → Run c one two is x os s → isDone (x .answer) ≡ true
     → Sound s
+
+-- 02 (i): of any table that has a place for each that it counts as used, the places used before a cancel are those used after it and the number removed
+abbrev pub CancelFrees : Type 0
+CancelFrees = (one : Bool) (key : ℕ) (t : Places) → used t ≤ length (t .table) → used (cancelledOf one key t) + matching one key t ≡ used t

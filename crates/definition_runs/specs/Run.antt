@@ -15,9 +15,9 @@ use Rattle.definition.specs.Threshold.{AsksThresholds, SetsReadThreshold, SetsW
 use Rattle.definition.specs.Disposition.{PlainDisposes, UserDisposes}
 use Rattle.definition.specs.Shutdown.{Shuts, UserShuts}
 use Rattle.definition.specs.Info.{AsksInfo}
-use Rattle.definition.specs.Port.{Takes, Waits}
+use Rattle.definition.specs.Port.{Takes, Cancels, Waits}
 use Rattle.definition.specs.Close.{Closes}
-use Rattle.definition.specs.Calls.{setDisposition, shutdown, plainDisposition, plainShutdown, setReadThreshold, setWriteThreshold, getThresholds, getInfo, wait, takePacket, write, read, plainWrite, plainRead, close, control, Input, input, State, ownSlices, peerSlices, withPair, withPeerSlices, Outcome, gives, Create, Slices, state, Seen, seenOf, createdBy, leftBy, after, outcome, outcomes, afterAll, pairCreated, stateCreated, CreatesBy}
+use Rattle.definition.specs.Calls.{setDisposition, shutdown, plainDisposition, plainShutdown, setReadThreshold, setWriteThreshold, getThresholds, getInfo, wait, takePacket, cancel, write, read, plainWrite, plainRead, close, control, Input, input, State, ownSlices, peerSlices, withPair, withPeerSlices, Outcome, gives, Create, Slices, state, Seen, seenOf, createdBy, leftBy, after, outcome, outcomes, afterAll, pairCreated, stateCreated, CreatesBy}
 use Rattle.definition.specs.Create.{noPair}
 use Rattle.definition.specs.cases.Lines.{shownLines, linesOf}
 
@@ -78,6 +78,9 @@ pub data Does (s : State) : Input → State → Outcome → Type 0 where
   did-take : {base : ℕ} {memory : List ℕ} {r : Step}
       → Takes (s .pair) r
       → Does s (input (control takePacket) base memory) (withPair (r .pair) s) (gives r s [] memory)
+  did-cancel : {h key base : ℕ} {memory : List ℕ} {r : Step}
+      → Cancels (s .pair) h key r
+      → Does s (input (control (cancel h key)) base memory) (withPair (r .pair) s) (gives r s [] memory)
   did-close : {h base : ℕ} {memory : List ℕ} {r : Step}
       → Closes (s .pair) h r
       → Does s (input (close h) base memory) (withPair (r .pair) s) (gives r s [] memory)

@@ -14,7 +14,7 @@ use Rattle.definition.specs.declared.Record.the-variants.{Count}
 use Rattle.definition.specs.declared.Answer.the-variants.{Done}
 use Rattle.definition.specs.Status.{pick, isDone, countOf, refuseUnless, _then_}
 use Rattle.definition.specs.Create.{createAnswer, newPair, noPair}
-use Rattle.definition_script.specs.Record.{four, eight, READ, transferOf}
+use Rattle.definition_script.specs.Record.{four, eight, READ, FILL, transferOf}
 use Rattle.definition.specs.Pair.{isOne, endsOf, own, peer}
 use Rattle.definition.specs.Disposition.{disposed, dispositionOf, userDisposeAnswer}
 use Rattle.definition.specs.Shutdown.{shut, shutsRead, shutsWrite, userShutdownAnswer}
@@ -22,7 +22,7 @@ use Rattle.definition.specs.Threshold.{readThresholdAnswer, readThresholdSet, w
 use Rattle.definition.specs.Tests.{lentOf, firstLength}
 use Rattle.definition.specs.Info.{infoAnswer}
 use Rattle.definition.specs.Close.{closeAnswer, closed}
-use Rattle.definition.specs.Port.{waitAnswer, waited, takeAnswer, took}
+use Rattle.definition.specs.Port.{waitAnswer, waited, takeAnswer, took, cancelAnswer, cancelled}
 use Rattle.definition.specs.Write.{userWriteAnswer, pairWritten, ringWritten, tableWritten}
 use Rattle.definition.specs.Memory.{countLanded, fits, countPut}
 use Rattle.definition.specs.Read.{userReadAnswer, pairRead, isPeek, bytesLanded}
@@ -116,7 +116,11 @@ waitStep p b = stepOf p (waitAnswer (endsOf p) (four b 0) (getD b 16 0)) (waited
 unfoldable pub takeStep : Pair → Step
 takeStep p = stepOf p (takeAnswer p) (took p)
 
--- by the tag: 0, and 3 to 10; 1 and 2 are as 3, those above 10 as 10
+-- 02 (i), tag 12
+unfoldable pub cancelStep : Pair → (body : List ℕ) → Step
+cancelStep p b = stepOf p (cancelAnswer p (four b 0) (eight b 4)) (cancelled (isOne (four b 0)) (eight b 4) p)
+
+-- by the tag: 0, 3 to 10, and 12; 1 and 2 are as 3, 11 and those above 12 as 12
 unfoldable pub controlStep : Rings → Pair → (tag : ℕ) → (body : List ℕ) → Step
 controlStep z p tag b =
     pick (ltb tag 1) (createStep z b)
@@ -127,7 +131,8 @@ controlStep z p tag b =
     (pick (ltb tag 8) (infoStep z p b)
     (pick (ltb tag 9) (closeStep p b)
     (pick (ltb tag 10) (waitStep p b)
-    (takeStep p))))))))
+    (pick (ltb tag 11) (takeStep p)
+    (cancelStep p b)))))))))
 
 -- ---- the calls over memory
 
@@ -211,7 +216,7 @@ unfoldable pub callOf : (memory : List ℕ) → Rings → Pair → (tag : ℕ) �
 callOf memory z p tag b =
     pick (eqb tag 1) (writeCall memory z p (transferOf b))
     (pick (eqb tag READ) (readCall memory z p (transferOf b))
-    (pick (ltb 10 tag) (fillCall memory z p (eight b 0) (drop 8 b))
+    (pick (eqb tag FILL) (fillCall memory z p (eight b 0) (drop 8 b))
     (controlCall memory z (controlStep z p tag b))))
 
 -- ---- the bytes that a read delivered, and its count

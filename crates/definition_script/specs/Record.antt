@@ -35,8 +35,11 @@ CREATE = 0
 abbrev pub READ : ℕ
 READ = 2
 
+abbrev pub FILL : ℕ
+FILL = 11
+
 -- whether a body of n bytes is right for a tag: 0 create; 1 write, 2 read; 3 disposition; 4 shutdown; 5 read and 6 write threshold; 7 info,
--- 8 close; 9 wait; 10 take; 11 fill, with 1 to 4096 bytes behind its address. No body is right for a tag of 12 or more.
+-- 8 close; 9 wait; 10 take; 11 fill, with 1 to 4096 bytes behind its address; 12 cancel (02 (i)). No body is right for a tag of 13 or more.
 unfoldable pub isBody : (tag n : ℕ) → Bool
 isBody tag n =
     pick (ltb tag 1) (eqb n 10)
@@ -47,7 +50,8 @@ isBody tag n =
     (pick (ltb tag 9) (eqb n 4)
     (pick (ltb tag 10) (eqb n 17)
     (pick (ltb tag 11) (eqb n 0)
-    (pick (ltb tag 12) (pick (ltb n 9) false (leb n 4104)) false))))))))
+    (pick (ltb tag 12) (pick (ltb n 9) false (leb n 4104))
+    (pick (ltb tag 13) (eqb n 12) false)))))))))
 
 -- what bytes begin with: a record that is all there, one that no further bytes make good, or one that may be cut
 unfoldable pub recordOf : List ℕ → Decoded

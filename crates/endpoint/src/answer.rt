@@ -27,6 +27,7 @@ pub fn word(a: Answer) -> i64
             Status::BadState => -20,
             Status::ShouldWait => -22,
             Status::PeerClosed => -24,
+            Status::NotFound => -25,
             Status::AccessDenied => -30,
         },
     }

@@ -10,7 +10,7 @@ ghost use Rattle.definition.specs.Read.{Reads};
 ghost use Rattle.definition.specs.Disposition.{PlainDisposes};
 ghost use Rattle.definition.specs.Shutdown.{Shuts};
 ghost use Rattle.definition.specs.Threshold.{SetsReadThreshold, SetsWriteThreshold};
-ghost use Rattle.definition.specs.Port.{Waits};
+ghost use Rattle.definition.specs.Port.{Waits, Cancels};
 ghost use Rattle.definition.specs.Close.{Closes};
 ghost use Rattle.definition_runs.specs.Exported.{signalNumber, Answered};
 
@@ -126,6 +126,17 @@ pub extern "C" fn murgwethan_wait(p: &mut Pair, handle: u32, key: u64, mask: u32
 {
     let a = answers::control_calls::wait_answer(socket::ends_of(*p), handle, edge);
     kept::places::wait(p, a, handle, key, mask, edge)
+}
+
+// Removes the waits of an end that have this key, and the packets that such waits made, and returns how many these were.
+#[no_mangle]
+pub extern "C" fn murgwethan_cancel(p: &mut Pair, handle: u32, key: u64) -> i64
+    ensures { λ w. ⌜ Answered (Cancels (now (p .entry)) handle key) (now (p .exit)) w ⌝ }
+{
+    let r = socket::cancelled(*p, handle, key);
+    let next = crate::values::step_pair(r);
+    *p = next;
+    crate::values::step_word(r)
 }
 
 // Closes the end of a handle: its queue and its waits vanish, packets stay, and an open peer is told by its word.

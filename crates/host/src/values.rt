@@ -6,6 +6,7 @@ use definition::Ends;
 use definition::Pair;
 use definition::Record;
 use definition::Status;
+use definition::Step;
 use endpoint::ends::EndsOutcome;
 use socket::SocketPair;
 use user_answers::lookup::disposition_of;
@@ -19,7 +20,7 @@ ghost use Rattle.definition.specs.Port.{takeAnswer};
 ghost use Rattle.definition.specs.Create.{createAnswer};
 ghost use Rattle.definition.specs.Disposition.{disposeEffect, dispositionOf, plainDisposeAnswer};
 ghost use lib.ListN.{length};
-ghost use Rattle.definition.specs.Status.{_then_};
+ghost use Rattle.definition.specs.Status.{_then_, answerWord};
 ghost use Rattle.definition.specs.declared.Status.the-variants.{InvalidArgs};
 ghost use Rattle.definition.specs.declared.Answer.the-variants.{Refused};
 ghost use Rattle.endpoint.specs.ends.Outcome.{unchangedEnds};
@@ -53,6 +54,22 @@ pub fn dispose_ends(e: Ends, handle: u32, disposition: u32, peer_disposition: u3
         disposition_of(disposition),
         disposition_of(peer_disposition),
     )
+}
+
+// The word of a step's answer.
+pub fn step_word(r: Step) -> i64
+    ensures { λ w. ⌜ w ≡ answerWord (r .answer) ⌝ }
+{
+    let a = r.answer;
+    endpoint::answer::word(a)
+}
+
+// The next pair of a step.
+pub fn step_pair(r: Step) -> Pair
+    ensures { λ p. ⌜ p ≡ r .pair ⌝ }
+{
+    let p = r.pair;
+    p
 }
 
 // The signal word of an end, after the tests of the record and of the handle, as a number.

@@ -26,6 +26,7 @@ use Rattle.host.proofs.murgwethan_shutdown as shutdown
 use Rattle.host.proofs.murgwethan_set_read_threshold as set-read-threshold
 use Rattle.host.proofs.murgwethan_set_write_threshold as set-write-threshold
 use Rattle.host.proofs.murgwethan_wait as wait
+use Rattle.host.proofs.murgwethan_cancel as cancel
 use Rattle.host.proofs.murgwethan_close as close
 use Rattle.host.proofs.murgwethan_signal as signal
 use Rattle.host.proofs.records.murgwethan_thresholds as thresholds
@@ -40,7 +41,7 @@ use Rattle.definition.specs.Disposition.{PlainDisposes, UserDisposes}
 use Rattle.definition.specs.Shutdown.{Shuts, UserShuts}
 use Rattle.definition.specs.Threshold.{SetsReadThreshold, SetsWriteThreshold, AsksThresholds}
 use Rattle.definition.specs.Info.{AsksInfo}
-use Rattle.definition.specs.Port.{Waits, Takes}
+use Rattle.definition.specs.Port.{Waits, Takes, Cancels}
 use Rattle.definition.specs.Close.{Closes}
 use Rattle.definition.specs.Write.{Writes, UserWrites}
 use Rattle.definition.specs.Read.{Reads, UserReads}
@@ -81,6 +82,10 @@ module _ {M : Type 1} (𝓤 : URA M) (H : Heap 𝓤) (A : Atoms 𝓤) (at-mem : 
   wait-ensures : (κs : Lfts 1) (p : RefT Pair) (h key mask edge : ℕ) (p′ : Pair) (w : ℤ)
       → Ensures wait.ended (wait.clauses 𝓤 H A at-mem run) κs (p, (h, (key, (mask, (edge, tt))))) (p′, (tt, (tt, (tt, (tt, tt))))) tt w ≡ fact 𝓤 (Answered (Waits (p .now) h key mask edge) p′ w)
   wait-ensures κs p h key mask edge p′ w = refl
+
+  cancel-ensures : (κs : Lfts 1) (p : RefT Pair) (h key : ℕ) (p′ : Pair) (w : ℤ)
+      → Ensures cancel.ended (cancel.clauses 𝓤 H A at-mem run) κs (p, (h, (key, tt))) (p′, (tt, (tt, tt))) tt w ≡ fact 𝓤 (Answered (Cancels (p .now) h key) p′ w)
+  cancel-ensures κs p h key p′ w = refl
 
   close-ensures : (κs : Lfts 1) (p : RefT Pair) (h : ℕ) (p′ : Pair) (w : ℤ)
       → Ensures close.ended (close.clauses 𝓤 H A at-mem run) κs (p, (h, tt)) (p′, (tt, tt)) tt w ≡ fact 𝓤 (Answered (Closes (p .now) h) p′ w)

@@ -1,5 +1,6 @@
 // The table of 128 places: its counts, the waits that a change of a word fires, taking a packet, registering a wait and dropping those of an end, and the visits of all
 // changes of a call. After signal/port.rs and `signal_change` of object/mod.rs.
+pub mod cancel;
 pub mod firing;
 pub mod packets;
 pub mod places;

@@ -81,6 +81,16 @@ pub fn both(a: bool, b: bool) -> bool
     false
 }
 
+// One of two counts.
+pub fn count_if(test: bool, yes: usize, no: usize) -> usize
+    ensures { λ r. ⌜ r ≡ pick test yes no ⌝ }
+{
+    if test {
+        return yes;
+    }
+    no
+}
+
 // The number of an end in a place.
 pub fn end_number(one: bool) -> u64
     ensures { λ r. ⌜ r ≡ endNumber one ⌝ }

@@ -1,6 +1,7 @@
 // The waits of a table of places: registering one, and dropping those of an end. After signal/port.rs.
 use crate::places::FREE;
 use crate::places::both;
+use crate::places::count_if;
 use crate::places::end_number;
 use crate::places::is_sound;
 use crate::places::is_unused;
@@ -17,16 +18,6 @@ ghost use Rattle.definition.specs.Status.{pick, _and_};
 ghost use Rattle.definition.specs.Signal.{meets};
 ghost use Rattle.port.specs.places.Table.{unused};
 ghost use Rattle.definition.specs.Port.{insertedOf, appendedOf, droppedOf, registerOf, dropOf};
-
-// One of two counts.
-fn count_if(test: bool, yes: usize, no: usize) -> usize
-    ensures { λ r. ⌜ r ≡ pick test yes no ⌝ }
-{
-    if test {
-        return yes;
-    }
-    no
-}
 
 // Whether a place is to be used and fewer than 128 are. The sum of the two counts is never taken, as it can be too large.
 fn has_room(asked: bool, packets: usize, waits: usize) -> bool

@@ -10,7 +10,7 @@ ghost use mathlib.Core.List.{List, []};
 ghost use Prim.Native.Nat.{ℕ};
 ghost use lib.ListN.{take};
 ghost use Rattle.definition.specs.Status.{countOf};
-ghost use Rattle.definition.specs.Calls.{input, control, write, setDisposition, shutdown, plainWrite, plainRead, plainDisposition, plainShutdown, setReadThreshold, setWriteThreshold, getThresholds, getInfo, wait, takePacket, close};
+ghost use Rattle.definition.specs.Calls.{input, control, write, setDisposition, shutdown, plainWrite, plainRead, plainDisposition, plainShutdown, setReadThreshold, setWriteThreshold, getThresholds, getInfo, wait, takePacket, cancel, close};
 ghost use Rattle.definition.specs.Disposition.{dispositionNumber};
 ghost use Rattle.definition_runs.specs.Exported.{slicesOf};
 ghost use Rattle.run_steps.specs.Code.{StepOf, OwnLent, ReadLent, PeerLent, Starts};
@@ -223,6 +223,12 @@ pub fn take(p: SocketPair) -> SocketStep
     ensures { λ r. ⌜ StepOf (p .inner) (control takePacket) (innerStep r) ⌝ }
 {
     p.take()
+}
+
+pub fn cancel(p: SocketPair, handle: u32, key: u64) -> SocketStep
+    ensures { λ r. ⌜ StepOf (p .inner) (control (cancel handle key)) (innerStep r) ⌝ }
+{
+    p.cancel(handle, key)
 }
 
 pub fn close(p: SocketPair, handle: u32) -> SocketStep

@@ -128,11 +128,11 @@ pub fn call(
             ring_two,
             table_two,
         ),
-        11..=255 => {
+        11 => {
             let answer = crate::fill::fill(memory, body);
             Step { pair: p, answer }
         }
-        0 | 3..=10 => crate::plain_call::plain(
+        0 | 3..=10 | 12..=255 => crate::plain_call::plain(
             p,
             tag,
             body,

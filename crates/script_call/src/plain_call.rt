@@ -5,7 +5,7 @@ use definition::Step;
 use socket::SocketPair;
 use socket::inner_step;
 ghost use mathlib.Core.Path.{_≡_};
-ghost use Rattle.definition_script.specs.Call.{rings, createStep, dispositionStep, shutdownStep, readThresholdStep, writeThresholdStep, infoBy, closeStep, waitStep, takeStep, controlStep};
+ghost use Rattle.definition_script.specs.Call.{rings, createStep, dispositionStep, shutdownStep, readThresholdStep, writeThresholdStep, infoBy, closeStep, waitStep, takeStep, cancelStep, controlStep};
 
 fn create(
     body: &[u8],
@@ -111,7 +111,16 @@ fn take(p: Pair) -> Step
     inner_step(q.take())
 }
 
-// By the tag: 0, and 3 to 10. Tags 1 and 2 are taken as 3, those above 10 as 10; `call` passes neither.
+fn cancel(p: Pair, body: &[u8]) -> Step
+    ensures { λ r. ⌜ r ≡ cancelStep p (now (body .entry)) ⌝ }
+{
+    let handle = fields::u32_at(body, 0);
+    let key = fields::u64_at(body, 4);
+    let q = SocketPair { inner: p };
+    inner_step(q.cancel(handle, key))
+}
+
+// By the tag: 0, 3 to 10, and 12. Tags 1 and 2 are taken as 3, 11 and those above 12 as 12; `call` passes none of these.
 pub fn plain(
     p: Pair,
     tag: u8,
@@ -139,6 +148,7 @@ pub fn plain(
         ),
         8 => close(p, body),
         9 => wait(p, body),
-        10..=255 => take(p),
+        10 => take(p),
+        11..=255 => cancel(p, body),
     }
 }

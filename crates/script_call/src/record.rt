@@ -28,7 +28,8 @@ pub fn is_body(tag: u8, n: usize) -> bool
             }
             n <= 4104
         }
-        12..=255 => false,
+        12 => n == 12,
+        13..=255 => false,
     }
 }
 

@@ -7,3 +7,4 @@ pub mod Closed
 pub mod Controlled
 pub mod Waits
 pub mod Created
+pub mod Cancels

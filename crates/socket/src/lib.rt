@@ -4,6 +4,7 @@
 use definition::Answer;
 use definition::Pair;
 
+mod cancel;
 mod close;
 mod create;
 mod deferred;
@@ -16,6 +17,7 @@ mod threshold;
 mod wait;
 mod write;
 
+pub use cancel::cancelled;
 pub use create::new_pair;
 pub use deferred::close_waits;
 pub use deferred::has_only_wait;

@@ -2,7 +2,7 @@
 use mathlib.Core.Path.{_≡_, refl}
 use mathlib.Core.List.{_∷_}
 use Rattle.definition.specs.declared.Status.{Status}
-use Rattle.definition.specs.declared.Status.the-variants.{Internal, NoResources, InvalidArgs, BadHandle, OutOfRange, BadState, ShouldWait, PeerClosed, AccessDenied}
+use Rattle.definition.specs.declared.Status.the-variants.{Internal, NoResources, InvalidArgs, BadHandle, OutOfRange, BadState, ShouldWait, PeerClosed, NotFound, AccessDenied}
 use Rattle.definition.specs.declared.Record.{Record}
 use Rattle.definition.specs.declared.Answer.the-variants.{Done, Refused}
 use Rattle.definition.specs.Status.{statusNumber, answerWord, countOf}
@@ -22,4 +22,5 @@ refused-word OutOfRange = refl
 refused-word BadState = refl
 refused-word ShouldWait = refl
 refused-word PeerClosed = refl
+refused-word NotFound = refl
 refused-word AccessDenied = refl

@@ -165,6 +165,7 @@ fn status_number(s: Status) -> u64
         Status::BadState => 20,
         Status::ShouldWait => 22,
         Status::PeerClosed => 24,
+        Status::NotFound => 25,
         Status::AccessDenied => 30,
     }
 }

@@ -43,7 +43,7 @@ body-small tag n =
     (λ j. cases Bool (Small n) (ltb tag 10) _ _ (λ k. sized n 17 (omega arith))
     (λ k. cases Bool (Small n) (ltb tag 11) _ _ (λ l. sized n 0 (omega arith))
     (λ l. cases Bool (Small n) (ltb tag 12) _ _ (λ m. cases Bool (Small n) (ltb n 9) _ _ (λ o. refused n) (λ o. filled n))
-    (λ m. refused n)))))))))
+    (λ m. cases Bool (Small n) (ltb tag 13) _ _ (λ p. sized n 12 (omega arith)) (λ p. refused n))))))))))
 
 -- ---- a record that may be cut
 

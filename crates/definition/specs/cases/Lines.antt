@@ -11,7 +11,7 @@ use Rattle.definition.specs.declared.Answer.the-variants.{Done, Refused}
 use Rattle.definition.specs.Calls.{Seen, Outcome, Create, Input, Slices, seenOf, createdBy, stateCreated, controlAnswer, answerTo, controlled, pairAfter, memoryAfter, written, stateAfter, landed, deliveredIn, after, outcome, outcomes, pairCreated, State, answerOf}
 use Rattle.definition.specs.Status.{answerWord, statusNumber, recordCount, countOf, isDone, refuseIf, refuseUnless, _then_, pick, _and_, _or_}
 use Rattle.definition.specs.Ring.{position, front, put}
-use Rattle.definition.specs.Port.{filter, fires, firedOf, changeOf, fired, kept, takenOf, insertedOf, appendedOf, registeredOf, droppedOf, ofOther, others, packetsOf, waitsOf, unusedOf, tableOf, newPlaces, endNumber, waitOf, observe, packetOf, waitAnswer, waited, takeAnswer, took}
+use Rattle.definition.specs.Port.{filter, fires, firedOf, changeOf, fired, kept, takenOf, insertedOf, appendedOf, registeredOf, droppedOf, ofOther, others, packetsOf, waitsOf, unusedOf, tableOf, newPlaces, endNumber, waitOf, observe, packetOf, waitAnswer, waited, takeAnswer, took, matches, unmatched, matching, cancelledOf, cancelAnswer, cancelled}
 use Rattle.definition.specs.Signal.{changedWord, meets, reached, missed, bitIf}
 use Rattle.definition.specs.Disposition.{enables, hasBacklog, hasOpenBacklog, enablesOver, disposeChecks, writing, peerWriting, reading, disposeEffect, disposed, dispositionOf, plainDisposeAnswer, userDisposeAnswer}
 use Rattle.definition.specs.Create.{newEnd, noEnd, numbersAnswer, createAnswer, newPair, noPair}
@@ -51,7 +51,7 @@ shownLines x os = lineShown x [] ∷ map (λ (o : Outcome). lineShown (o .seen) 
 
 -- the lines of a run, computed. To unfold it is to unfold all that a call computes with.
 unfoldable pub linesOf : Create → (one two : Slices) → List Input → List ShownLine
-unfolding recordShown statusNumber recordCount answerWord countOf isDone refuseIf refuseUnless _then_ pick _and_ _or_ position front put filter firedOf insertedOf appendedOf registeredOf takenOf droppedOf changeOf changedWord meets packetsOf waitsOf unusedOf tableOf newPlaces endNumber waitOf observe packetOf fires fired kept ofOther others enables hasBacklog hasOpenBacklog enablesOver disposeChecks newEnd noEnd withQueue withSignals withReadDisabled withThresholds closedEnd shown unlessClosed infoOf noQueue soundLengths soundQueue shortTable shortSlices hasLength firstLength badFirst emptyAnswer availableIn readSize lostByReader gainedByWriter datagramSize writeSize reached missed bitIf gainedByPeer lostByWriter numbersAnswer createAnswer writing peerWriting reading disposeEffect disposed shutdownAnswer shutting shutReading shutEffect shut infoAnswer isHandle withEnd withPlaces ifOpen ownBit keepingWaits withChange signalChange changed changedByAll prepared applied newPair noPair readAnswer leaving drainedQueue readEffect consumed pairRead bufferRead soundEnds soundTest lentOf slicesTest tableTest isOpen handleTest openingTest readThresholdAnswer writeThresholdAnswer readThresholdEffect writeThresholdEffect readThresholdSet writeThresholdSet thresholdsAnswer waitAnswer waited takeAnswer took closeAnswer closeEffect closed writeAnswer fedQueue writeEffect wrote pairWritten ringFed ringWritten tableFed tableWritten dispositionOf plainDisposeAnswer userDisposeAnswer userShutdownAnswer fits countFits isNull lookup littleEndian countLanded userReadAnswer bytesLanded writeRanges userWriteAnswer controlAnswer answerTo controlled pairAfter written stateAfter landed memoryAfter deliveredIn after outcome outcomes pairCreated
+unfolding recordShown statusNumber recordCount answerWord countOf isDone refuseIf refuseUnless _then_ pick _and_ _or_ position front put filter firedOf insertedOf appendedOf registeredOf takenOf droppedOf changeOf changedWord meets packetsOf waitsOf unusedOf tableOf newPlaces endNumber waitOf observe packetOf fires fired kept ofOther others enables hasBacklog hasOpenBacklog enablesOver disposeChecks newEnd noEnd withQueue withSignals withReadDisabled withThresholds closedEnd shown unlessClosed infoOf noQueue soundLengths soundQueue shortTable shortSlices hasLength firstLength badFirst emptyAnswer availableIn readSize lostByReader gainedByWriter datagramSize writeSize reached missed bitIf gainedByPeer lostByWriter numbersAnswer createAnswer writing peerWriting reading disposeEffect disposed shutdownAnswer shutting shutReading shutEffect shut infoAnswer isHandle withEnd withPlaces ifOpen ownBit keepingWaits withChange signalChange changed changedByAll prepared applied newPair noPair readAnswer leaving drainedQueue readEffect consumed pairRead bufferRead soundEnds soundTest lentOf slicesTest tableTest isOpen handleTest openingTest readThresholdAnswer writeThresholdAnswer readThresholdEffect writeThresholdEffect readThresholdSet writeThresholdSet thresholdsAnswer waitAnswer waited takeAnswer took matches unmatched matching cancelledOf cancelAnswer cancelled closeAnswer closeEffect closed writeAnswer fedQueue writeEffect wrote pairWritten ringFed ringWritten tableFed tableWritten dispositionOf plainDisposeAnswer userDisposeAnswer userShutdownAnswer fits countFits isNull lookup littleEndian countLanded userReadAnswer bytesLanded writeRanges userWriteAnswer controlAnswer answerTo controlled pairAfter written stateAfter landed memoryAfter deliveredIn after outcome outcomes pairCreated
 linesOf c one two is = shownLines (seenOf (createdBy c one two) (pairCreated c (createdBy c one two))) (outcomes (stateCreated c one two) is)
 
 -- the answer word of one call, computed

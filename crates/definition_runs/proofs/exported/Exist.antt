@@ -15,7 +15,7 @@ use Rattle.definition.specs.Create.{newPair, noPair}
 use Rattle.definition.specs.Write.{writeAnswer, pairWritten, ringWritten, tableWritten, userWriteAnswer}
 use Rattle.definition.specs.Read.{readAnswer, pairRead, bufferRead, isPeek, userReadAnswer, bytesLanded}
 use Rattle.definition.specs.Memory.{countLanded}
-use Rattle.definition_runs.specs.Exported.{Answered, arrayOf, Recorded, Passed, Returned, Exported, murgwethan-write, murgwethan-read, murgwethan-set-disposition, murgwethan-shutdown, murgwethan-set-read-threshold, murgwethan-set-write-threshold, murgwethan-thresholds, murgwethan-info, murgwethan-wait, murgwethan-take, murgwethan-close, murgwethan-user-write, murgwethan-user-read, murgwethan-user-set-disposition, murgwethan-user-shutdown, run, Passable, to-write, to-read, to-set-disposition, to-shutdown, to-set-read-threshold, to-set-write-threshold, to-thresholds, to-info, to-wait, to-take, to-close, to-user-write, to-user-read, to-user-set-disposition, to-user-shutdown, AllPassable, none, next, ExportedRunsExist}
+use Rattle.definition_runs.specs.Exported.{Answered, arrayOf, Recorded, Passed, Returned, Exported, murgwethan-write, murgwethan-read, murgwethan-set-disposition, murgwethan-shutdown, murgwethan-set-read-threshold, murgwethan-set-write-threshold, murgwethan-thresholds, murgwethan-info, murgwethan-wait, murgwethan-take, murgwethan-cancel, murgwethan-close, murgwethan-user-write, murgwethan-user-read, murgwethan-user-set-disposition, murgwethan-user-shutdown, run, Passable, to-write, to-read, to-set-disposition, to-shutdown, to-set-read-threshold, to-set-write-threshold, to-thresholds, to-info, to-wait, to-take, to-cancel, to-close, to-user-write, to-user-read, to-user-set-disposition, to-user-shutdown, AllPassable, none, next, ExportedRunsExist}
 use Rattle.definition.specs.Calls.{State, state, ownSlices, peerSlices, createdBy}
 use Rattle.definition_runs.specs.Run.{Chain, none as no-calls, next as next-call}
 use Rattle.definition_runs.proofs.exported.Words.{is-count}
@@ -67,6 +67,7 @@ some-call s x (to-thresholds h out) = record { state = _; gives = _; call = murg
 some-call s x (to-info h out) = record { state = _; gives = _; call = murgwethan-info (recorded _ (s .pair) _ _ out) }
 some-call s x (to-wait h key mask edge) = record { state = _; gives = _; call = murgwethan-wait (answered (s .pair) _ _) }
 some-call s x (to-take out) = record { state = _; gives = _; call = murgwethan-take (recorded _ (s .pair) _ _ out) }
+some-call s x (to-cancel h key) = record { state = _; gives = _; call = murgwethan-cancel (answered (s .pair) _ _) }
 some-call s x (to-close h) = record { state = _; gives = _; call = murgwethan-close (answered (s .pair) _ _) }
 some-call s x (to-user-write h o base a n at memory) =
     let ring = peerSlices (isOne h) s .ring in

@@ -14,9 +14,9 @@ use Rattle.definition.specs.declared.Pair.{Pair}
 use Rattle.definition.specs.declared.Step.{Step}
 use Rattle.definition.specs.Pair.{isOne}
 use Rattle.definition.specs.Read.{bytesLanded}
-use Rattle.definition_runs.specs.Exported.{arrayOf, isCount, countIn, recordIn, arrayAfter, murgwethan-write, murgwethan-read, murgwethan-set-disposition, murgwethan-shutdown, murgwethan-set-read-threshold, murgwethan-set-write-threshold, murgwethan-thresholds, murgwethan-info, murgwethan-wait, murgwethan-take, murgwethan-close, murgwethan-user-write, murgwethan-user-read, murgwethan-user-set-disposition, murgwethan-user-shutdown, IsStep, CallsAreSteps, ExportedRefusedChangesNothing}
-use Rattle.definition.specs.Calls.{Control, setDisposition, shutdown, plainDisposition, plainShutdown, setReadThreshold, setWriteThreshold, getThresholds, getInfo, wait, takePacket, Call, write, read, plainWrite, plainRead, close, control, Input, State, ownSlices, gives}
-use Rattle.definition_runs.specs.Run.{Does, did-write, did-read, did-dispose, did-shutdown, did-plain-write, did-plain-read, did-plain-dispose, did-plain-shutdown, did-read-threshold, did-write-threshold, did-thresholds, did-info, did-wait, did-take, did-close}
+use Rattle.definition_runs.specs.Exported.{arrayOf, isCount, countIn, recordIn, arrayAfter, murgwethan-write, murgwethan-read, murgwethan-set-disposition, murgwethan-shutdown, murgwethan-set-read-threshold, murgwethan-set-write-threshold, murgwethan-thresholds, murgwethan-info, murgwethan-wait, murgwethan-take, murgwethan-cancel, murgwethan-close, murgwethan-user-write, murgwethan-user-read, murgwethan-user-set-disposition, murgwethan-user-shutdown, IsStep, CallsAreSteps, ExportedRefusedChangesNothing}
+use Rattle.definition.specs.Calls.{Control, setDisposition, shutdown, plainDisposition, plainShutdown, setReadThreshold, setWriteThreshold, getThresholds, getInfo, wait, takePacket, cancel, Call, write, read, plainWrite, plainRead, close, control, Input, State, ownSlices, gives}
+use Rattle.definition_runs.specs.Run.{Does, did-write, did-read, did-dispose, did-shutdown, did-plain-write, did-plain-read, did-plain-dispose, did-plain-shutdown, did-read-threshold, did-write-threshold, did-thresholds, did-info, did-wait, did-take, did-cancel, did-close}
 use Rattle.definition_runs.proofs.Claims.{claims}
 use Rattle.definition_runs.proofs.exported.Words.{count-in, is-count}
 
@@ -66,6 +66,7 @@ calls-are-steps s x s′ y (murgwethan-info {h} {out} {out′} {p} {w} k) =
 calls-are-steps s x s′ y (murgwethan-wait {p = p} {w = w} k) = plain s _ _ p (k .answer) w [] (did-wait (k .kept)) (k .word) refl
 calls-are-steps s x s′ y (murgwethan-take {out} {out′} {p} {w} k) =
     recorded s _ _ p (k .answer) w out out′ (did-take (k .kept .step)) (k .word) (k .kept .array)
+calls-are-steps s x s′ y (murgwethan-cancel {p = p} {w = w} k) = plain s _ _ p (k .answer) w [] (did-cancel (k .kept)) (k .word) refl
 calls-are-steps s x s′ y (murgwethan-close {p = p} {w = w} k) = plain s _ _ p (k .answer) w [] (did-close (k .kept)) (k .word) refl
 calls-are-steps s x s′ y (murgwethan-user-write {memory′ = memory′} {p = p} {w = w} k) =
     plain s _ _ p (k .answer) w memory′ (did-write (k .kept)) (k .word) refl
@@ -97,6 +98,7 @@ record-kept (getThresholds h) e out = refl
 record-kept (getInfo h) e out = refl
 record-kept (wait h key mask edge) e out = refl
 record-kept takePacket e out = refl
+record-kept (cancel h key) e out = refl
 
 array-kept : (c : Call) (e : Status) (out : List ℕ) → arrayAfter c (Refused e) out ≡ out
 unfolding arrayAfter

@@ -3,7 +3,7 @@ use mathlib.Core.Path.{_≡_, refl}
 use mathlib.Core.Bool.{false}
 use lib.IntN.{pos, negℤ}
 use Rattle.definition.specs.declared.Status.{Status}
-use Rattle.definition.specs.declared.Status.the-variants.{Internal, NoResources, InvalidArgs, BadHandle, OutOfRange, BadState, ShouldWait, PeerClosed, AccessDenied}
+use Rattle.definition.specs.declared.Status.the-variants.{Internal, NoResources, InvalidArgs, BadHandle, OutOfRange, BadState, ShouldWait, PeerClosed, NotFound, AccessDenied}
 use Rattle.definition.specs.declared.Answer.{Answer}
 use Rattle.definition.specs.declared.Answer.the-variants.{Done, Refused}
 use Rattle.definition.specs.Status.{statusNumber, answerWord, countOf, isDone}
@@ -19,6 +19,7 @@ status-count OutOfRange = refl
 status-count BadState = refl
 status-count ShouldWait = refl
 status-count PeerClosed = refl
+status-count NotFound = refl
 status-count AccessDenied = refl
 
 status-refused : (e : Status) → isCount (negℤ (pos (statusNumber e))) ≡ false
@@ -31,6 +32,7 @@ status-refused OutOfRange = refl
 status-refused BadState = refl
 status-refused ShouldWait = refl
 status-refused PeerClosed = refl
+status-refused NotFound = refl
 status-refused AccessDenied = refl
 
 pub count-in : (a : Answer) → countIn (answerWord a) ≡ countOf a

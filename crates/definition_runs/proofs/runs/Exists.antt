@@ -12,8 +12,8 @@ use Rattle.definition.specs.Pair.{isOne, own, peer, endsOf}
 use Rattle.definition.specs.Write.{writeAnswer, pairWritten, ringWritten, tableWritten, userWriteAnswer}
 use Rattle.definition.specs.Read.{readAnswer, pairRead, bufferRead, isPeek, userReadAnswer, bytesLanded}
 use Rattle.definition.specs.Memory.{countLanded}
-use Rattle.definition.specs.Calls.{setDisposition, shutdown, plainDisposition, plainShutdown, setReadThreshold, setWriteThreshold, getThresholds, getInfo, wait, takePacket, Call, write, read, plainWrite, plainRead, close, control, Input, input, State, state, ownSlices, peerSlices, Outcome, createdBy, after, outcome, outcomes, afterAll, pairCreated, stateCreated}
-use Rattle.definition_runs.specs.Run.{Chain, none, next, Does, did-write, did-read, did-dispose, did-shutdown, did-plain-write, did-plain-read, did-plain-dispose, did-plain-shutdown, did-read-threshold, did-write-threshold, did-thresholds, did-info, did-wait, did-take, did-close, run, RunsExist}
+use Rattle.definition.specs.Calls.{setDisposition, shutdown, plainDisposition, plainShutdown, setReadThreshold, setWriteThreshold, getThresholds, getInfo, wait, takePacket, cancel, Call, write, read, plainWrite, plainRead, close, control, Input, input, State, state, ownSlices, peerSlices, Outcome, createdBy, after, outcome, outcomes, afterAll, pairCreated, stateCreated}
+use Rattle.definition_runs.specs.Run.{Chain, none, next, Does, did-write, did-read, did-dispose, did-shutdown, did-plain-write, did-plain-read, did-plain-dispose, did-plain-shutdown, did-read-threshold, did-write-threshold, did-thresholds, did-info, did-wait, did-take, did-cancel, did-close, run, RunsExist}
 use Rattle.definition_runs.proofs.runs.Match.{calls-match}
 
 record Some (s : State) (i : Input) : Type 0 where
@@ -86,6 +86,7 @@ some-call s base memory (control (getThresholds h)) = record { state = _; out = 
 some-call s base memory (control (getInfo h)) = record { state = _; out = _; does = did-info (meets (s .pair) _ _) }
 some-call s base memory (control (wait h k m e)) = record { state = _; out = _; does = did-wait (meets (s .pair) _ _) }
 some-call s base memory (control takePacket) = record { state = _; out = _; does = did-take (meets (s .pair) _ _) }
+some-call s base memory (control (cancel h k)) = record { state = _; out = _; does = did-cancel (meets (s .pair) _ _) }
 some-call s base memory (close h) = record { state = _; out = _; does = did-close (meets (s .pair) _ _) }
 
 does-so : (s : State) (i : Input) → Does s i (after s i) (outcome s i)

@@ -15,7 +15,7 @@ use Rattle.definition.specs.Write.{writeAnswer, pairWritten, ringWritten, table
 use Rattle.definition.specs.Read.{readAnswer, pairRead, isPeek, userReadAnswer}
 use Rattle.definition.specs.Memory.{countLanded}
 use Rattle.definition.specs.Calls.{Input, Slices, State, state, ownSlices, peerSlices, withPair, withPeerSlices, seenOf, gives, view, ownLent, peerLent, controlAnswer, answerTo, controlled, pairAfter, memoryAfter, written, stateAfter, landed, deliveredIn, answerOf, afterBy, deliveredBy, outcomeBy, after, outcome}
-use Rattle.definition_runs.specs.Run.{did-write, did-read, did-dispose, did-shutdown, did-plain-write, did-plain-read, did-plain-dispose, did-plain-shutdown, did-read-threshold, did-write-threshold, did-thresholds, did-info, did-wait, did-take, did-close, Matches, CallsMatch}
+use Rattle.definition_runs.specs.Run.{did-write, did-read, did-dispose, did-shutdown, did-plain-write, did-plain-read, did-plain-dispose, did-plain-shutdown, did-read-threshold, did-write-threshold, did-thresholds, did-info, did-wait, did-take, did-cancel, did-close, Matches, CallsMatch}
 use Rattle.definition_runs.proofs.runs.Memory.{buffer-back, landed-back}
 
 -- ---- what is lent
@@ -166,4 +166,5 @@ calls-match s i s′ o (did-info {h} {base} {memory} {r} e) =
     steps s i (s .pair) r (rw (← own-table (isOne h) s) e) (λ x. refl) (λ x p. refl) (λ x. refl) (λ x. refl)
 calls-match s i s′ o (did-wait {r = r} e) = steps s i _ r e (λ x. refl) (λ x p. refl) (λ x. refl) (λ x. refl)
 calls-match s i s′ o (did-take {r = r} e) = steps s i _ r e (λ x. refl) (λ x p. refl) (λ x. refl) (λ x. refl)
+calls-match s i s′ o (did-cancel {r = r} e) = steps s i _ r e (λ x. refl) (λ x p. refl) (λ x. refl) (λ x. refl)
 calls-match s i s′ o (did-close {r = r} e) = steps s i _ r e (λ x. refl) (λ x p. refl) (λ x. refl) (λ x. refl)

@@ -139,6 +139,18 @@ readAgain = 53 ∷ 32 ∷ 45 ∷ 50 ∷ 50 ∷ 32 ∷ 48 ∷ 48 ∷ 48 ∷ 48 �
 abbrev closed2 : List ℕ
 closed2 = 49 ∷ 32 ∷ 48 ∷ 32 ∷ 48 ∷ 48 ∷ 48 ∷ 48 ∷ 48 ∷ 48 ∷ 48 ∷ 52 ∷ 32 ∷ 45 ∷ 10 ∷ []
 
+-- 2 1 00000002 00000002
+abbrev cancelledOne : List ℕ
+cancelledOne = 50 ∷ 32 ∷ 49 ∷ 32 ∷ 48 ∷ 48 ∷ 48 ∷ 48 ∷ 48 ∷ 48 ∷ 48 ∷ 50 ∷ 32 ∷ 48 ∷ 48 ∷ 48 ∷ 48 ∷ 48 ∷ 48 ∷ 48 ∷ 50 ∷ 10 ∷ []
+
+-- 3 -25 00000002 00000002
+abbrev cancelledNone : List ℕ
+cancelledNone = 51 ∷ 32 ∷ 45 ∷ 50 ∷ 53 ∷ 32 ∷ 48 ∷ 48 ∷ 48 ∷ 48 ∷ 48 ∷ 48 ∷ 48 ∷ 50 ∷ 32 ∷ 48 ∷ 48 ∷ 48 ∷ 48 ∷ 48 ∷ 48 ∷ 48 ∷ 50 ∷ 10 ∷ []
+
+-- a cancel of end 1; the key has two halves
+abbrev cancel : List ℕ
+cancel = entry 12 (n4 1 ++ n8 0x700000005)
+
 unfoldable pub cases : List Case
 cases =
     lists example (line0 ++ (line1 ++ (line2 ++ (line3 ++ (line4 ++ (line5 ++ (line6 ++ line7)))))))
@@ -146,15 +158,17 @@ cases =
     ∷ lists [] []
     -- a refused create ends the script, whatever follows
     ∷ lists (creates 2 ++ take) refusedCreate
-    -- a first record that is not create, a second create, a tag of 12, a wrong length, a cut record: the offset of its tag
+    -- a first record that is not create, a second create, a tag of 13, a wrong length, a cut record: the offset of its tag
     ∷ lists (take ++ creates 0) stop0
     ∷ lists (creates 0 ++ (creates 0 ++ take)) (line0 ++ stop13)
-    ∷ lists (creates 0 ++ (entry 12 (n8 65536 ++ abc) ++ take)) (line0 ++ stop13)
+    ∷ lists (creates 0 ++ (entry 13 (n4 1 ++ n8 5) ++ take)) (line0 ++ stop13)
     ∷ lists (creates 0 ++ (entry 8 (2 ∷ []) ++ take)) (line0 ++ stop13)
     ∷ lists (creates 0 ++ (entry 8 (n4 2) ++ (1 ∷ 32 ∷ []))) (line0 ++ (closed2 ++ stop20))
     -- a fill below memory; a fill, a write, and info of the end that it went to
     ∷ lists (creates 0 ++ fill 65535 abc) (line0 ++ notFilled)
     ∷ lists (creates 1 ++ (fill 65536 abc ++ (write 1 3 ++ entry 7 (n4 2)))) (line0 ++ (filledLine ++ (wrote3 ++ datagramInfo)))
+    -- a wait, its cancel, and a cancel that finds nothing
+    ∷ lists (creates 0 ++ (entry 9 (n4 1 ++ (n8 0x700000005 ++ (n4 4 ++ (0 ∷ [])))) ++ (cancel ++ cancel))) (line0 ++ (line1 ++ (cancelledOne ++ cancelledNone)))
     -- a peek, and a read whose count lands over its bytes; then nothing is queued
     ∷ lists (creates 0 ++ (fill 65536 abc ++ (write 1 3 ++ (moves 2 2 8 65600 3 0 ++ (moves 2 2 0 65600 8 65601 ++ moves 2 2 0 65600 8 0)))))
     (line0 ++ (filledLine ++ (wrote3 ++ (peeked ++ (readAll ++ readAgain)))))

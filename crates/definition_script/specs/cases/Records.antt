@@ -21,27 +21,27 @@ body tag n = record { tag = tag; length = n }
 abbrev right : List Body
 right =
     body 0 10 ∷ body 1 32 ∷ body 2 32 ∷ body 3 12 ∷ body 4 8 ∷ body 5 12 ∷ body 6 12 ∷ body 7 4 ∷ body 8 4 ∷ body 9 17 ∷ body 10 0 ∷ body 11 9
-    ∷ body 11 4104
+    ∷ body 11 4104 ∷ body 12 12
     ∷ []
 
--- others beside them; tags of 12 and more take none
+-- others beside them; tags of 13 and more take none
 abbrev wrong : List Body
 wrong =
     body 0 9 ∷ body 0 11 ∷ body 1 31 ∷ body 2 33 ∷ body 3 8 ∷ body 4 12 ∷ body 5 8 ∷ body 6 16 ∷ body 7 0 ∷ body 8 8 ∷ body 9 16 ∷ body 10 1 ∷ body 11 8
-    ∷ body 11 4105 ∷ body 12 9 ∷ body 12 0 ∷ body 255 9
+    ∷ body 11 4105 ∷ body 12 8 ∷ body 12 17 ∷ body 13 8 ∷ body 13 12 ∷ body 255 9
     ∷ []
 
 abbrev takes : List Body → List Bool
 takes bs = map (λ (b : Body). isBody (b .tag) (b .length)) bs
 
 pub record Records : Type 0 where
-  pub right : takes right ≡ replicate 13 true
-  pub wrong : takes wrong ≡ replicate 17 false
+  pub right : takes right ≡ replicate 14 true
+  pub wrong : takes wrong ≡ replicate 19 false
   -- a whole record, cut ones, and one that no further bytes make good
   pub whole : recordOf (8 ∷ 4 ∷ 0 ∷ 2 ∷ 0 ∷ 0 ∷ 0 ∷ 9 ∷ []) ≡ Whole 8 4
   pub cut : recordOf (8 ∷ 4 ∷ 0 ∷ 2 ∷ 0 ∷ 0 ∷ []) ≡ Cut
-  pub cutLength : recordOf (12 ∷ 4 ∷ []) ≡ Cut
-  pub bad : recordOf (12 ∷ 4 ∷ 0 ∷ []) ≡ Bad
+  pub cutLength : recordOf (13 ∷ 4 ∷ []) ≡ Cut
+  pub bad : recordOf (13 ∷ 4 ∷ 0 ∷ []) ≡ Bad
   -- a length of two bytes, and a field of eight, the lowest first
   pub long : recordOf (11 ∷ 9 ∷ 1 ∷ []) ≡ Cut
   pub field : eight (0 ∷ 1 ∷ 2 ∷ 0 ∷ 0 ∷ 3 ∷ 0 ∷ 0 ∷ 128 ∷ []) 1 ≡ 9223372049739678209

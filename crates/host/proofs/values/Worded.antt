@@ -6,7 +6,7 @@ use lib.IntN.{pos, negℤ}
 use mir.Syntax.{w64}
 use mir.Val.{toZ, ofZ}
 use Rattle.definition.specs.declared.Status.{Status}
-use Rattle.definition.specs.declared.Status.the-variants.{Internal, NoResources, InvalidArgs, BadHandle, OutOfRange, BadState, ShouldWait, PeerClosed, AccessDenied}
+use Rattle.definition.specs.declared.Status.the-variants.{Internal, NoResources, InvalidArgs, BadHandle, OutOfRange, BadState, ShouldWait, PeerClosed, NotFound, AccessDenied}
 use Rattle.definition.specs.declared.Answer.{Answer}
 use Rattle.definition.specs.declared.Answer.the-variants.{Done, Refused}
 use Rattle.definition.specs.Status.{statusNumber, answerWord, isDone}
@@ -29,6 +29,7 @@ status-back OutOfRange = refl
 status-back BadState = refl
 status-back ShouldWait = refl
 status-back PeerClosed = refl
+status-back NotFound = refl
 status-back AccessDenied = refl
 
 pub word-back : (a : Answer) → isDone a ≡ false → toZ w64 (ofZ w64 (answerWord a)) ≡ answerWord a

@@ -4,7 +4,7 @@ use native.Mathlib.Omega.{arith}
 use mathlib.Core.Path.{_≡_, refl, sym, ap, _∙_, subst}
 use mathlib.Core.Bool.{Bool, true, false}
 use mathlib.Core.List.{List, [], _∷_}
-use lib.Dec.{eqb, ltb, leb}
+use lib.Dec.{eqb, leb}
 use lib.ListN.{length, take, drop, length-append, length-take, length-drop}
 use lib.Seq.{length-paste}
 use borrow.Author.Tests.{eqb-true, eqb-false, leb-true}
@@ -20,7 +20,7 @@ use Rattle.transfer.proofs.user_memory.Passed.{write-passed}
 use Rattle.definition_script.specs.declared.Decoded.{Decoded}
 use Rattle.definition_script.specs.declared.Decoded.the-variants.{Whole, Bad, Cut}
 use Rattle.definition_script.specs.declared.TransferBody.{TransferBody}
-use Rattle.definition_script.specs.Record.{READ, recordOf, eight, transferOf, isMisplaced}
+use Rattle.definition_script.specs.Record.{READ, FILL, recordOf, eight, transferOf, isMisplaced}
 use Rattle.script_call.proofs.record.Records.{cases}
 use Rattle.text.proofs.Place.{place-none, place-length}
 use Rattle.line.specs.line.LineDone.{LINE}
@@ -90,7 +90,7 @@ module _ (memory : List ℕ) (z : Rings) (p : Pair) where
       let P : Called → Type 0 = λ (d : Called). Long (length memory) (d .memory) in
       cases Called P (eqb tag 1) _ _ (λ e. write-length (transferOf b))
       (λ e. cases Called P (eqb tag READ) _ _ (λ f. read-length (transferOf b))
-      (λ f. cases Called P (ltb 10 tag) _ _ (λ g. fill-length (eight b 0) (drop 8 b)) (λ g. refl)))
+      (λ f. cases Called P (eqb tag FILL) _ _ (λ g. fill-length (eight b 0) (drop 8 b)) (λ g. refl)))
 
 settled-length : (tag : ℕ) (b : List ℕ) (a : Answer) (memory : List ℕ) → Long (length memory) (afterCount tag b a memory)
 unfolding afterCount

@@ -62,6 +62,16 @@ module _ {A : Type 0} where
       (λ (t : f x ≡ false). filter-yes (λ y. not (f y)) x xs (ap not t) ∙ ap (λ (l : List A). x ∷ l) (filter-all f xs (sym (any-no f x xs t) ∙ e)))
       (either (f x))
 
+  -- where none is selected, no element passes
+  pub filter-empty : (f : A → Bool) (xs : List A) → length (filter f xs) ≡ 0 → any f xs ≡ false
+  unfolding any filter pick _or_
+  filter-empty f [] e = refl
+  filter-empty f (x ∷ xs) e =
+      ⊎-elim
+      (λ (t : f x ≡ true). absurd (omega (arith, rw t at e)))
+      (λ (t : f x ≡ false). any-no f x xs t ∙ filter-empty f xs (rw t at e))
+      (either (f x))
+
   pub length-filter : (f : A → Bool) (xs : List A) → length (filter f xs) + length (filter (λ y. not (f y)) xs) ≡ length xs
   unfolding filter pick
   length-filter f [] = refl
@@ -70,6 +80,15 @@ module _ {A : Type 0} where
       ⊎-elim
       (λ (t : f x ≡ true). rw t (omega arith))
       (λ (t : f x ≡ false). rw t (omega arith))
+      (either (f x))
+
+  pub filter-append : (f : A → Bool) (xs ys : List A) → filter f (xs ++ ys) ≡ filter f xs ++ filter f ys
+  unfolding filter pick
+  filter-append f [] ys = refl
+  filter-append f (x ∷ xs) ys =
+      ⊎-elim
+      (λ (t : f x ≡ true). rw t (ap (λ (l : List A). x ∷ l) (filter-append f xs ys)))
+      (λ (t : f x ≡ false). rw t (filter-append f xs ys))
       (either (f x))
 
   pub filter-snoc-yes : (f : A → Bool) (xs : List A) (x : A) → f x ≡ true → filter f (xs ++ (x ∷ [])) ≡ filter f xs ++ (x ∷ [])

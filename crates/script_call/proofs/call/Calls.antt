@@ -1,11 +1,10 @@
 -- What a call says is what its definition says. Assumes nothing.
 use Prim.Native.Nat.{ℕ, _-_, _≤_}
-use native.Mathlib.Omega.{arith}
 use mathlib.Core.Path.{_≡_, refl, sym, ap, _∙_}
 use mathlib.Core.Bool.{true, false}
 use mathlib.Core.List.{List}
 use lib.ListN.{length, drop}
-use borrow.Author.Tests.{le-ltb, ne-eqb, lt-ltb}
+use borrow.Author.Tests.{ne-eqb}
 use Rattle.definition.specs.declared.Answer.{Answer}
 use Rattle.definition.specs.declared.Answer.the-variants.{Refused}
 use Rattle.definition.specs.declared.Status.the-variants.{InvalidArgs}
@@ -91,16 +90,16 @@ module _ (memory : List ℕ) (z : Rings) (p : Pair) (tag : ℕ) (b memory′ : L
   unfolding callOf pick
   read-call e d = rw e d
 
-  pub fill-call : 11 ≤ tag → CallDone (fillCall memory z p (eight b 0) (drop 8 b)) memory′ z′ r → CallDone (callOf memory z p tag b) memory′ z′ r
+  pub fill-call : tag ≡ 11 → CallDone (fillCall memory z p (eight b 0) (drop 8 b)) memory′ z′ r → CallDone (callOf memory z p tag b) memory′ z′ r
   unfolding callOf pick
-  fill-call h d = simp (ne-eqb tag 1 (λ e. omega arith), ne-eqb tag 2 (λ e. omega arith), lt-ltb 10 tag h) d
+  fill-call e d = rw e d
 
-plain-is : (memory : List ℕ) (z : Rings) (p : Pair) (tag : ℕ) (b : List ℕ) → (tag ≡ 1 → ⊥) → (tag ≡ 2 → ⊥) → tag ≤ 10
+plain-is : (memory : List ℕ) (z : Rings) (p : Pair) (tag : ℕ) (b : List ℕ) → (tag ≡ 1 → ⊥) → (tag ≡ 2 → ⊥) → (tag ≡ 11 → ⊥)
     → callOf memory z p tag b ≡ controlCall memory z (controlStep z p tag b)
 unfolding callOf pick
-plain-is memory z p tag b f g h = simp (ne-eqb tag 1 f, ne-eqb tag 2 g, le-ltb 10 tag h)
+plain-is memory z p tag b f g h = simp (ne-eqb tag 1 f, ne-eqb tag 2 g, ne-eqb tag 11 h)
 
-pub plain-call : (memory : List ℕ) (z : Rings) (p : Pair) (tag : ℕ) (b : List ℕ) (r : Step) → (tag ≡ 1 → ⊥) → (tag ≡ 2 → ⊥) → tag ≤ 10
+pub plain-call : (memory : List ℕ) (z : Rings) (p : Pair) (tag : ℕ) (b : List ℕ) (r : Step) → (tag ≡ 1 → ⊥) → (tag ≡ 2 → ⊥) → (tag ≡ 11 → ⊥)
     → r ≡ controlStep z p tag b → CallDone (callOf memory z p tag b) memory z r
 plain-call memory z p tag b r f g h e = rw (plain-is memory z p tag b f g h) (record { step = e; memory = refl; lent = refl })
 

@@ -7,7 +7,7 @@ use mathlib.Core.List.{List}
 use lib.ListN.{length, take, drop, length-drop}
 use lib.Seq.{take-all}
 use lib.Dec.{ltb, leb, eqb}
-use borrow.Author.Tests.{le-ltb, ltb-false, leb-true, ne-eqb, le-leb, lt-leb}
+use borrow.Author.Tests.{ltb-false, leb-true, ne-eqb, le-leb, lt-leb}
 use Rattle.definition.specs.declared.Answer.{Answer}
 use Rattle.definition.specs.declared.Answer.the-variants.{Done, Refused}
 use Rattle.definition.specs.declared.Status.the-variants.{InvalidArgs}
@@ -51,41 +51,26 @@ unfolding fillAnswer filled pick refuseUnless _then_
 fill-yes address bs memory e = (rw e refl, rw e refl)
 
 -- the body of a fill
-off : {X : Type 0} (x y : X) → pick false x y ≡ y
-unfolding pick
-off x y = refl
-
 pub never : _≡_ {A = Bool} false true → ⊥
 never e = let z : _≡_ {A = ℕ} 0 1 = ap (λ (b : Bool). cond b 1 0) e in omega arith
 
-fill-cases : (b c d : Bool) → pick b (pick c false d) false ≡ true → (c ≡ false) × (d ≡ true)
+fill-cases : (c d : Bool) → pick c false d ≡ true → (c ≡ false) × (d ≡ true)
 unfolding pick
-fill-cases true true d e = absurd (let z : _≡_ {A = Bool} false true = e in never z)
-fill-cases true false d e = (refl, e)
-fill-cases false c d e = absurd (never e)
+fill-cases true d e = absurd (let z : _≡_ {A = Bool} false true = e in never z)
+fill-cases false d e = (refl, e)
 
-pub fill-body : (tag n : ℕ) → 11 ≤ tag → isBody tag n ≡ true → (9 ≤ n) × (n ≤ 4104)
-unfolding isBody
-fill-body tag n h e =
-    let f : (ltb n 9 ≡ false) × (leb n 4104 ≡ true) =
-    fill-cases (ltb tag 12) (ltb n 9) (leb n 4104)
-    (simp (le-ltb tag 1 (omega arith), le-ltb tag 3 (omega arith), le-ltb tag 4 (omega arith), le-ltb tag 5 (omega arith), le-ltb tag 7 (omega arith), le-ltb tag 9 (omega arith), le-ltb tag 10 (omega arith), le-ltb tag 11 (omega arith), off) at e)
-    in
-    (ltb-false n 9 (f .0), leb-true n 4104 (f .1))
-
--- a body that is right for such a tag is right for a fill
-pub fill-right : (tag n : ℕ) → 11 ≤ tag → isBody tag n ≡ true → isBody 11 n ≡ true
+pub fill-body : (n : ℕ) → isBody 11 n ≡ true → (9 ≤ n) × (n ≤ 4104)
 unfolding isBody pick
-fill-right tag n h e =
-    let w = fill-body tag n h e in
-    rw (le-ltb n 9 (w .0)) (le-leb n 4104 (w .1))
+fill-body n e =
+    let f : (ltb n 9 ≡ false) × (leb n 4104 ≡ true) = fill-cases (ltb n 9) (leb n 4104) e in
+    (ltb-false n 9 (f .0), leb-true n 4104 (f .1))
 
 -- a body that is right, and one that is not
 pub fill-made : {memory b memory′ : List ℕ} {address : ℕ} {r : Answer} → isBody 11 (length b) ≡ true → address ≡ eight b 0
     → (r ≡ fillAnswer (length memory) address (length (take (length b - 8) (drop 8 b)))) × (memory′ ≡ filled address (take (length b - 8) (drop 8 b)) memory)
     → FillMade memory b memory′ r
 fill-made {memory} {b} {memory′} {address} {r} e a w =
-    let l = part-all 8 b (omega (arith, fill-body 11 (length b) (omega arith) e)) in
+    let l = part-all 8 b (omega (arith, fill-body (length b) e)) in
     record { made = λ f. rw (a, l) at w; none = λ f. absurd (never (sym f ∙ e)) }
 
 pub fill-none : {memory b : List ℕ} → isBody 11 (length b) ≡ false → FillMade memory b memory (Refused InvalidArgs)

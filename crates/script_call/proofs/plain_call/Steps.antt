@@ -11,7 +11,7 @@ use Rattle.definition.specs.declared.Pair.{Pair}
 use Rattle.definition.specs.declared.Step.{Step}
 use Rattle.definition.specs.Pair.{isOne}
 use Rattle.definition.specs.Tests.{Steps}
-use Rattle.definition_script.specs.Call.{Rings, rings, ownRing, ownTable, peerRing, peerTable, withPeerRings, stepOf, takeStep, controlStep}
+use Rattle.definition_script.specs.Call.{Rings, rings, ownRing, ownTable, peerRing, peerTable, withPeerRings, stepOf, cancelStep, controlStep}
 
 abbrev pub mk : Pair → Answer → Step
 mk p a = record { pair = p; answer = a }
@@ -78,11 +78,12 @@ module _ (z : Rings) (h : ℕ) where
 pub up : (tag n : ℕ) → n ≤ tag → (tag ≡ n → ⊥) → n + 1 ≤ tag
 up tag n h f = omega arith
 
-pub from-ten : (tag : ℕ) → 4 ≤ tag → (tag ≡ 4 → ⊥) → (tag ≡ 5 → ⊥) → (tag ≡ 6 → ⊥) → (tag ≡ 7 → ⊥) → (tag ≡ 8 → ⊥) → (tag ≡ 9 → ⊥) → 10 ≤ tag
-from-ten tag h n4 n5 n6 n7 n8 n9 = up tag 9 (up tag 8 (up tag 7 (up tag 6 (up tag 5 (up tag 4 h n4) n5) n6) n7) n8) n9
+pub from-eleven : (tag : ℕ) → 4 ≤ tag → (tag ≡ 4 → ⊥) → (tag ≡ 5 → ⊥) → (tag ≡ 6 → ⊥) → (tag ≡ 7 → ⊥) → (tag ≡ 8 → ⊥) → (tag ≡ 9 → ⊥) → (tag ≡ 10 → ⊥)
+    → 11 ≤ tag
+from-eleven tag h n4 n5 n6 n7 n8 n9 n10 = up tag 10 (up tag 9 (up tag 8 (up tag 7 (up tag 6 (up tag 5 (up tag 4 h n4) n5) n6) n7) n8) n9) n10
 
-pub take-tag : (z : Rings) (p : Pair) (tag : ℕ) (b : List ℕ) (r : Step) → 10 ≤ tag → r ≡ takeStep p → r ≡ controlStep z p tag b
+pub cancel-tag : (z : Rings) (p : Pair) (tag : ℕ) (b : List ℕ) (r : Step) → 11 ≤ tag → r ≡ cancelStep p b → r ≡ controlStep z p tag b
 unfolding controlStep pick
-take-tag z p tag b r h e =
-    simp (le-ltb tag 1 (omega arith), le-ltb tag 4 (omega arith), le-ltb tag 5 (omega arith), le-ltb tag 6 (omega arith), le-ltb tag 7 (omega arith), le-ltb tag 8 (omega arith), le-ltb tag 9 (omega arith), le-ltb tag 10 h)
+cancel-tag z p tag b r h e =
+    simp (le-ltb tag 1 (omega arith), le-ltb tag 4 (omega arith), le-ltb tag 5 (omega arith), le-ltb tag 6 (omega arith), le-ltb tag 7 (omega arith), le-ltb tag 8 (omega arith), le-ltb tag 9 (omega arith), le-ltb tag 10 (omega arith), le-ltb tag 11 h)
     e

@@ -57,6 +57,9 @@ enum-told-12 c = search needs
 enum-told-13 : tie.Need-enum-told-13
 enum-told-13 c = search needs
 
+enum-told-14 : tie.Need-enum-told-14
+enum-told-14 c = search needs
+
 returns : tie.Need-returns
 unfolding answerWord recordCount
 returns c = rw (c .before .before .before .a .given .1, c .enum-told .given .1)
@@ -113,6 +116,10 @@ returns-14 : tie.Need-returns-14
 unfolding answerWord statusNumber
 returns-14 c = rw (c .before .before .before .a2 .given .1, c .enum-told13 .given .1)
 
+returns-15 : tie.Need-returns-15
+unfolding answerWord statusNumber
+returns-15 c = rw (c .before .before .before .a2 .given .1, c .enum-told14 .given .1)
+
 pub word-spec : {M : Type 1} → statement M
 word-spec =
     tie.close
@@ -134,6 +141,7 @@ word-spec =
     enum-told-11
     enum-told-12
     enum-told-13
+    enum-told-14
     returns
     returns-2
     returns-3
@@ -147,4 +155,5 @@ word-spec =
     returns-11
     returns-12
     returns-13
-    returns-14)
+    returns-14
+    returns-15)

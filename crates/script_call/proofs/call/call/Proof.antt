@@ -3,7 +3,6 @@ use mathlib.Core.Logic.{⊎-elim}
 use mathlib.Core.Path.{refl}
 use native.Mathlib.Omega.{arith}
 use Rattle.script_call.proofs.call.Calls.{write-call, read-call, fill-call, plain-call, fill-done, no-call, made}
-use Rattle.script_call.proofs.fill.Fills.{fill-right}
 use Rattle.definition_script.specs.Call.{rings}
 use Rattle.endpoint.proofs.answer.Rules.{via-not, via-not-not}
 use Rattle.script_call.proofs.call.call.Statement.{statement}
@@ -78,9 +77,9 @@ same-length-11 c = c .before .before .fill .kept .0
 
 returns-4 : tie.Need-returns-4
 returns-4 c =
-    let right = via-not-not (c .before .before .before .before .before .before .before .is-body .ensures) (c .before .before .before .before .before .before .if1 .left) in
-    let late = c .before .before .before .before .if2 .left in
-    made right (fill-call _ _ _ _ _ _ _ _ late (fill-done _ _ _ _ _ _ _ (c .before .before .fill .ensures .made (fill-right _ _ late right))))
+    let right = via-not-not (c .before .before .before .before .before .before .is-body .ensures) (c .before .before .before .before .before .if1 .left) in
+    let fills = c .before .before .before .before .match .keys3 in
+    made right (fill-call _ _ _ _ _ _ _ _ fills (fill-done _ _ _ _ _ _ _ (c .before .before .fill .ensures .made (rw fills at right))))
 
 same-length-12 : tie.Need-same-length-12
 same-length-12 c = refl
@@ -95,7 +94,12 @@ same-length-15 : tie.Need-same-length-15
 same-length-15 c = refl
 
 returns-5 : tie.Need-returns-5
-returns-5 c = made (via-not-not (c .before .before .before .before .before .before .before .is-body .ensures) (c .before .before .before .before .before .before .if1 .left)) (⊎-elim (λ w. plain-call _ _ _ (c .before .before .before .before .before .before .before .before .before .before .before .before .before .before .args .tag) _ _ (λ e. omega arith) (λ e. omega arith) (omega arith) (c .plain .ensures)) (λ w. plain-call _ _ _ (c .before .before .before .before .before .before .before .before .before .before .before .before .before .before .args .tag) _ _ (λ e. omega arith) (λ e. omega arith) (omega arith) (c .plain .ensures)) (c .before .before .before .before .before .match .came))
+returns-5 c =
+    made (via-not-not (c .before .before .before .before .before .before .before .is-body .ensures) (c .before .before .before .before .before .before .if1 .left))
+    (⊎-elim
+    (λ w. plain-call _ _ _ (c .before .before .before .before .before .before .before .before .before .before .before .before .before .before .args .tag) _ _ (λ e. omega arith) (λ e. omega arith) (λ e. omega arith) (c .plain .ensures))
+    (λ w. plain-call _ _ _ (c .before .before .before .before .before .before .before .before .before .before .before .before .before .before .args .tag) _ _ (λ e. omega arith) (λ e. omega arith) (λ e. omega arith) (c .plain .ensures))
+    (c .before .before .before .before .before .match .came))
 
 pub call-spec : {M : Type 1} → statement M
 call-spec =

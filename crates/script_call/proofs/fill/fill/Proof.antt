@@ -20,10 +20,10 @@ u64-at-requires : tie.Need-u64-at-requires
 u64-at-requires c κs = search needs
 
 sub-put : tie.Need-sub-put
-sub-put c = omega (arith, fill-body 11 (length (now (c .before .before .before .before .before .before .args .body))) (omega arith) (via-not-not (c .before .before .before .is-body .ensures) (c .before .before .if1 .left)))
+sub-put c = omega (arith, fill-body (length (now (c .before .before .before .before .before .before .args .body))) (via-not-not (c .before .before .before .is-body .ensures) (c .before .before .if1 .left)))
 
 part-put-start : tie.Need-part-put-start
-part-put-start c = omega (arith, fill-body 11 (length (now (c .before .before .before .before .before .before .args .body))) (omega arith) (via-not-not (c .before .before .before .is-body .ensures) (c .before .before .if1 .left)))
+part-put-start c = omega (arith, fill-body (length (now (c .before .before .before .before .before .before .args .body))) (via-not-not (c .before .before .before .is-body .ensures) (c .before .before .if1 .left)))
 
 part-put-end : tie.Need-part-put-end
 part-put-end c = search needs
@@ -32,7 +32,7 @@ put-requires : tie.Need-put-requires
 put-requires c κs =
     let b = now (c .before .before .before .before .before .before .before .args .body) in
     let n : length (take (length b - 8) (drop 8 b)) ≡ length b - 8 = length-take-le (length b - 8) (drop 8 b) (omega (arith, length-drop 8 b)) in
-    let w = fill-body 11 (length b) (omega arith) (via-not-not (c .before .before .before .before .is-body .ensures) (c .before .before .before .if1 .left)) in
+    let w = fill-body (length b) (via-not-not (c .before .before .before .before .is-body .ensures) (c .before .before .before .if1 .left)) in
     (omega (arith, n, w), omega (arith, n, w))
 
 same-length : tie.Need-same-length

@@ -1,8 +1,8 @@
 use borrow.Author.Needs.{needs}
 use borrow.Author.Tests.{lt-ltb, le-ltb}
 use native.Mathlib.Omega.{arith}
-use Rattle.script_call.proofs.plain_call.Steps.{up, from-ten, take-tag}
-use Rattle.definition_script.specs.Call.{infoStep, takeStep, controlStep}
+use Rattle.script_call.proofs.plain_call.Steps.{up, from-eleven, cancel-tag}
+use Rattle.definition_script.specs.Call.{infoStep, cancelStep, controlStep}
 use Rattle.definition.specs.Status.{pick}
 use Rattle.script_call.proofs.plain_call.plain.Statement.{statement}
 use Rattle.script_call.proofs.plain_call.plain.Tie as tie
@@ -37,6 +37,9 @@ set-disposition-requires c κs = search needs
 take-requires : tie.Need-take-requires
 take-requires c κs = search needs
 
+cancel-requires : tie.Need-cancel-requires
+cancel-requires c κs = search needs
+
 returns : tie.Need-returns
 unfolding controlStep pick
 returns c = rw (c .before .match .keys1) (c .create .ensures)
@@ -67,11 +70,15 @@ returns-7 c = rw (c .before .match .keys7) (c .wait .ensures)
 
 returns-8 : tie.Need-returns-8
 unfolding controlStep pick
-returns-8 c = simp (le-ltb (c .before .before .before .before .before .before .before .before .args .tag) 1 (up (c .before .before .before .before .before .before .before .before .args .tag) 0 (omega arith) (c .before .before .match .rest .0 .0 .0 .0 .0 .0 .1)), lt-ltb _ _ (c .before .if1 .taken)) (c .set-disposition .ensures)
+returns-8 c = rw (c .before .match .keys8) (c .take .ensures)
 
 returns-9 : tie.Need-returns-9
-unfolding controlStep pick takeStep
-returns-9 c = take-tag _ _ (c .before .before .before .before .before .before .before .before .args .tag) _ _ (from-ten (c .before .before .before .before .before .before .before .before .args .tag) (c .before .if1 .left) (c .before .before .match .rest .0 .0 .0 .0 .0 .1) (c .before .before .match .rest .0 .0 .0 .0 .1) (c .before .before .match .rest .0 .0 .0 .1) (c .before .before .match .rest .0 .0 .1) (c .before .before .match .rest .0 .1) (c .before .before .match .rest .1)) (c .take .ensures)
+unfolding controlStep pick
+returns-9 c = simp (le-ltb (c .before .before .before .before .before .before .before .before .args .tag) 1 (up (c .before .before .before .before .before .before .before .before .args .tag) 0 (omega arith) (c .before .before .match .rest .0 .0 .0 .0 .0 .0 .0 .1)), lt-ltb _ _ (c .before .if1 .taken)) (c .set-disposition .ensures)
+
+returns-10 : tie.Need-returns-10
+unfolding controlStep pick cancelStep
+returns-10 c = cancel-tag _ _ (c .before .before .before .before .before .before .before .before .args .tag) _ _ (from-eleven (c .before .before .before .before .before .before .before .before .args .tag) (c .before .if1 .left) (c .before .before .match .rest .0 .0 .0 .0 .0 .0 .1) (c .before .before .match .rest .0 .0 .0 .0 .0 .1) (c .before .before .match .rest .0 .0 .0 .0 .1) (c .before .before .match .rest .0 .0 .0 .1) (c .before .before .match .rest .0 .0 .1) (c .before .before .match .rest .0 .1) (c .before .before .match .rest .1)) (c .cancel .ensures)
 
 pub plain-spec : {M : Type 1} → statement M
 plain-spec =
@@ -85,8 +92,9 @@ plain-spec =
     get-info-requires
     close-requires
     wait-requires
-    set-disposition-requires
     take-requires
+    set-disposition-requires
+    cancel-requires
     returns
     returns-2
     returns-3
@@ -95,4 +103,5 @@ plain-spec =
     returns-6
     returns-7
     returns-8
-    returns-9)
+    returns-9
+    returns-10)

@@ -1,7 +1,7 @@
 use mathlib.Core.Path.{refl}
 use Rattle.definition.specs.Status.{pick}
-use Rattle.port.proofs.waits.count_if.Statement.{statement}
-use Rattle.port.proofs.waits.count_if.Tie as tie
+use Rattle.port.proofs.places.count_if.Statement.{statement}
+use Rattle.port.proofs.places.count_if.Tie as tie
 
 returns : tie.Need-returns
 unfolding pick
