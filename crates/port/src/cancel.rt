@@ -29,34 +29,40 @@ fn is_match(p: Place, one: bool, key: u64) -> bool
     p.key == key
 }
 
-// Frees each place that matches; each of the others goes behind those kept so far, so that their order stays. Of those kept, m are packets.
-fn compacted(t: Places, one: bool, key: u64) -> Remaining
-    requires { ⌜ t .packets + t .waits ≤ 128 ⌝ }
-    ensures { λ r. ⌜ r ≡ record { places = cancelledOf one key t; removed = matching one key t } ⌝ }
+// Frees each place that matches, if that is asked; each of the others goes behind those kept so far, so that their order stays. Of those kept, m are
+// packets.
+fn compacted(t: Places, one: bool, key: u64, asked: bool) -> Remaining
+    requires { ⌜ (asked ≡ true → t .packets + t .waits ≤ 128) ⌝ }
+    ensures { λ r. ⌜ r ≡ record { places = pick asked (cancelledOf one key t) t; removed = pick asked (matching one key t) 0 } ⌝ }
 {
     let packets = t.packets;
-    let used = packets + t.waits;
+    let waits = t.waits;
     let mut out = t;
-    let mut n: usize = 0;
-    let mut m: usize = 0;
-    let mut i: usize = 0;
-    while i < used {
-        let p = out.table[i];
-        let free = FREE;
-        out.table[i] = free;
-        m = count_if(i <= packets, n, m);
-        i = i + 1;
-        if !is_match(p, one, key) {
-            out.table[n] = p;
-            n = n + 1;
+    let mut removed: u32 = 0;
+    if asked {
+        let used = packets + waits;
+        let mut n: usize = 0;
+        let mut m: usize = 0;
+        let mut i: usize = 0;
+        while i < used {
+            let p = out.table[i];
+            let free = FREE;
+            out.table[i] = free;
+            m = count_if(i <= packets, n, m);
+            i = i + 1;
+            if !is_match(p, one, key) {
+                out.table[n] = p;
+                n = n + 1;
+            }
         }
+        m = count_if(i <= packets, n, m);
+        out.packets = m;
+        out.waits = n - m;
+        removed = (used - n) as u32;
     }
-    m = count_if(i <= packets, n, m);
-    out.packets = m;
-    out.waits = n - m;
     Remaining {
         places: out,
-        removed: (used - n) as u32,
+        removed,
     }
 }
 
@@ -64,11 +70,5 @@ fn compacted(t: Places, one: bool, key: u64) -> Remaining
 pub fn cancelled(t: Places, asked: bool, one: bool, key: u64) -> Remaining
     ensures { λ r. ⌜ r ≡ record { places = pick (asked and leb (t .packets + t .waits) 128) (cancelledOf one key t) t; removed = pick (asked and leb (t .packets + t .waits) 128) (matching one key t) 0 } ⌝ }
 {
-    if both(asked, is_sound(t.packets, t.waits)) {
-        return compacted(t, one, key);
-    }
-    Remaining {
-        places: t,
-        removed: 0,
-    }
+    compacted(t, one, key, both(asked, is_sound(t.packets, t.waits)))
 }

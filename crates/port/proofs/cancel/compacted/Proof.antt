@@ -15,21 +15,23 @@ use Rattle.port.proofs.cancel.compacted.Tie as tie
 -- The places below i are visited: those kept stand together from the first on, and the places from n to i are free. Once the packets are visited, m of
 -- those kept are packets.
 abbrev Inv-loop : tie.InvT-loop
-Inv-loop one key packets used out₀ n₀ m₀ i₀ out n m i =
+Inv-loop one key asked packets waits out₀ removed used n₀ m₀ i₀ out n m i =
     Compacted (keeps one key) free (out₀ .table) 0 used (out .table) n i
     × (((packets < i → m ≡ length (filter (keeps one key) (take packets (out₀ .table)))) × (packets ≤ used)) × (used ≤ 128))
 
 abbrev μ-loop : tie.MeasureT-loop
-μ-loop one key packets used out₀ n₀ m₀ i₀ out n m i = used - i
+μ-loop one key asked packets waits out₀ removed used n₀ m₀ i₀ out n m i = used - i
 
 add-used : tie.Need-add-used Inv-loop μ-loop
-add-used c = search needs
+add-used c =
+    let h = c .before .pre (c .if1 .taken) in
+    omega (arith, h)
 
 loop-holds : tie.Need-loop-holds Inv-loop μ-loop
 loop-holds c =
     let t = c .before .args .t in
     let l : length (t .table) ≡ 128 = table-128 t _ (c .before .good .0) in
-    let h : t .packets + t .waits ≤ 128 = c .before .pre in (
+    let h : t .packets + t .waits ≤ 128 = c .before .pre (c .if1 .taken) in (
       compact-start (keeps (c .before .args .one) (c .before .args .key)) free (t .table) 0 (t .packets + t .waits) (omega arith) (omega arith),
       ((λ (q : t .packets < 0). absurd (omega (arith, q)), omega arith), h),
     )
@@ -75,7 +77,7 @@ loop-again c =
     let f = keeps (a .one) (a .key) in
     let u = t .packets + t .waits in (
       compact-keep f free (t .table) 0 u (o .out .table) (o .n) (o .i) free (o .inv .0) (c .before .before .before .before .loop-test .taken)
-          (ap not (sym (c .before .is-match .ensures)) ∙ c .if1 .taken),
+          (ap not (sym (c .before .is-match .ensures)) ∙ c .if2 .taken),
       (
         (
           λ (q : t .packets < o .i + 1). c .before .before .count-if .ensures
@@ -97,7 +99,7 @@ loop-again-2 c =
     let f = keeps (a .one) (a .key) in
     let u = t .packets + t .waits in (
       compact-drop f free (t .table) 0 u (o .out .table) (o .n) (o .i) free (o .inv .0) (c .before .before .before .before .loop-test .taken)
-          (ap not (sym (c .before .is-match .ensures)) ∙ c .if1 .left),
+          (ap not (sym (c .before .is-match .ensures)) ∙ c .if2 .left),
       (
         (
           λ (q : t .packets < o .i + 1). c .before .before .count-if .ensures
@@ -122,13 +124,14 @@ sub-out c =
     let k = c .count-if2 .ensures ∙ kept-packets (keeps (a .one) (a .key)) (t .table) (t .packets) u (o .out .table) (o .m) (o .n) (o .i) (o .inv .0) (o .inv .1 .0 .0) (omega arith) in
     cancelled-as (a .one) (a .key) t (o .out .table) (c .count-if2 .result) (o .n) (o .i) (omega (arith, o .inv .1 .1, l)) (o .inv .0) done k .0
 
-sub-t24 : tie.Need-sub-t24 Inv-loop μ-loop
-sub-t24 c = search needs
+sub-removed : tie.Need-sub-removed Inv-loop μ-loop
+sub-removed c = search needs
 
-cast-t26 : tie.Need-cast-t26 Inv-loop μ-loop
-cast-t26 c = search needs
+cast-removed : tie.Need-cast-removed Inv-loop μ-loop
+cast-removed c = search needs
 
 returns : tie.Need-returns Inv-loop μ-loop
+unfolding pick
 returns c =
     let a = c .before .before .before .before .args in
     let t = a .t in
@@ -138,7 +141,11 @@ returns c =
     let done : u ≤ o .i = c .before .loop-test .left in
     let k = c .count-if2 .ensures ∙ kept-packets (keeps (a .one) (a .key)) (t .table) (t .packets) u (o .out .table) (o .m) (o .n) (o .i) (o .inv .0) (o .inv .1 .0 .0) (omega arith) in
     let w = cancelled-as (a .one) (a .key) t (o .out .table) (c .count-if2 .result) (o .n) (o .i) (omega (arith, o .inv .1 .1, l)) (o .inv .0) done k in
-    rw (w .1 .0, w .1 .1) refl
+    rw (c .before .before .before .if1 .taken, w .1 .0, w .1 .1) refl
+
+returns-2 : tie.Need-returns-2 Inv-loop μ-loop
+unfolding pick
+returns-2 c = rw (c .if1 .left) refl
 
 pub compacted-spec : {M : Type 1} → statement M
 compacted-spec =
@@ -164,6 +171,7 @@ compacted-spec =
     loop-again-2
     count-if-requires-2
     sub-out
-    sub-t24
-    cast-t26
-    returns)
+    sub-removed
+    cast-removed
+    returns
+    returns-2)
