@@ -137,14 +137,60 @@ fn an_edit_of_the_worked_example_is_told() {
 
 #[test]
 fn another_place_of_a_stop_is_told() {
-    let text = "create kind=0 capacity=8 rights1=7 rights2=7\nraw 0c0000";
+    let text = "create kind=0 capacity=8 rights1=7 rights2=7\nraw 0d0000";
     let script = encode(text, Missing::Mistake).expect("a script");
     let listing = |last: &str| format!("record word end1 end2\n0 0 00000002 00000002\n{last}");
     assert!(mismatches(&script, &listing("stop 13\n")).is_empty());
     let told = mismatches(&script, &listing("stop 14\n"));
-    assert_eq!(told, [": line 3: found `stop 14`, expected `stop 13`: no record has tag 12"]);
+    assert_eq!(told, [": line 3: found `stop 14`, expected `stop 13`: no record has tag 13"]);
     let told = mismatches(&script, &listing(""));
-    assert_eq!(told, [": the listing has ended before `stop 13`: no record has tag 12"]);
+    assert_eq!(told, [": the listing has ended before `stop 13`: no record has tag 13"]);
+}
+
+/// Waits and packets at both ends with the keys 7 and 7 + 2^32, and cancels of end 1's key 7.
+#[test]
+fn a_cancel_that_does_not_fit_the_waits_and_packets_is_told() {
+    let text = "create kind=0 capacity=8 rights1=0 rights2=0\n\
+        wait 1 key=7 mask=PEER_CLOSED edge=0\nwait 2 key=7 mask=PEER_CLOSED edge=0\n\
+        wait 1 key=0x100000007 mask=WRITABLE edge=0\nwait 1 key=7 mask=WRITABLE edge=0\n\
+        cancel 1 key=7\ncancel 1 key=7\ntake\ntake";
+    let script = encode(text, Missing::Mistake).expect("a script");
+    let waits: String = (0..5).map(|record| format!("{record} 0 00000002 00000002\n")).collect();
+    let listing = |words: [i64; 3], key: &str| {
+        let [first, second, take] = words;
+        let lines = format!("5 {first} 00000002 00000002\n6 {second} 00000002 00000002\n");
+        let takes = format!("7 0 00000002 00000002 {key} 00000002 00000002\n8 {take} 00000002 00000002\n");
+        format!("record word end1 end2\n{waits}{lines}{takes}")
+    };
+    let (one, twin) = ("0000000000000007", "0000000100000007");
+    assert!(mismatches(&script, &listing([2, -25, -22], twin)).is_empty());
+    let nothing = "the end has no wait and no packet with this key";
+    for (words, key, told) in [
+        ([3, -25, -22], twin, " (line 7 of the listing): the word is 3, expected 2".to_string()),
+        ([0, -25, -22], twin, " (line 7 of the listing): the word is 0, expected 2".to_string()),
+        (
+            [-25, -25, -22],
+            twin,
+            " (line 7 of the listing): the word is -25, but nothing refuses the call".to_string(),
+        ),
+        (
+            [2, 0, -22],
+            twin,
+            format!(" (line 8 of the listing): the word is 0, expected NOT_FOUND (-25): {nothing}"),
+        ),
+        (
+            [2, -11, -22],
+            twin,
+            format!(" (line 8 of the listing): the word is -11, expected NOT_FOUND (-25): {nothing}"),
+        ),
+        (
+            [2, -25, -22],
+            one,
+            format!(" (line 9 of the listing): expected the packet {twin} 00000002 00000002"),
+        ),
+    ] {
+        assert_eq!(mismatches(&script, &listing(words, key)).first(), Some(&told));
+    }
 }
 
 #[test]
