@@ -108,6 +108,13 @@ fn damaged() -> Vec<(String, Vec<u8>)> {
         scripts.push((format!("tag {tag} alone"), [&start[..], &[tag]].concat()));
         scripts.push((format!("tag {tag} first"), vec![tag, 0, 0]));
     }
+    // The first tag that no record has, with the body of each.
+    for record in one_of_each() {
+        let mut bytes = script_of(std::slice::from_ref(&record));
+        let (name, number) = (SHAPES[bytes[0] as usize].name, bytes.len());
+        bytes[0] = SHAPES.len() as u8;
+        scripts.push((format!("{name} {number} with the tag {}", bytes[0]), [&start[..], &bytes].concat()));
+    }
     scripts
 }
 
