@@ -310,15 +310,7 @@ impl Step<'_> {
             Record::Cancel { handle, key } => self.cancel(*handle, *key, &mut names),
             Record::Close { .. } | Record::Create { .. } => {}
         }
-        if *self.answer == Err(-11) {
-            // Every record has its handle first.
-            let (_, values, _) = self.record.values();
-            names.push(if (1..=2).contains(&values[0]) {
-                "a handle refused as closed"
-            } else {
-                "a handle refused as none"
-            });
-        }
+        names.extend(self.bad_handle());
         if !matches!(self.record, Record::Take | Record::Wait { .. }) {
             match self.after.packets.len().saturating_sub(self.before.packets.len()) {
                 0 => {}
@@ -327,6 +319,16 @@ impl Step<'_> {
             }
         }
         names
+    }
+
+    /// Why a handle was refused.
+    fn bad_handle(&self) -> Option<&'static str> {
+        // Every record has its handle first.
+        let (_, values, _) = self.record.values();
+        (*self.answer == Err(-11)).then(|| match values[0] {
+            1 | 2 => "a handle refused as closed",
+            _ => "a handle refused as none",
+        })
     }
 
     fn raised(&self, end: usize, bit: u32) -> bool {

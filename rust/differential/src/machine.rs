@@ -6,7 +6,7 @@
 use crate::record::{Record, Transfer};
 use crate::sockets::Sockets;
 use crate::values::{rights_of, status, word_of};
-use crate::waits::{Fired, Waits};
+use crate::waits::{Fired, NamedEnd, Waits};
 use std::sync::Arc;
 use zcore::capacity::{set_socket_size, ORIGINAL};
 use zcore::ipc::Socket;
@@ -208,8 +208,8 @@ impl Machine {
         Ok(Done::Count(self.waits.cancel(end, object.id(), key)?))
     }
 
-    /// The end, 0 or 1, with the process's handle for it, and its object.
-    fn object(&self, handle: u32) -> Result<((usize, HandleValue), Arc<dyn KernelObject>), i64> {
+    /// The end with the process's handle for it, and its object.
+    fn object(&self, handle: u32) -> Result<(NamedEnd, Arc<dyn KernelObject>), i64> {
         let value = self.handle(handle);
         let (object, _) = self.thread.proc().get_dyn_object_and_rights(value).map_err(status)?;
         Ok(((handle as usize - 1, value), object))

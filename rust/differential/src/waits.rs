@@ -13,6 +13,9 @@ use zcore::ZxError;
 /// Places for waits and packets of a pair.
 pub const PLACES: usize = 128;
 
+/// An end, 0 or 1, and the handle that names it.
+pub type NamedEnd = (usize, HandleValue);
+
 /// An end, 0 or 1, and a key: what a wait is cancelled by.
 pub type Source = (usize, u64);
 
@@ -62,10 +65,10 @@ impl Waits {
         }
     }
 
-    /// Registers a wait at an end, 0 or 1, with the handle that names it.
+    /// Registers a wait at an end.
     pub fn register(
         &mut self,
-        (end, handle): (usize, HandleValue),
+        (end, handle): NamedEnd,
         object: &Arc<dyn KernelObject>,
         key: u64,
         mask: u32,
@@ -87,14 +90,9 @@ impl Waits {
         Ok(())
     }
 
-    /// Cancels the waits of an end, 0 or 1, with a key, and the packets that
+    /// Cancels the waits of an end with a key, and the packets that
     /// such waits made. The original answers no number: it is counted here.
-    pub fn cancel(
-        &mut self,
-        (end, handle): (usize, HandleValue),
-        object: KoID,
-        key: u64,
-    ) -> Result<u64, i64> {
+    pub fn cancel(&mut self, (end, handle): NamedEnd, object: KoID, key: u64) -> Result<u64, i64> {
         let before = self.used();
         let done = self.port.cancel(Some((object, handle)), key);
         self.waiting.retain(|number, wait| {

@@ -147,7 +147,31 @@ fn another_place_of_a_stop_is_told() {
     assert_eq!(told, [": the listing has ended before `stop 13`: no record has tag 13"]);
 }
 
-/// Waits and packets at both ends with the keys 7 and 7 + 2^32, and cancels of end 1's key 7.
+/// What is edited in the listing of cancels of end1's key 7, and what is said first. End2 has that key too, and a
+/// packet of end1 one that is alike in its lower 32 bits.
+const CANCEL_EDITS: [(&str, &str, &str); 6] = [
+    ("\n5 2 ", "\n5 3 ", " (line 7 of the listing): the word is 3, expected 2"),
+    ("\n5 2 ", "\n5 0 ", " (line 7 of the listing): the word is 0, expected 2"),
+    ("\n5 2 ", "\n5 -25 ", " (line 7 of the listing): the word is -25, but nothing refuses the call"),
+    (
+        "\n6 -25 ",
+        "\n6 0 ",
+        " (line 8 of the listing): the word is 0, expected NOT_FOUND (-25): the end has no wait and no packet \
+        with this key",
+    ),
+    (
+        "\n6 -25 ",
+        "\n6 -11 ",
+        " (line 8 of the listing): the word is -11, expected NOT_FOUND (-25): the end has no wait and no packet \
+        with this key",
+    ),
+    (
+        "0000000100000007",
+        "0000000000000007",
+        " (line 9 of the listing): expected the packet 0000000100000007 00000002 00000002",
+    ),
+];
+
 #[test]
 fn a_cancel_that_does_not_fit_the_waits_and_packets_is_told() {
     let text = "create kind=0 capacity=8 rights1=0 rights2=0\n\
@@ -155,41 +179,15 @@ fn a_cancel_that_does_not_fit_the_waits_and_packets_is_told() {
         wait 1 key=0x100000007 mask=WRITABLE edge=0\nwait 1 key=7 mask=WRITABLE edge=0\n\
         cancel 1 key=7\ncancel 1 key=7\ntake\ntake";
     let script = encode(text, Missing::Mistake).expect("a script");
-    let waits: String = (0..5).map(|record| format!("{record} 0 00000002 00000002\n")).collect();
-    let listing = |words: [i64; 3], key: &str| {
-        let [first, second, take] = words;
-        let lines = format!("5 {first} 00000002 00000002\n6 {second} 00000002 00000002\n");
-        let takes = format!("7 0 00000002 00000002 {key} 00000002 00000002\n8 {take} 00000002 00000002\n");
-        format!("record word end1 end2\n{waits}{lines}{takes}")
-    };
-    let (one, twin) = ("0000000000000007", "0000000100000007");
-    assert!(mismatches(&script, &listing([2, -25, -22], twin)).is_empty());
-    let nothing = "the end has no wait and no packet with this key";
-    for (words, key, told) in [
-        ([3, -25, -22], twin, " (line 7 of the listing): the word is 3, expected 2".to_string()),
-        ([0, -25, -22], twin, " (line 7 of the listing): the word is 0, expected 2".to_string()),
-        (
-            [-25, -25, -22],
-            twin,
-            " (line 7 of the listing): the word is -25, but nothing refuses the call".to_string(),
-        ),
-        (
-            [2, 0, -22],
-            twin,
-            format!(" (line 8 of the listing): the word is 0, expected NOT_FOUND (-25): {nothing}"),
-        ),
-        (
-            [2, -11, -22],
-            twin,
-            format!(" (line 8 of the listing): the word is -11, expected NOT_FOUND (-25): {nothing}"),
-        ),
-        (
-            [2, -25, -22],
-            one,
-            format!(" (line 9 of the listing): expected the packet {twin} 00000002 00000002"),
-        ),
-    ] {
-        assert_eq!(mismatches(&script, &listing(words, key)).first(), Some(&told));
+    let words = [0, 0, 0, 0, 0, 2, -25, 0, -22].into_iter().enumerate();
+    let lines: String = words.map(|(at, word)| format!("{at} {word} 00000002 00000002\n")).collect();
+    let packet = "7 0 00000002 00000002 0000000100000007 00000002 00000002\n";
+    let lines = lines.replace("7 0 00000002 00000002\n", packet);
+    let listing = format!("record word end1 end2\n{lines}");
+    assert_eq!(mismatches(&script, &listing), Vec::<String>::new());
+    for (before, behind, told) in CANCEL_EDITS {
+        let edited = listing.replacen(before, behind, 1);
+        assert_eq!(mismatches(&script, &edited).first().map(String::as_str), Some(told), "{edited}");
     }
 }
 
