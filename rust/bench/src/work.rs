@@ -181,8 +181,8 @@ fn part_start(timed: Part, part: Part) -> Option<Instant> {
     (timed == part).then(Instant::now)
 }
 
-/// Each pass cancels the wait that is the oldest then. What comes behind the passes puts the waits back into the
-/// order that they had.
+/// Each pass cancels the wait that is the oldest then. What comes behind the passes puts the waits back into
+/// the order that they had.
 fn cancelled_waits<S: Side>(side: &mut S, passes: u32, count: u64) -> Duration {
     let mut pass = |key| {
         side.cancel(black_box(key));

@@ -292,8 +292,8 @@ impl<'a> SocketPair<'a> {
     ///
     /// # Errors
     ///
-    /// In this order: [`BadHandle`](Status::BadHandle) if the end is closed, also where packets of it are left;
-    /// [`NotFound`](Status::NotFound) if the end has no wait and no packet with this key.
+    /// In this order: [`BadHandle`](Status::BadHandle) if the end is closed, also where packets of it are
+    /// left; [`NotFound`](Status::NotFound) if the end has no wait and no packet with this key.
     pub fn cancel(&mut self, end: End, key: u64) -> Result<usize, Status> {
         answer(raw::cancel(self.record.get_mut(), end.handle(), key))
     }

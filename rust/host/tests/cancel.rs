@@ -1,5 +1,6 @@
-//! Cancel on tables of places, by hand: what it answers, what is left and in which order, and what becomes of the
-//! freed places. Each wrong program that is named here answers or leaves something else in one of the cases.
+//! Cancel on tables of places, by hand: what it answers, what is left and in which order, and what becomes of
+//! the freed places. Each wrong program that is named here answers or leaves something else in one of the
+//! cases.
 
 use murgwethan::raw::{self, Pair, Place, PLACES};
 

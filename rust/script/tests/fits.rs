@@ -147,8 +147,8 @@ fn another_place_of_a_stop_is_told() {
     assert_eq!(told, [": the listing has ended before `stop 13`: no record has tag 13"]);
 }
 
-/// What is edited in the listing of cancels of end1's key 7, and what is said first. End2 has that key too, and a
-/// packet of end1 one that is alike in its lower 32 bits.
+/// What is edited in the listing of cancels of end1's key 7, and what is said first. End2 has that key too,
+/// and a packet of end1 one that is alike in its lower 32 bits.
 const CANCEL_EDITS: [(&str, &str, &str); 6] = [
     ("\n5 2 ", "\n5 3 ", " (line 7 of the listing): the word is 3, expected 2"),
     ("\n5 2 ", "\n5 0 ", " (line 7 of the listing): the word is 0, expected 2"),
@@ -156,14 +156,14 @@ const CANCEL_EDITS: [(&str, &str, &str); 6] = [
     (
         "\n6 -25 ",
         "\n6 0 ",
-        " (line 8 of the listing): the word is 0, expected NOT_FOUND (-25): the end has no wait and no packet \
-        with this key",
+        " (line 8 of the listing): the word is 0, expected NOT_FOUND (-25): \
+        the end has no wait and no packet with this key",
     ),
     (
         "\n6 -25 ",
         "\n6 -11 ",
-        " (line 8 of the listing): the word is -11, expected NOT_FOUND (-25): the end has no wait and no packet \
-        with this key",
+        " (line 8 of the listing): the word is -11, expected NOT_FOUND (-25): \
+        the end has no wait and no packet with this key",
     ),
     (
         "0000000100000007",

@@ -1,5 +1,5 @@
-//! The socket pair, written from document 01 alone and in its order, with cancel from 02 (i): plain, slow, one
-//! byte at a time.
+//! The socket pair, written from document 01 alone and in its order, with cancel from 02 (i): plain, slow,
+//! one byte at a time.
 
 use murgwethan::raw;
 
