@@ -97,6 +97,10 @@ impl Side for Exported {
         out[0]
     }
 
+    fn cancel(&mut self, key: u64) {
+        assert_eq!(done(raw::cancel(&mut self.pair, 2, key)), 1);
+    }
+
     fn info(&mut self) {
         let mut out = [0; 6];
         done(raw::info(&mut self.pair, 2, &self.tables[1], &mut out));
@@ -164,6 +168,10 @@ impl Side for Locked {
 
     fn take(&mut self) -> u64 {
         self.0.lock().take()
+    }
+
+    fn cancel(&mut self, key: u64) {
+        self.0.lock().cancel(key);
     }
 
     fn info(&mut self) {

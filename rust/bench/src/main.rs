@@ -23,6 +23,9 @@
 //! has this part: there either side allocates all that a new pair needs in every pass. The rings are filled
 //! with zeros then, as Rust's slices ask of a host; the pair does not ask for it.
 //!
+//! A pass of a cancel has the wait with it that registers again what was cancelled. The original's end keeps
+//! what it calls for a cancelled wait until its word changes, so that there it has one more after each pass.
+//!
 //! Over user memory the original's side does what its system calls do behind the lookup of the handle, with
 //! slices for its user pointers, whose type is not among the sources. A process' table of handles is looked
 //! up on neither side; the exported calls test the handle and its right, and both ranges.
@@ -67,7 +70,7 @@ const fn first_write(capacity: usize, bytes: usize) -> Work {
 }
 
 /// The rows that the ratio is about.
-const ROWS: [Work; 21] = [
+const ROWS: [Work; 23] = [
     create(64),
     create(4096),
     create(MOST as u32),
@@ -88,6 +91,8 @@ const ROWS: [Work; 21] = [
     Work::Waits(8),
     Work::Waits(127),
     Work::WaitFireTake,
+    Work::Cancel(8),
+    Work::Cancel(127),
     Work::Info,
 ];
 

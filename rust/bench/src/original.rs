@@ -6,7 +6,7 @@ use std::hint::black_box;
 use std::pin::pin;
 use std::sync::Arc;
 use std::task::{Context, Poll, Waker};
-use zcore::object::{KernelObject, Signal};
+use zcore::object::{HandleValue, KernelObject, KoID, Signal};
 use zcore::signal::{PayloadRepr, Port, PortPacketRepr, WaitAsyncOptions};
 use zcore::untouched::Socket;
 
@@ -35,6 +35,13 @@ const DONE: &str = "a call that is done";
 /// The bytes of user memory, and the place of the count behind them.
 fn split(memory: &mut [u8]) -> (&mut [u8], &mut [u8]) {
     memory.split_at_mut(memory.len() - COUNT)
+}
+
+impl Original {
+    /// What the waits at the reader are known by.
+    fn source(&self) -> (KoID, HandleValue) {
+        (self.reader.id(), 2)
+    }
 }
 
 impl Side for Original {
@@ -81,8 +88,12 @@ impl Side for Original {
             Mask::Readable => Signal::READABLE,
             Mask::PeerClosed => Signal::PEER_CLOSED,
         };
-        let source = (self.reader.id(), 2);
+        let source = self.source();
         self.port.wait_async(&self.reader, source, key, signal, WaitAsyncOptions::empty(), None);
+    }
+
+    fn cancel(&mut self, key: u64) {
+        self.port.cancel(Some(self.source()), key).expect(DONE);
     }
 
     fn take(&mut self) -> u64 {

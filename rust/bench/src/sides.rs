@@ -30,6 +30,8 @@ pub trait Side: Sized {
     fn wait(&mut self, key: u64, mask: Mask);
     /// The key of the oldest packet.
     fn take(&mut self) -> u64;
+    /// Cancels the wait with this key; there is one.
+    fn cancel(&mut self, key: u64);
     fn info(&mut self);
     /// Makes a batch of further pairs, each with a port.
     fn create_batch(&mut self);

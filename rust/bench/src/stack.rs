@@ -55,7 +55,7 @@ type Named = (&'static str, fn(&mut Lent) -> i64);
 const TRANSFER: Transfer = Transfer { options: 0, address: 4096, count: 5000, count_at: 4096 };
 
 /// Every exported call, on a pair whose waits fire where they can.
-const CALLS: [Named; 17] = [
+const CALLS: [Named; 18] = [
     ("create", |l| raw::create(&mut l.pair, 0, 8192, [7, 7], [&l.ring; 2], [&l.table; 2])),
     ("write", |l| raw::write(&mut l.pair, 1, &mut l.ring, &mut l.table, &l.bytes[..5000])),
     ("read", |l| raw::read(&mut l.pair, 2, false, &l.ring, &l.table, &mut l.bytes)),
@@ -73,6 +73,7 @@ const CALLS: [Named; 17] = [
     ("info", |l| raw::info(&mut l.pair, 1, &l.table, &mut [0; 6])),
     ("wait", |l| raw::wait(&mut l.pair, 1, 9, 0x2, 0)),
     ("take", |l| raw::take(&mut l.pair, &mut [0; 5])),
+    ("cancel", |l| raw::cancel(&mut l.pair, 1, 0)),
     ("signal", |l| raw::signal(&mut l.pair, 1)),
     ("close", |l| raw::close(&mut l.pair, 1)),
 ];

@@ -43,6 +43,8 @@ pub enum Work {
     /// Passes of 64 bytes, with waits at the reader that its two changes of a signal visit and do not fire.
     Waits(u64),
     WaitFireTake,
+    /// So many waits at the reader; a pass cancels the oldest, by its key, and registers it again.
+    Cancel(u64),
     Info,
     /// A pair whose memory is allocated for it and freed again, and its first write.
     FirstWrite {
@@ -71,6 +73,7 @@ impl Work {
             Work::User(bytes) => format!("user memory write+read {bytes} B"),
             Work::Waits(count) => format!("stream write+read 64 B, {count} waits"),
             Work::WaitFireTake => "wait, write that fires it, take, read".to_string(),
+            Work::Cancel(count) => format!("cancel oldest of {count} waits, wait again"),
             Work::Info => "info".to_string(),
             Work::FirstWrite { capacity, bytes } => format!("C {capacity}, first write {bytes} B"),
         }
@@ -98,7 +101,7 @@ impl Work {
                 side.map(bytes);
                 side
             }
-            Work::Waits(count) => {
+            Work::Waits(count) | Work::Cancel(count) => {
                 let mut side = S::new(0, MOST as u32);
                 (0..count).for_each(|key| side.wait(key, Mask::PeerClosed));
                 side
@@ -118,6 +121,7 @@ impl Work {
             }),
             Work::Waits(_) => transfers(side, passes, SMALL, Part::Both),
             Work::WaitFireTake => fired_waits(side, passes),
+            Work::Cancel(count) => cancelled_waits(side, passes, count),
             Work::Info => elapsed(passes, || side.info()),
             Work::FirstWrite { capacity, bytes } => {
                 let source = vec![7u8; bytes];
@@ -175,6 +179,20 @@ fn transfers<S: Side>(side: &mut S, passes: u32, bytes: usize, part: Part) -> Du
 
 fn part_start(timed: Part, part: Part) -> Option<Instant> {
     (timed == part).then(Instant::now)
+}
+
+/// Each pass cancels the wait that is the oldest then. What comes behind the passes puts the waits back into
+/// the order that they had.
+fn cancelled_waits<S: Side>(side: &mut S, passes: u32, count: u64) -> Duration {
+    let mut pass = |key| {
+        side.cancel(black_box(key));
+        side.wait(key, Mask::PeerClosed);
+    };
+    let start = Instant::now();
+    (0..u64::from(passes)).for_each(|number| pass(number % count));
+    let total = start.elapsed();
+    (u64::from(passes) % count..count).for_each(pass);
+    total
 }
 
 fn fired_waits<S: Side>(side: &mut S, passes: u32) -> Duration {

@@ -4,7 +4,7 @@
 
 use crate::machine::{Answer, Done, Machine, BASE, MEMORY, RING};
 use crate::record::{Record, Transfer};
-use crate::waits::{Fired, PLACES};
+use crate::waits::{Fired, Source, PLACES};
 use zcore::capacity::ORIGINAL;
 
 const READABLE: u32 = 0x1;
@@ -13,11 +13,25 @@ const READ_THRESHOLD: u32 = 0x400;
 const WRITE_THRESHOLD: u32 = 0x800;
 
 /// All names, in order.
-pub const BRANCHES: [&str; 136] = [
+pub const BRANCHES: [&str; 151] = [
     "a call fires one wait",
     "a call fires several waits",
     "a handle refused as closed",
     "a handle refused as none",
+    "cancel finds nothing",
+    "cancel finds other keys only",
+    "cancel finds the key at the other end only",
+    "cancel frees places where all were used",
+    "cancel leaves a key that is alike in 32 bits",
+    "cancel leaves the other end's key",
+    "cancel of a closed end's packets",
+    "cancel removes from the middle of the packets",
+    "cancel removes from the middle of the waits",
+    "cancel removes one packet",
+    "cancel removes one wait",
+    "cancel removes several packets",
+    "cancel removes several waits",
+    "cancel removes waits and packets",
     "close drops queued bytes",
     "close drops waits",
     "close leaves bytes at the peer",
@@ -93,6 +107,7 @@ pub const BRANCHES: [&str; 136] = [
     "shutdown 3",
     "shutdown with a closed peer",
     "shutdown with ignored bits",
+    "stop at a cancel of a wrong length",
     "stop at a close of a wrong length",
     "stop at a create of a wrong length",
     "stop at a disposition of a wrong length",
@@ -107,7 +122,7 @@ pub const BRANCHES: [&str; 136] = [
     "stop at a record cut inside its length",
     "stop at a second create",
     "stop at a shutdown of a wrong length",
-    "stop at a tag of 12 or more",
+    "stop at a tag of 13 or more",
     "stop at a take of a wrong length",
     "stop at a wait of a wrong length",
     "stop at a write of a wrong length",
@@ -186,7 +201,8 @@ pub struct View {
     words: [Option<u32>; 2],
     /// Kind, C, queued, available, peer's C, peer's queued.
     infos: [Option<[u64; 6]>; 2],
-    waiting: [usize; 2],
+    /// Oldest first.
+    waits: Vec<Source>,
     /// Oldest first.
     packets: Vec<Fired>,
     /// Where each queue starts in its ring.
@@ -214,7 +230,7 @@ impl View {
         View {
             words: [machine.word(0), machine.word(1)],
             infos: [machine.info(0), machine.info(1)],
-            waiting: machine.waits().waiting(),
+            waits: machine.waits().waiting().collect(),
             packets: machine.waits().fired().collect(),
             starts: [0, 0],
         }
@@ -225,7 +241,12 @@ impl View {
     }
 
     fn used(&self) -> usize {
-        self.waiting[0] + self.waiting[1] + self.packets.len()
+        self.waits.len() + self.packets.len()
+    }
+
+    /// The ends and keys of the packets, oldest first.
+    fn sources(&self) -> Vec<Source> {
+        self.packets.iter().map(|packet| packet.source).collect()
     }
 }
 
@@ -286,17 +307,10 @@ impl Step<'_> {
             Record::Info { handle } => self.info(*handle, &mut names),
             Record::Take => self.take(&mut names),
             Record::Fill { address, bytes } => names.push(self.fill(*address, bytes.len() as u64)),
+            Record::Cancel { handle, key } => self.cancel(*handle, *key, &mut names),
             Record::Close { .. } | Record::Create { .. } => {}
         }
-        if *self.answer == Err(-11) {
-            // Every record has its handle first.
-            let (_, values, _) = self.record.values();
-            names.push(if (1..=2).contains(&values[0]) {
-                "a handle refused as closed"
-            } else {
-                "a handle refused as none"
-            });
-        }
+        names.extend(self.bad_handle());
         if !matches!(self.record, Record::Take | Record::Wait { .. }) {
             match self.after.packets.len().saturating_sub(self.before.packets.len()) {
                 0 => {}
@@ -305,6 +319,16 @@ impl Step<'_> {
             }
         }
         names
+    }
+
+    /// Why a handle was refused.
+    fn bad_handle(&self) -> Option<&'static str> {
+        // Every record has its handle first.
+        let (_, values, _) = self.record.values();
+        (*self.answer == Err(-11)).then(|| match values[0] {
+            1 | 2 => "a handle refused as closed",
+            _ => "a handle refused as none",
+        })
     }
 
     fn raised(&self, end: usize, bit: u32) -> bool {
@@ -433,7 +457,7 @@ impl Step<'_> {
         let facts = [
             (self.before.queued(end) > 0, "close drops queued bytes"),
             (self.before.queued(1 - end) > 0, "close leaves bytes at the peer"),
-            (self.before.waiting[end] > 0, "close drops waits"),
+            (self.before.waits.iter().any(|wait| wait.0 == end), "close drops waits"),
             (!self.before.packets.is_empty(), "close leaves packets"),
             (self.before.words[1 - end].is_none(), "close of the second end"),
         ];
@@ -515,20 +539,52 @@ impl Step<'_> {
 
     fn take(&self, names: &mut Vec<&'static str>) {
         let Some(taken) = self.before.packets.first() else {
-            let waits = self.before.waiting != [0, 0];
+            let waits = !self.before.waits.is_empty();
             return names.push(if waits { "take finds waits only" } else { "take finds nothing" });
         };
         names.push("take gives a packet");
-        let same = |next: &&Fired| next.call == taken.call && next.end == taken.end;
+        let same = |next: &&Fired| next.call == taken.call && next.source.0 == taken.source.0;
         match self.before.packets.get(1).filter(same) {
             Some(next) if next.wait < taken.wait => {
                 names.push("take gives the newest of a call's waits first")
             }
             _ => {}
         }
-        if self.before.words[taken.end].is_none() {
+        if self.before.words[taken.source.0].is_none() {
             names.push("take of a closed end's packet");
         }
+    }
+
+    fn cancel(&self, handle: u32, key: u64, names: &mut Vec<&'static str>) {
+        let Some(end) = end_of(handle) else { return };
+        let (packets, waits) = (self.before.sources(), &self.before.waits);
+        let [gone, dropped] = [&packets, waits].map(|list| count(list, |source| source == (end, key)));
+        let held = |test: &dyn Fn(Source) -> bool| count(&packets, test) + count(waits, test) > 0;
+        let at_other = held(&|source| source == (1 - end, key));
+        let facts = match self.answer {
+            Err(-11) => vec![(gone > 0, "cancel of a closed end's packets")],
+            Err(_) => vec![
+                (self.before.used() == 0, "cancel finds nothing"),
+                (held(&|(at, _)| at == end), "cancel finds other keys only"),
+                (at_other, "cancel finds the key at the other end only"),
+            ],
+            Ok(_) => vec![
+                (gone == 1, "cancel removes one packet"),
+                (gone > 1, "cancel removes several packets"),
+                (dropped == 1, "cancel removes one wait"),
+                (dropped > 1, "cancel removes several waits"),
+                (gone > 0 && dropped > 0, "cancel removes waits and packets"),
+                (has_middle(&packets, (end, key)), "cancel removes from the middle of the packets"),
+                (has_middle(waits, (end, key)), "cancel removes from the middle of the waits"),
+                (at_other, "cancel leaves the other end's key"),
+                (
+                    held(&|(at, other)| at == end && other != key && other as u32 == key as u32),
+                    "cancel leaves a key that is alike in 32 bits",
+                ),
+                (self.before.used() == PLACES, "cancel frees places where all were used"),
+            ],
+        };
+        names.extend(facts.into_iter().filter(|(holds, _)| *holds).map(|(_, name)| name));
     }
 
     fn fill(&self, address: u64, length: u64) -> &'static str {
@@ -541,6 +597,18 @@ impl Step<'_> {
             Err(_) => "fill refused behind memory",
         }
     }
+}
+
+fn count(list: &[Source], test: impl Fn(Source) -> bool) -> usize {
+    list.iter().filter(|source| test(**source)).count()
+}
+
+/// Whether one of a list goes and has others on both sides that stay.
+fn has_middle(list: &[Source], goes: Source) -> bool {
+    let stays = |source: &Source| *source != goes;
+    let first = list.iter().position(stays);
+    let last = list.iter().rposition(stays);
+    first.zip(last).is_some_and(|(first, last)| list[first..last].contains(&goes))
 }
 
 /// Whether a count lands over some of the bytes of its call.

@@ -11,13 +11,15 @@ pub struct Draw {
     pub capacity: u64,
     /// How many in a hundred arguments are unusual ones.
     odd: u64,
+    /// The keys drawn so far.
+    keys: Vec<u64>,
 }
 
 impl Draw {
     /// Arguments for a pair of a capacity.
     pub fn new(mut random: Random, capacity: u64) -> Draw {
         let odd = random.pick(&[0, 2, 2, 5, 20]);
-        Draw { random, capacity, odd }
+        Draw { random, capacity, odd, keys: Vec::new() }
     }
 
     /// Whether the next argument is to be an unusual one.
@@ -60,6 +62,26 @@ impl Draw {
         }
     }
 
+    /// A key. So many in a hundred were drawn before, or are alike in their
+    /// lower 32 bits.
+    fn key(&mut self, again: u64) -> u64 {
+        if !self.keys.is_empty() && self.random.percent(again) {
+            return self.random.pick(&self.keys) ^ self.random.pick(&[0, 0, 0, 0, 0, 0, 0, 1 << 32]);
+        }
+        let key = match self.random.below(4) {
+            0 => self.random.pick(&[0, 1, 1 << 32, u64::MAX]),
+            1 => self.random.next(),
+            _ => self.random.below(100),
+        };
+        self.keys.push(key);
+        key
+    }
+
+    /// The key of a cancel, mostly one of a wait.
+    pub fn cancel_key(&mut self) -> u64 {
+        self.key(90)
+    }
+
     /// Key, mask and edge byte of a wait.
     pub fn wait(&mut self) -> (u64, u32, u8) {
         let names = [0x1, 0x2, 0x4, 0x10, 0x20, 0x400, 0x800];
@@ -69,11 +91,7 @@ impl Draw {
             8 => self.random.pick(&[0, 0x8, 0xc37, 0xff00_0000, 0x8000_0000, ALL]),
             _ => self.random.next() as u32,
         };
-        let key = match self.random.below(4) {
-            0 => self.random.pick(&[0, 1, 1 << 32, u64::MAX]),
-            1 => self.random.next(),
-            _ => self.random.below(100),
-        };
+        let key = self.key(30);
         let edge = if self.is_odd() { self.random.pick(&[2, 3, 255]) } else { self.random.pick(&[0, 1]) };
         (key, mask, edge)
     }
@@ -83,6 +101,6 @@ impl Draw {
     pub fn many_waits(&mut self) -> Vec<(u32, u64, u32)> {
         let number = self.random.pick(&[PLACES - 1, PLACES, PLACES + 1]);
         let mask = self.random.pick(&[0, 1, 4, 0x400]);
-        (0..number).map(|_| (self.random.pick(&[1, 2]), self.random.next(), mask)).collect()
+        (0..number).map(|_| (self.random.pick(&[1, 2]), self.key(60), mask)).collect()
     }
 }

@@ -2,6 +2,7 @@
 //! covered.
 
 use script::record::{Damage, Stop, FILL};
+use script::table::SHAPES;
 
 /// How a script ends.
 pub enum Ending {
@@ -26,7 +27,7 @@ impl Ending {
 
 fn stop_name(stop: &Stop) -> &'static str {
     match stop {
-        Stop::Damaged(Damage::Tag(_)) => "stop at a tag of 12 or more",
+        Stop::Damaged(Damage::Tag(_)) => "stop at a tag of 13 or more",
         Stop::Damaged(Damage::CutHead(2)) => "stop at a record cut inside its length",
         Stop::Damaged(Damage::CutHead(_)) => "stop at a record cut after its tag",
         Stop::Damaged(Damage::CutBody(0)) => "stop at a record cut before its body",
@@ -38,8 +39,8 @@ fn stop_name(stop: &Stop) -> &'static str {
 }
 
 fn wrong_length(tag: u8, length: usize) -> &'static str {
-    /// By tag, up to fill's.
-    const NAMES: [&str; FILL as usize] = [
+    /// By tag; of a fill, where its length is too large.
+    const NAMES: [&str; SHAPES.len()] = [
         "stop at a create of a wrong length",
         "stop at a write of a wrong length",
         "stop at a read of a wrong length",
@@ -51,10 +52,11 @@ fn wrong_length(tag: u8, length: usize) -> &'static str {
         "stop at a close of a wrong length",
         "stop at a wait of a wrong length",
         "stop at a take of a wrong length",
+        "stop at a fill of more than 4096 bytes",
+        "stop at a cancel of a wrong length",
     ];
-    match NAMES.get(tag as usize) {
-        Some(name) => name,
-        None if length <= 8 => "stop at a fill without bytes",
-        None => "stop at a fill of more than 4096 bytes",
+    match tag {
+        FILL if length <= 8 => "stop at a fill without bytes",
+        _ => NAMES[tag as usize],
     }
 }

@@ -5,6 +5,13 @@ use crate::machine::BASE;
 use crate::record::{script_of, Record, Transfer};
 
 const ALL: u32 = u32::MAX;
+/// The key of every wait for any signal, so that one cancel finds several.
+const ANY: u64 = 77;
+
+/// The key of the wait that an end with a full queue, or its writer, has.
+fn of_full(handle: u32) -> u64 {
+    900 + u64::from(handle)
+}
 
 /// The sequences of a length over the calls for a capacity and kind.
 pub struct Sequences {
@@ -86,9 +93,10 @@ impl Sequences {
                 calls.push(Record::WriteThreshold { handle, threshold });
             }
             for (mask, edge) in [(ALL, 0), (ALL, 1), (1, 0)] {
-                let key = 100 * place + calls.len() as u64;
+                let key = if mask == ALL { ANY } else { 100 * place + calls.len() as u64 };
                 calls.push(Record::Wait { handle, key, mask, edge });
             }
+            calls.extend([ANY, of_full(handle)].map(|key| Record::Cancel { handle, key }));
         }
         calls
     }
@@ -116,8 +124,8 @@ impl Sequences {
                 records.push(Record::ReadThreshold { handle: 2, threshold: capacity });
                 records.push(write(1, 1));
                 records.push(write(1, capacity.saturating_sub(1).max(1)));
-                records.push(Record::Wait { handle: 1, key: 901, mask: 0x802, edge: 1 });
-                records.push(Record::Wait { handle: 2, key: 902, mask: 0x14, edge: 0 });
+                records.push(Record::Wait { handle: 1, key: of_full(1), mask: 0x802, edge: 1 });
+                records.push(Record::Wait { handle: 2, key: of_full(2), mask: 0x14, edge: 0 });
             }
         }
         records

@@ -25,6 +25,7 @@ enum Call {
     Wait,
     Take,
     Fill,
+    Cancel,
     ManyWaits,
 }
 
@@ -34,19 +35,19 @@ use Call::*;
 #[rustfmt::skip]
 const TRAFFIC: &[(Call, u64)] = &[
     (Write, 34), (Read, 32), (Fill, 8), (ReadThreshold, 5), (WriteThreshold, 5), (Info, 4),
-    (Disposition, 3), (Wait, 6), (Take, 5),
+    (Disposition, 3), (Wait, 6), (Take, 5), (Cancel, 1),
 ];
 /// Waits fire, in order, and places run out.
 #[rustfmt::skip]
 const WAITS: &[(Call, u64)] = &[
     (Wait, 34), (Take, 18), (Write, 12), (Read, 12), (Disposition, 8), (ReadThreshold, 4),
-    (WriteThreshold, 4), (Shutdown, 2), (Fill, 2), (Close, 1), (ManyWaits, 1),
+    (WriteThreshold, 4), (Shutdown, 2), (Fill, 2), (Close, 1), (Cancel, 6), (ManyWaits, 1),
 ];
 /// Writing is disabled and enabled, and ends close.
 #[rustfmt::skip]
 const ENDINGS: &[(Call, u64)] = &[
     (Disposition, 24), (Shutdown, 8), (Close, 2), (Write, 23), (Read, 18), (Wait, 10), (Take, 7),
-    (Info, 4), (ReadThreshold, 4), (WriteThreshold, 4), (Fill, 2),
+    (Info, 4), (ReadThreshold, 4), (WriteThreshold, 4), (Fill, 2), (Cancel, 3),
 ];
 /// Bytes and counts land over each other.
 const MEMORY_USE: &[(Call, u64)] = &[(Write, 38), (Read, 36), (Fill, 16), (Info, 4), (Close, 1)];
@@ -145,6 +146,7 @@ impl Generator {
             }
             Take => Record::Take,
             Fill => self.fill(),
+            Cancel => Record::Cancel { handle, key: self.draw.cancel_key() },
             ManyWaits => {
                 let waits = self.draw.many_waits().into_iter();
                 return records.extend(waits.map(|(handle, key, mask)| Record::Wait {
@@ -261,7 +263,7 @@ impl Generator {
         let offsets = offsets(&script);
         let at = self.draw.random.pick(&offsets);
         match self.draw.random.below(8) {
-            0 => script[at] = self.draw.random.pick(&[12, 13, 14, 128, 255]),
+            0 => script[at] = self.draw.random.pick(&[13, 14, 128, 255]),
             1 => script[at + 1] = script[at + 1].wrapping_add(self.draw.random.pick(&[1, 255])),
             2 => script[at + 2] = self.draw.random.pick(&[1, 16, 255]),
             3 => script.truncate(at + self.draw.random.below(HEAD as u64 + 2) as usize),

@@ -1,15 +1,16 @@
 //! A pair of the original's sockets with what document 01 adds around it:
 //! handles 1 and 2 with rights words, 128 places for waits, the edge byte,
-//! taking without blocking, and one slice of user memory.
+//! taking without blocking, the number that a cancel removes, and one slice of
+//! user memory.
 
 use crate::record::{Record, Transfer};
 use crate::sockets::Sockets;
 use crate::values::{rights_of, status, word_of};
-use crate::waits::{Fired, Waits};
+use crate::waits::{Fired, NamedEnd, Waits};
 use std::sync::Arc;
 use zcore::capacity::{set_socket_size, ORIGINAL};
 use zcore::ipc::Socket;
-use zcore::object::{Handle, HandleValue, Rights, INVALID_HANDLE};
+use zcore::object::{Handle, HandleValue, KernelObject, Rights, INVALID_HANDLE};
 use zcore::syscall::Syscall;
 use zcore::task::{Job, Process, Thread};
 use zcore::user::{UserInPtr, UserMemory, UserOutPtr};
@@ -108,6 +109,7 @@ impl Machine {
                 observed,
             }),
             Record::Fill { address, bytes } => self.fill(*address, bytes),
+            Record::Cancel { handle, key } => self.cancel(*handle, *key),
         };
         self.count_fired();
         answer
@@ -195,10 +197,22 @@ impl Machine {
     }
 
     fn wait(&mut self, handle: u32, key: u64, mask: u32, edge: u8) -> Answer {
+        let (end, object) = self.object(handle)?;
+        self.waits.register(end, &object, key, mask, edge)?;
+        Ok(Done::Nothing)
+    }
+
+    /// A closed end is no handle any more, so the port is not asked.
+    fn cancel(&mut self, handle: u32, key: u64) -> Answer {
+        let (end, object) = self.object(handle)?;
+        Ok(Done::Count(self.waits.cancel(end, object.id(), key)?))
+    }
+
+    /// The end with the process's handle for it, and its object.
+    fn object(&self, handle: u32) -> Result<(NamedEnd, Arc<dyn KernelObject>), i64> {
         let value = self.handle(handle);
         let (object, _) = self.thread.proc().get_dyn_object_and_rights(value).map_err(status)?;
-        self.waits.register((handle as usize - 1, value), &object, key, mask, edge)?;
-        Ok(Done::Nothing)
+        Ok(((handle as usize - 1, value), object))
     }
 
     fn fill(&self, address: u64, bytes: &[u8]) -> Answer {

@@ -28,6 +28,7 @@ pub enum Record {
     Wait { handle: u32, key: u64, mask: u32, edge: u8 },
     Take,
     Fill { address: u64, bytes: Vec<u8> },
+    Cancel { handle: u32, key: u64 },
 }
 
 impl Record {
@@ -53,6 +54,7 @@ impl Record {
             }
             Record::Take => (10, vec![]),
             Record::Fill { address, bytes } => return (FILL, vec![*address], bytes),
+            Record::Cancel { handle, key } => (12, vec![(*handle).into(), *key]),
         };
         (tag, values, &[])
     }
@@ -84,6 +86,7 @@ impl Record {
             9 => Record::Wait { handle: word(0), key: values[1], mask: word(2), edge: values[3] as u8 },
             10 => Record::Take,
             FILL => Record::Fill { address: values[0], bytes },
+            12 => Record::Cancel { handle: word(0), key: values[1] },
             _ => panic!("the machine has no call for tag {tag}"),
         }
     }

@@ -4,8 +4,9 @@
 use crate::cases::cases;
 use crate::enumerate::{Sequences, Start};
 use crate::generate;
+use crate::machine::BASE;
 use crate::oracle::listing;
-use crate::record::{script_of, Record};
+use crate::record::{script_of, Record, Transfer};
 use crate::stream;
 use crate::waits::PLACES;
 use script::record::{FILL, HEAD, MOST_FILL};
@@ -23,6 +24,7 @@ pub fn scripts() -> Vec<(String, Vec<u8>)> {
     scripts.extend(creates());
     scripts.extend(damaged());
     scripts.extend(full_places());
+    scripts.extend(cancelled_places());
     scripts.extend(sequences());
     let random = (0..).map(|number| (number, generate::script(SEED, number)));
     let short = random.filter(|(_, script)| script.len() + listing(script).len() <= SHORT);
@@ -67,7 +69,8 @@ fn creates() -> Vec<(String, Vec<u8>)> {
 
 /// A good record of each tag, with the most and fewest bytes for a fill.
 fn one_of_each() -> Vec<Record> {
-    let mut records: Vec<Record> = (0..FILL)
+    let tags = (0..SHAPES.len() as u8).filter(|tag| *tag != FILL);
+    let mut records: Vec<Record> = tags
         .map(|tag| {
             let values = vec![1; SHAPES[tag as usize].fields.len()];
             Record::from_values(tag, &values, Vec::new())
@@ -100,17 +103,27 @@ fn damaged() -> Vec<(String, Vec<u8>)> {
             scripts.push((format!("{name} {number} with length {wrong}"), script));
         }
     }
-    for tag in [12, 13, 14, 127, 128, 255] {
+    for tag in [13, 14, 127, 128, 255] {
         scripts.push((format!("tag {tag}"), [&start[..], &[tag, 0, 0]].concat()));
         scripts.push((format!("tag {tag} alone"), [&start[..], &[tag]].concat()));
         scripts.push((format!("tag {tag} first"), vec![tag, 0, 0]));
     }
+    // The first tag that no record has, with the body of each.
+    for record in one_of_each() {
+        let mut bytes = script_of(std::slice::from_ref(&record));
+        let (name, number) = (SHAPES[bytes[0] as usize].name, bytes.len());
+        bytes[0] = SHAPES.len() as u8;
+        scripts.push((format!("{name} {number} with the tag {}", bytes[0]), [&start[..], &bytes].concat()));
+    }
     scripts
+}
+
+fn wait(handle: u32, key: u64, mask: u32, edge: u8) -> Record {
+    Record::Wait { handle, key, mask, edge }
 }
 
 /// All places used by waits, by packets, and by both; then some come free.
 fn full_places() -> Vec<(String, Vec<u8>)> {
-    let wait = |handle, key, mask, edge| Record::Wait { handle, key, mask, edge };
     let mut scripts = Vec::new();
     for (name, mask) in [("waits", 1), ("packets", 2), ("waits and packets", 3)] {
         let mut records = vec![create(0, 8, [7, 7])];
@@ -124,6 +137,28 @@ fn full_places() -> Vec<(String, Vec<u8>)> {
         records.extend(vec![Record::Take; PLACES + 1]);
         records.extend([Record::Close { handle: 1 }, Record::Take]);
         scripts.push((format!("all places used by {name}"), script_of(&records)));
+    }
+    scripts
+}
+
+/// All places used, by waits and packets of both ends with few keys; then cancels
+/// free some, new waits take them, and all packets are taken in their order.
+fn cancelled_places() -> Vec<(String, Vec<u8>)> {
+    let cancel = |handle, key| Record::Cancel { handle, key };
+    let keys = [1, 2, 3, (1 << 32) + 1, 5];
+    let mut scripts = Vec::new();
+    for (name, capacity, key) in [("the first", 1, 1), ("a middle", 2, 3), ("the last", 3, 5)] {
+        let mut records = vec![create(0, capacity, [7, 7])];
+        for (number, key) in keys.iter().cycle().take(PLACES).enumerate() {
+            let [handle, mask] = [number % 2, number / 2 % 2].map(|bit| 1 + bit as u32);
+            records.push(wait(handle, *key, mask, 0));
+        }
+        records.extend([wait(1, 9, 4, 0), cancel(3, key), cancel(1, 9), cancel(1, key), cancel(1, key)]);
+        records.extend(vec![wait(2, 6, 2, 0); 14]);
+        let write = Transfer { handle: 1, options: 0, address: BASE, count: 1, count_at: 0 };
+        records.extend([Record::Write(write), cancel(2, key), Record::Close { handle: 2 }, cancel(2, 2)]);
+        records.extend(vec![Record::Take; PLACES]);
+        scripts.push((format!("all places used, then {name} key is cancelled"), script_of(&records)));
     }
     scripts
 }

@@ -8,7 +8,7 @@ use std::ops::Range;
 
 /// How the names of branches begin that stand together: those of each call in
 /// the order of the tags, those of no certain call, and the endings of scripts.
-const GROUPS: [&[&str]; 15] = [
+const GROUPS: [&[&str]; 16] = [
     &["create "],
     &["write ", "write's "],
     &["read ", "read's ", "peek "],
@@ -21,12 +21,13 @@ const GROUPS: [&[&str]; 15] = [
     &["wait "],
     &["take "],
     &["fill "],
+    &["cancel "],
     &["a "],
     &["script "],
     &["stop "],
 ];
 /// The first group of endings.
-const ENDINGS: usize = 13;
+const ENDINGS: usize = 14;
 /// Branches in a row of a table.
 const IN_A_ROW: usize = 2;
 

@@ -61,7 +61,7 @@ fn p14_over_small_memory() {
 #[test]
 fn stops_and_refused_creates_end_the_listing() {
     assert_eq!(listing(&[]), "record word end1 end2\n");
-    assert_eq!(listing(&[12]), "record word end1 end2\nstop 0\n");
+    assert_eq!(listing(&[13]), "record word end1 end2\nstop 0\n");
     let create = |capacity: u8| vec![0, 10, 0, 0, 0, 0, 0, capacity, 0, 0, 0, 7, 7];
     let refused = [create(0), vec![10, 0, 0]].concat();
     assert_eq!(listing(&refused), "record word end1 end2\n0 -10 - -\n");

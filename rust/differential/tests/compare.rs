@@ -2,7 +2,10 @@
 
 use differential::compare::{compare, Program};
 use differential::oracle::listing;
+use differential::sample;
 use differential::source::Source;
+use script::record::{join, pieces, Piece};
+use script::table::SHAPES;
 use script::text::decode;
 
 fn random(count: u64) -> Source {
@@ -38,6 +41,25 @@ fn a_wrong_packet_is_cut_to_few_records() {
     let (_, difference) = compare(&random(4000), &wrong, 1);
     let lines = decode(&difference.expect("the wrong packet is found").script);
     assert!(lines.lines().count() <= 4, "{lines}");
+}
+
+/// A program that takes the first tag that no record has for that of a record.
+/// It stops at a create all the same, since there is one before.
+#[test]
+fn a_tag_that_is_taken_for_another_is_seen_by_the_stored_scripts() {
+    let scripts: Vec<Vec<u8>> = sample::scripts().into_iter().map(|(_, script)| script).collect();
+    let tags = 1..SHAPES.len() as u8;
+    for tag in tags {
+        let taken = |script: &[u8]| {
+            let mut pieces = pieces(script);
+            match pieces.last_mut() {
+                Some(Piece::Raw(bytes)) if bytes[0] == SHAPES.len() as u8 => bytes[0] = tag,
+                _ => {}
+            }
+            join(&pieces)
+        };
+        assert!(scripts.iter().any(|script| listing(script) != listing(&taken(script))), "{tag}");
+    }
 }
 
 /// A program that fails, here after it has read its script.

@@ -23,6 +23,7 @@ const STATUSES: [&[i64]; SHAPES.len()] = [
     &[0, -3, -10, -11],
     &[0, -22],
     &[0, -10],
+    &[0, -11, -25],
 ];
 
 fn assert_all(tally: &Tally) {

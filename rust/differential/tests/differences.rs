@@ -28,7 +28,7 @@ fn scripts() -> Vec<(Vec<u8>, &'static str)> {
 #[test]
 fn scripts_have_the_lines_shown() {
     let scripts = scripts();
-    assert_eq!(scripts.len(), 13);
+    assert_eq!(scripts.len(), 15);
     for (script, behind) in scripts {
         let listing = listing(&script);
         let last = listing.lines().last().expect("a listing");

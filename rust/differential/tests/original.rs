@@ -9,6 +9,7 @@ use zcore::ipc::Socket;
 use zcore::object::{Handle, KernelObject, Rights, Signal};
 use zcore::signal::{Port, WaitAsyncOptions};
 use zcore::task::{Job, Process};
+use zcore::ZxError;
 
 /// The key of the oldest packet, or nothing where the original would block.
 fn taken_key(port: &Arc<Port>) -> Option<u64> {
@@ -59,16 +60,31 @@ fn an_empty_port_blocks() {
     assert_eq!(taken_key(&Port::new(0).unwrap()), None);
 }
 
-/// The original cancels waits of a closed end too, and answers no number.
+/// 02 (i): −11 for a closed end, and else the number removed. The original
+/// cancels waits and packets of a closed end too, and answers no number.
 #[test]
-fn cancel_finds_waits_of_a_closed_end() {
-    let (end, _peer) = Socket::create(0).unwrap();
-    let object: Arc<dyn KernelObject> = end;
-    let source = (object.id(), 0);
+fn cancel_finds_waits_and_packets_of_a_closed_end() {
+    for signal in [Signal::READABLE, Signal::WRITABLE] {
+        let (end, _peer) = Socket::create(0).unwrap();
+        let object: Arc<dyn KernelObject> = end;
+        let source = (object.id(), 0);
+        let port = Port::new(0).unwrap();
+        register(&port, &object, 1, signal);
+        register(&port, &object, 1, signal);
+        drop(object);
+        assert_eq!(port.cancel(Some(source), 1), Ok(()));
+        assert_eq!(port.cancel(Some(source), 1), Err(ZxError::NOT_FOUND));
+        assert_eq!(taken_key(&port), None);
+    }
+}
+
+/// 02 (i): the end counts. The original can be asked for a key alone.
+#[test]
+fn cancel_without_a_source_is_for_both_ends() {
+    let (one, two) = Socket::create(0).unwrap();
     let port = Port::new(0).unwrap();
-    register(&port, &object, 1, Signal::READABLE);
-    register(&port, &object, 1, Signal::READABLE);
-    drop(object);
-    assert_eq!(port.cancel(Some(source), 1), Ok(()));
-    assert!(port.cancel(Some(source), 1).is_err());
+    let ends: [Arc<dyn KernelObject>; 2] = [one, two];
+    ends.iter().for_each(|end| register(&port, end, 1, Signal::WRITABLE));
+    assert_eq!(port.cancel(None, 1), Ok(()));
+    assert_eq!(taken_key(&port), None);
 }

@@ -40,6 +40,7 @@ enum {
     MURGWETHAN_ERR_BAD_STATE = -20,
     MURGWETHAN_ERR_SHOULD_WAIT = -22,
     MURGWETHAN_ERR_PEER_CLOSED = -24,
+    MURGWETHAN_ERR_NOT_FOUND = -25,
     MURGWETHAN_ERR_ACCESS_DENIED = -30
 };
 
@@ -198,6 +199,13 @@ int64_t murgwethan_wait(struct murgwethan_pair *p, uint32_t handle, uint64_t key
 
 /* Takes the oldest packet: key, trigger, observed, count, timestamp. SHOULD_WAIT: there is none. */
 int64_t murgwethan_take(struct murgwethan_pair *p, uint64_t out[5]);
+
+/*
+ * Removes every wait of an end that has this key, all 64 bits of it, and every packet that such a wait made and that
+ * was not taken; answers how many these were, at least 1. What is left keeps its order, and as many places are free
+ * again. BAD_HANDLE; NOT_FOUND: the end has no wait and no packet with this key.
+ */
+int64_t murgwethan_cancel(struct murgwethan_pair *p, uint32_t handle, uint64_t key);
 
 /* Closes an end: its queue and its waits are gone, and an open peer is told by its signal word. BAD_HANDLE. */
 int64_t murgwethan_close(struct murgwethan_pair *p, uint32_t handle);

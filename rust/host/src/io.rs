@@ -79,6 +79,7 @@ impl From<Status> for Error {
             Status::BadHandle => ErrorKind::NotConnected,
             Status::InvalidArgs | Status::OutOfRange => ErrorKind::InvalidInput,
             Status::AccessDenied => ErrorKind::PermissionDenied,
+            Status::NotFound => ErrorKind::NotFound,
             Status::NoResources | Status::Internal => ErrorKind::Other,
         };
         Error::new(kind, status)

@@ -270,6 +270,34 @@ impl<'a> SocketPair<'a> {
         Ok(Packet { key, trigger: signals(trigger), observed: signals(observed), count, timestamp })
     }
 
+    /// Removes every wait of an end that has this key, and every packet that such a wait made and that was
+    /// not taken; answers how many these were, at least 1. What is left keeps its order, and the places are
+    /// free for new waits.
+    ///
+    /// ```
+    /// use murgwethan::{End, Record, Rights, Signals, SocketPair, Status, WaitMode};
+    ///
+    /// # fn main() -> Result<(), Status> {
+    /// # let (mut record, mut ring_one, mut ring_two) = (Record::UNMADE, [0; 16], [0; 16]);
+    /// # let rings = [&mut ring_one[..], &mut ring_two];
+    /// # let mut pair = SocketPair::stream(&mut record, 16, [Rights::ALL; 2], rings)?;
+    /// pair.wait(End::Two, 7, Signals::READABLE, WaitMode::Level)?;
+    /// pair.wait(End::Two, 7, Signals::WRITABLE, WaitMode::Level)?; // a packet at once
+    /// assert_eq!(pair.cancel(End::Two, 7), Ok(2));
+    /// assert_eq!(pair.cancel(End::Two, 7), Err(Status::NotFound));
+    /// assert_eq!(pair.take(), Err(Status::ShouldWait));
+    /// # Ok(())
+    /// # }
+    /// ```
+    ///
+    /// # Errors
+    ///
+    /// In this order: [`BadHandle`](Status::BadHandle) if the end is closed, also where packets of it are
+    /// left; [`NotFound`](Status::NotFound) if the end has no wait and no packet with this key.
+    pub fn cancel(&mut self, end: End, key: u64) -> Result<usize, Status> {
+        answer(raw::cancel(self.record.get_mut(), end.handle(), key))
+    }
+
     /// Closes an end: its queue and its waits are gone, and the peer is told by
     /// [`Signals::PEER_CLOSED`]. What it had sent can still be read.
     ///

@@ -20,8 +20,8 @@ mod calls;
 mod exports;
 
 pub use calls::{
-    close, create, info, read, set_disposition, set_read_threshold, set_write_threshold, shutdown, signal,
-    take, thresholds, user_read, user_set_disposition, user_shutdown, user_write, wait, write,
+    cancel, close, create, info, read, set_disposition, set_read_threshold, set_write_threshold, shutdown,
+    signal, take, thresholds, user_read, user_set_disposition, user_shutdown, user_write, wait, write,
 };
 
 use core::cell::UnsafeCell;

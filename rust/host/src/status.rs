@@ -30,13 +30,15 @@ pub enum Status {
     ShouldWait = -22,
     /// The other end is closed.
     PeerClosed = -24,
+    /// Nothing of the end has the key.
+    NotFound = -25,
     /// The end lacks the right.
     AccessDenied = -30,
 }
 
 impl Status {
     /// Every status.
-    pub const ALL: [Status; 9] = [
+    pub const ALL: [Status; 10] = [
         Status::Internal,
         Status::NoResources,
         Status::InvalidArgs,
@@ -45,6 +47,7 @@ impl Status {
         Status::BadState,
         Status::ShouldWait,
         Status::PeerClosed,
+        Status::NotFound,
         Status::AccessDenied,
     ];
 
@@ -69,6 +72,7 @@ impl Status {
             Status::BadState => "BAD_STATE",
             Status::ShouldWait => "SHOULD_WAIT",
             Status::PeerClosed => "PEER_CLOSED",
+            Status::NotFound => "NOT_FOUND",
             Status::AccessDenied => "ACCESS_DENIED",
         }
     }

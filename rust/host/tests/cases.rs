@@ -3,7 +3,7 @@
 mod support;
 
 use murgwethan::Status::{
-    AccessDenied, BadHandle, BadState, InvalidArgs, NoResources, OutOfRange, PeerClosed, ShouldWait,
+    AccessDenied, BadHandle, BadState, InvalidArgs, NoResources, NotFound, OutOfRange, PeerClosed, ShouldWait,
 };
 use murgwethan::{
     Disposition, Dispositions, End, Info, Record, Rights, Shutdown, Signals, SocketPair, Status, Transfer,
@@ -182,6 +182,29 @@ fn all_places_used() {
         let packet = pair.take().expect("a packet");
         assert_eq!((packet.key, packet.observed, packet.count), (127, Signals::PEER_CLOSED, 1));
         assert_eq!(pair.wait(End::One, 0, Signals::PEER_CLOSED, WaitMode::Edge), Ok(()));
+    });
+}
+
+#[test]
+fn cancelled_waits_do_not_fire_and_their_places_are_free() {
+    stream_with(Rights::NONE, |pair| {
+        for key in 0..128 {
+            assert_eq!(pair.wait(End::Two, key / 2, Signals::READABLE, WaitMode::Level), Ok(()));
+        }
+        assert_eq!((pair.cancel(End::One, 7), pair.cancel(End::Two, 64)), (Err(NotFound), Err(NotFound)));
+        assert_eq!((pair.cancel(End::Two, 7), pair.cancel(End::Two, 7)), (Ok(2), Err(NotFound)));
+        assert_eq!(words(pair), [Some(2); 2]);
+        for answer in [Ok(()), Ok(()), Err(NoResources)] {
+            assert_eq!(pair.wait(End::One, 7, Signals::WRITABLE, WaitMode::Level), answer);
+        }
+        assert_eq!(pair.write(End::One, b"a"), Ok(1));
+        assert_eq!((pair.cancel(End::Two, 8), pair.close(End::Two)), (Ok(2), Ok(())));
+        assert_eq!(pair.cancel(End::Two, 9), Err(BadHandle));
+        let taken = std::iter::from_fn(|| pair.take().ok()).map(|packet| packet.key);
+        let due = [7, 7]
+            .into_iter()
+            .chain((0..64).rev().filter(|key| ![7, 8].contains(key)).flat_map(|key| [key; 2]));
+        assert!(taken.eq(due));
     });
 }
 

@@ -4,7 +4,7 @@
 mod support;
 
 use murgwethan::raw::{self, Endpoint, Pair};
-use support::calls::{Call, Lend, Most, Shape, What};
+use support::calls::{key, Call, Lend, Most, Shape, What};
 use support::numbers::Numbers;
 use support::sides::Sides;
 
@@ -26,7 +26,9 @@ fn all_internal(sides: &mut Sides, numbers: &mut Numbers, what: &str) {
         let call = Call::random(numbers, &shape, Most::Neither);
         assert_eq!(sides.call(&call), -1, "{what}: {call:?}");
     }
-    assert_eq!(sides.call(&Call { handle: 1, lend: Lend::Whole, what: What::Close }), -1, "{what}");
+    for last in [What::Cancel { key: 1 }, What::Close] {
+        assert_eq!(sides.call(&Call { handle: 1, lend: Lend::Whole, what: last }), -1, "{what}");
+    }
 }
 
 type Damage = (&'static str, fn(&mut Pair));
@@ -183,15 +185,12 @@ fn make_strange(record: &mut Pair, numbers: &mut Numbers) {
     let packets = numbers.below(129) as usize;
     record.places.packets = packets;
     record.places.waits = numbers.below(129 - packets as u64) as usize;
-    for (at, place) in record.places.table.iter_mut().enumerate() {
-        let (key, mask, observed) = (numbers.next(), numbers.next() as u32, numbers.next() as u32);
-        let used = at < packets + record.places.waits;
+    // Those that are not used too.
+    for place in &mut record.places.table {
+        let (key, mask, observed) = (key(numbers), numbers.next() as u32, numbers.next() as u32);
         // no end has the last two numbers
         let end = numbers.pick(&[1, 1, 2, 2, 0, u64::MAX]);
         *place = raw::Place { key, mask, observed, end };
-        if !used {
-            *place = raw::Place { key: 0, mask: 0, observed: 0, end: 0 };
-        }
     }
 }
 

@@ -91,7 +91,7 @@ fn disabled_writing_breaks_the_pipe_until_it_is_enabled() {
 #[test]
 fn every_status_has_a_kind() {
     let kinds = Status::ALL.map(|status| io::Error::from(status).kind());
-    use ErrorKind::{BrokenPipe, InvalidInput, NotConnected, Other, PermissionDenied, WouldBlock};
+    use ErrorKind::{BrokenPipe, InvalidInput, NotConnected, NotFound, Other, PermissionDenied, WouldBlock};
     let expected = [
         Other,
         Other,
@@ -101,6 +101,7 @@ fn every_status_has_a_kind() {
         BrokenPipe,
         WouldBlock,
         BrokenPipe,
+        NotFound,
         PermissionDenied,
     ];
     assert_eq!(kinds, expected);

@@ -57,8 +57,9 @@ Writes the script whose text form it reads from TEXT or from standard input. One
     write_threshold end1 threshold=4
     info end1
     3 * take
+    cancel end2 key=5
     close end2
-    raw 0c0000
+    raw 0d0000
 
 Numbers are taken for names too, in decimal or in hexadecimal after 0x. `#` begins a comment, `3 *`
 stands before a line that stands so often, and raw bytes need not be a record. A script has at most
@@ -83,9 +84,10 @@ makes the same bytes of it. Where the script program stops, a comment says why.
         help: "\
 Says for each record of SCRIPT and its line in LISTING: the call, the answer with its status by name
 and the reason for it, the signals of both ends by name and which are new or gone, the bytes queued at
-both ends, and the packets that come and go. Queues, waits, packets and memory are followed from the
-answers. Where a line cannot be what the script program writes for the record, DOES NOT FIT says what
-is wrong, and the exit status is 1. Equal records in a row that change nothing are told once.
+both ends, the packets that come and go, and the waits that are cancelled. Queues, waits, packets and
+memory are followed from the answers. Where a line cannot be what the script program writes for the
+record, DOES NOT FIT says what is wrong, and the exit status is 1. Equal records in a row that change
+nothing are told once.
 ",
     },
     Command {
@@ -94,8 +96,9 @@ is wrong, and the exit status is 1. Equal records in a row that change nothing a
         words: "[-o FILE] SCRIPT LISTING",
         help: "\
 Writes one HTML file for SCRIPT and its LISTING, which needs nothing else: a row for each record, with
-the signals of both ends, those that are new or gone marked, both queues drawn as bars, and the packets
-that come and go. What does not fit is marked as well, and the exit status is then 1.
+the signals of both ends, those that are new or gone marked, both queues drawn as bars, the packets
+that come and go, and the waits that are cancelled. What does not fit is marked as well, and the exit
+status is then 1.
 ",
     },
 ];

@@ -30,8 +30,11 @@ fn step_text(step: &Step) -> String {
     for packet in &step.pair.came {
         writeln!(text, "  a packet comes: {}", words::packet(packet)).unwrap();
     }
-    if let Some(packet) = &step.pair.gone {
+    for packet in &step.pair.gone {
         writeln!(text, "  a packet goes: {}", words::packet(packet)).unwrap();
+    }
+    for wait in &step.pair.cancelled {
+        writeln!(text, "  a wait goes: {}", words::wait(wait)).unwrap();
     }
     if !step.pair.waits.is_empty() || !step.pair.packets.is_empty() {
         let (waits, packets) = (step.pair.waits.len(), step.pair.packets.len());

@@ -108,7 +108,7 @@ pub const SHUT_WRITE: u64 = 1;
 pub const SHUT_READ: u64 = 2;
 
 /// The statuses of refused calls.
-pub const STATUSES: [(i64, &str); 9] = [
+pub const STATUSES: [(i64, &str); 10] = [
     (-1, "INTERNAL"),
     (-3, "NO_RESOURCES"),
     (-10, "INVALID_ARGS"),
@@ -117,6 +117,7 @@ pub const STATUSES: [(i64, &str); 9] = [
     (-20, "BAD_STATE"),
     (-22, "SHOULD_WAIT"),
     (-24, "PEER_CLOSED"),
+    (-25, "NOT_FOUND"),
     (-30, "ACCESS_DENIED"),
 ];
 

@@ -163,16 +163,17 @@ fn parts(end: &End, added: usize) -> Vec<usize> {
     }
 }
 
-/// The packets that come and go, and the waits and packets after that.
+/// The packets that come and go, the waits that are cancelled, and the waits and packets after that.
 fn waits_cell(step: &Step) -> String {
     let mut text = String::new();
     for packet in &step.pair.came {
         let packet = cell(&words::packet(packet));
         write!(text, "<p><span class=\"bit new\">packet comes</span> {packet}</p>").unwrap();
     }
-    if let Some(packet) = &step.pair.gone {
-        let packet = cell(&words::packet(packet));
-        write!(text, "<p><span class=\"bit left\">packet goes</span> {packet}</p>").unwrap();
+    let packets = step.pair.gone.iter().map(|packet| ("packet", words::packet(packet)));
+    let waits = step.pair.cancelled.iter().map(|wait| ("wait", words::wait(wait)));
+    for (what, gone) in packets.chain(waits) {
+        write!(text, "<p><span class=\"bit left\">{what} goes</span> {}</p>", cell(&gone)).unwrap();
     }
     let waits = step.pair.waits.iter().map(|wait| cell(&words::wait(wait)));
     let packets = step.pair.packets.iter().map(|packet| format!("key {}", words::key(packet.key)));

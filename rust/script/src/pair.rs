@@ -54,15 +54,31 @@ pub struct Wait {
     pub mask: u32,
 }
 
+impl Wait {
+    /// Its end and its key, by which it can be cancelled.
+    pub fn source(&self) -> (usize, u64) {
+        (self.end, self.key)
+    }
+}
+
 /// A packet.
 #[derive(Clone, Debug, PartialEq)]
 pub struct Packet {
+    /// The place of the wait's end, 0 or 1.
+    pub end: usize,
     /// The key of the wait.
     pub key: u64,
     /// The mask of the wait.
     pub trigger: u32,
     /// The word that it met.
     pub observed: u32,
+}
+
+impl Packet {
+    /// The end and the key of its wait, by which it can be cancelled.
+    pub fn source(&self) -> (usize, u64) {
+        (self.end, self.key)
+    }
 }
 
 /// A done call.
@@ -92,8 +108,10 @@ pub struct Pair {
     pub packets: VecDeque<Packet>,
     /// The packets that the last record made.
     pub came: Vec<Packet>,
-    /// The packet that the last record took.
-    pub gone: Option<Packet>,
+    /// The packets that the last record took or cancelled.
+    pub gone: Vec<Packet>,
+    /// The waits that the last record cancelled.
+    pub cancelled: Vec<Wait>,
     memory: Vec<u8>,
     /// The signal words that a call leaves.
     due: [u32; 2],
@@ -210,7 +228,7 @@ impl Pair {
     }
 
     fn fire(&mut self, wait: Wait, word: u32) {
-        let packet = Packet { key: wait.key, trigger: wait.mask, observed: word };
+        let packet = Packet { end: wait.end, key: wait.key, trigger: wait.mask, observed: word };
         self.came.push(packet.clone());
         self.packets.push_back(packet);
     }
@@ -371,7 +389,17 @@ pub(crate) fn packet_taken(pair: &mut Pair, call: &Call, notes: &mut Vec<String>
     if call.numbers != due {
         notes.push(format!("expected the packet {:016x} {:08x} {:08x}", due[0], due[1], due[2]));
     }
-    pair.gone = Some(packet);
+    pair.gone.push(packet);
+}
+
+/// Every wait and every packet of the end with the key goes; the others keep their order.
+pub(crate) fn cancelled(pair: &mut Pair, call: &Call, notes: &mut Vec<String>) {
+    let asked = (own(call), call.record.value("key"));
+    pair.gone = pair.packets.iter().filter(|packet| packet.source() == asked).cloned().collect();
+    pair.packets.retain(|packet| packet.source() != asked);
+    pair.cancelled = pair.waits.iter().filter(|wait| wait.source() == asked).cloned().collect();
+    pair.waits.retain(|wait| wait.source() != asked);
+    test_word(call, (pair.gone.len() + pair.cancelled.len()) as u64, notes);
 }
 
 pub(crate) fn filled(pair: &mut Pair, call: &Call, notes: &mut Vec<String>) {

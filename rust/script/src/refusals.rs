@@ -3,7 +3,7 @@
 use crate::names::{
     DATAGRAM, ENABLE, MANAGE_RIGHT, PEEK, PEER_WRITE_DISABLED, READ_RIGHT, WRITE_DISABLED, WRITE_RIGHT,
 };
-use crate::pair::{fits, End, Pair, COUNT, PLACES, RING};
+use crate::pair::{fits, End, Packet, Pair, Wait, COUNT, PLACES, RING};
 use crate::record::{Record, Refusal};
 
 /// The handle names no open end. The reasons behind this one may look at both ends.
@@ -151,4 +151,10 @@ pub(crate) fn no_place(pair: &Pair, _: &Record) -> bool {
 
 pub(crate) fn no_packet(pair: &Pair, _: &Record) -> bool {
     pair.packets.is_empty()
+}
+
+pub(crate) fn nothing_to_cancel(pair: &Pair, record: &Record) -> bool {
+    let asked = (pair.open(record).unwrap_or(0), record.value("key"));
+    let mut sources = pair.waits.iter().map(Wait::source).chain(pair.packets.iter().map(Packet::source));
+    sources.all(|source| source != asked)
 }

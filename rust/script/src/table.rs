@@ -272,4 +272,18 @@ pub const SHAPES: &[Shape] = &[
         changes: &[],
         follow: pair::filled,
     },
+    Shape {
+        name: "cancel",
+        fields: &[ENDS_HANDLE, number("key", 8)],
+        bytes: None,
+        says: &["cancel the waits and packets of {handle} with key {key}"],
+        done: "{} of its waits and packets removed",
+        adds: Adds::Nothing,
+        refusals: &[
+            NO_END,
+            refusal(-25, "the end has no wait and no packet with this key", when::nothing_to_cancel),
+        ],
+        changes: &[],
+        follow: pair::cancelled,
+    },
 ];

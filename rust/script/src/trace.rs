@@ -172,7 +172,8 @@ impl Trace<'_> {
         let words = [0, 1].map(|place| self.pair.ends[place].word);
         let queued = [0, 1].map(|place| self.pair.ends[place].queue.bytes.len());
         self.pair.came.clear();
-        self.pair.gone = None;
+        self.pair.gone.clear();
+        self.pair.cancelled.clear();
         let due = shape.refusals.iter().find(|refusal| (refusal.holds)(&self.pair, record));
         let reason = due.filter(|due| due.status == answer.word).map(|due| due.reason);
         test_answer(answer, due.map(|due| (due.status, due.reason)), &mut notes);

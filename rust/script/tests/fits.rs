@@ -137,14 +137,58 @@ fn an_edit_of_the_worked_example_is_told() {
 
 #[test]
 fn another_place_of_a_stop_is_told() {
-    let text = "create kind=0 capacity=8 rights1=7 rights2=7\nraw 0c0000";
+    let text = "create kind=0 capacity=8 rights1=7 rights2=7\nraw 0d0000";
     let script = encode(text, Missing::Mistake).expect("a script");
     let listing = |last: &str| format!("record word end1 end2\n0 0 00000002 00000002\n{last}");
     assert!(mismatches(&script, &listing("stop 13\n")).is_empty());
     let told = mismatches(&script, &listing("stop 14\n"));
-    assert_eq!(told, [": line 3: found `stop 14`, expected `stop 13`: no record has tag 12"]);
+    assert_eq!(told, [": line 3: found `stop 14`, expected `stop 13`: no record has tag 13"]);
     let told = mismatches(&script, &listing(""));
-    assert_eq!(told, [": the listing has ended before `stop 13`: no record has tag 12"]);
+    assert_eq!(told, [": the listing has ended before `stop 13`: no record has tag 13"]);
+}
+
+/// What is edited in the listing of cancels of end1's key 7, and what is said first. End2 has that key too,
+/// and a packet of end1 one that is alike in its lower 32 bits.
+const CANCEL_EDITS: [(&str, &str, &str); 6] = [
+    ("\n5 2 ", "\n5 3 ", " (line 7 of the listing): the word is 3, expected 2"),
+    ("\n5 2 ", "\n5 0 ", " (line 7 of the listing): the word is 0, expected 2"),
+    ("\n5 2 ", "\n5 -25 ", " (line 7 of the listing): the word is -25, but nothing refuses the call"),
+    (
+        "\n6 -25 ",
+        "\n6 0 ",
+        " (line 8 of the listing): the word is 0, expected NOT_FOUND (-25): \
+        the end has no wait and no packet with this key",
+    ),
+    (
+        "\n6 -25 ",
+        "\n6 -11 ",
+        " (line 8 of the listing): the word is -11, expected NOT_FOUND (-25): \
+        the end has no wait and no packet with this key",
+    ),
+    (
+        "0000000100000007",
+        "0000000000000007",
+        " (line 9 of the listing): expected the packet 0000000100000007 00000002 00000002",
+    ),
+];
+
+#[test]
+fn a_cancel_that_does_not_fit_the_waits_and_packets_is_told() {
+    let text = "create kind=0 capacity=8 rights1=0 rights2=0\n\
+        wait 1 key=7 mask=PEER_CLOSED edge=0\nwait 2 key=7 mask=PEER_CLOSED edge=0\n\
+        wait 1 key=0x100000007 mask=WRITABLE edge=0\nwait 1 key=7 mask=WRITABLE edge=0\n\
+        cancel 1 key=7\ncancel 1 key=7\ntake\ntake";
+    let script = encode(text, Missing::Mistake).expect("a script");
+    let words = [0, 0, 0, 0, 0, 2, -25, 0, -22].into_iter().enumerate();
+    let lines: String = words.map(|(at, word)| format!("{at} {word} 00000002 00000002\n")).collect();
+    let packet = "7 0 00000002 00000002 0000000100000007 00000002 00000002\n";
+    let lines = lines.replace("7 0 00000002 00000002\n", packet);
+    let listing = format!("record word end1 end2\n{lines}");
+    assert_eq!(mismatches(&script, &listing), Vec::<String>::new());
+    for (before, behind, told) in CANCEL_EDITS {
+        let edited = listing.replacen(before, behind, 1);
+        assert_eq!(mismatches(&script, &edited).first().map(String::as_str), Some(told), "{edited}");
+    }
 }
 
 #[test]

@@ -95,6 +95,27 @@ fn what_does_not_fit_is_marked() {
     assert!(page.contains("Does not fit: the listing has ended before the line of record 0 (`create`)"));
 }
 
+#[test]
+fn what_is_cancelled_goes() {
+    let text = "create kind=0 capacity=8 rights1=0 rights2=0\nwait 1 key=7 mask=WRITABLE edge=0\n\
+        wait 1 key=7 mask=READABLE edge=0\nwait 2 key=7 mask=READABLE edge=0\ncancel 1 key=7";
+    let script = encode(text, Missing::Mistake).expect("a script");
+    let lines: String = (0..4).map(|record| format!("{record} 0 00000002 00000002\n")).collect();
+    let listing = format!("record word end1 end2\n{lines}4 2 00000002 00000002\n");
+    let page = html("cancel", &script, &listing);
+    let row = page.split("<tr class=").nth(5).expect("a row");
+    for part in [
+        "cancel the waits and packets of end1 with key 7",
+        "done: 2 of its waits and packets removed",
+        "packet goes</span> key 7, trigger WRITABLE, observed WRITABLE",
+        "wait goes</span> key 7 at end1 for READABLE",
+        "Waits: 1 (key 7 at end2 for READABLE)",
+    ] {
+        assert!(row.contains(part), "{part}: {row}");
+    }
+    assert!(!row.contains("Packets to take"), "{row}");
+}
+
 /// Inside a title, and only there, a place to break a line would be shown as it is.
 #[test]
 fn lines_may_be_broken_inside_names_but_not_in_the_title() {

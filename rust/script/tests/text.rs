@@ -13,7 +13,7 @@ fn mistakes(text: &str) -> String {
 }
 
 /// A line by names, and the same by numbers.
-const ALIKE: [(&str, &str); 12] = [
+const ALIKE: [(&str, &str); 13] = [
     (
         "create kind=stream capacity=8 rights1=read|write rights2=manage",
         "create kind=0 capacity=8 rights1=3 rights2=4",
@@ -31,7 +31,8 @@ const ALIKE: [(&str, &str); 12] = [
     ("disposition end1 own=none peer=none", "disposition 1 own=0 peer=0"),
     ("shutdown end1 options=write|read", "shutdown 1 options=3"),
     ("fill 65536 0aFF", "fill 0x10000 0aff"),
-    ("raw 0c0000", "raw 0c 00 00"),
+    ("cancel end1 key=0x100000005", "cancel key=4294967301 handle=1"),
+    ("raw 0d0000", "raw 0d 00 00"),
 ];
 
 #[test]
@@ -40,15 +41,16 @@ fn names_stand_for_numbers() {
         assert_eq!(bytes(named), bytes(numbers), "{named}");
     }
     assert_eq!(bytes("info end1"), [7, 4, 0, 1, 0, 0, 0]);
+    assert_eq!(bytes("cancel end2 key=5"), [12, 12, 0, 2, 0, 0, 0, 5, 0, 0, 0, 0, 0, 0, 0]);
     assert_eq!(bytes("\u{feff}take\r\n # nothing\r\n\r\ntake # again"), [10, 0, 0, 10, 0, 0]);
 }
 
 /// What is wrong, and all that is said of it.
-const MISTAKES: [(&str, &str); 24] = [
+const MISTAKES: [(&str, &str); 26] = [
     (
         "take\npush 1",
         "line 2, column 1: found `push`, expected a record: create, write, read, \
-        disposition, shutdown, read_threshold, write_threshold, info, close, wait, take, fill or raw",
+        disposition, shutdown, read_threshold, write_threshold, info, close, wait, take, fill, cancel or raw",
     ),
     (
         "wait end2 key=5 mask=READABEL edge=0",
@@ -106,6 +108,11 @@ const MISTAKES: [(&str, &str); 24] = [
     ("close   # which?", "line 1, column 6: `close` lacks `handle`"),
     ("wait 2 key=5 key=6 mask=1 edge=0", "line 1, column 14: `key` is given twice"),
     ("wait 2 handle=1 key=6 mask=1 edge=0", "line 1, column 8: `handle` is given twice"),
+    ("cancel 1", "line 1, column 9: `cancel` lacks `key=`"),
+    (
+        "cancel 1 key=5 mask=1",
+        "line 1, column 16: found `mask=1`, expected an argument of `cancel`: handle, key=",
+    ),
     ("close 1 2", "line 1, column 9: found `2`, expected an argument of `close`: handle"),
     ("take 1", "line 1, column 6: found `1`, expected nothing behind `take`"),
     (
@@ -184,7 +191,8 @@ fn a_repeat_that_is_too_large_is_a_mistake() {
 #[test]
 fn a_comment_says_why_a_script_stops() {
     let stops = [
-        ("raw 0c0000\n", "no record has tag 12"),
+        ("raw 0d0000\n", "no record has tag 13"),
+        ("raw 0c0b00\n", "a body of 11 bytes is wrong for `cancel`, which has 12"),
         ("raw 0a\n", "a record is cut: 1 of the 3 bytes of its tag and length are there"),
         ("raw 07030001\n", "a body of 3 bytes is wrong for `info`, which has 4"),
         ("raw 0b0800\n", "a body of 8 bytes is wrong for `fill`, which has 9 to 4104"),

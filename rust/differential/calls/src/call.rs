@@ -53,6 +53,10 @@ pub enum Call {
         edge: u8,
     },
     Take,
+    Cancel {
+        handle: u32,
+        key: u64,
+    },
     Close {
         handle: u32,
     },
@@ -70,7 +74,7 @@ pub enum Call {
 }
 
 /// The calls without user memory.
-pub const PLAIN: usize = 12;
+pub const PLAIN: usize = 13;
 
 /// Every answer that a call can have in a run, those of the plain calls first;
 /// 1 stands for a count above 0.
@@ -86,6 +90,7 @@ pub const ANSWERS: [(&str, &[i64]); PLAIN + 4] = [
     ("info", &[0, -11]),
     ("wait", &[0, -3, -10, -11]),
     ("take", &[0, -22]),
+    ("cancel", &[1, -11, -25]),
     ("close", &[0, -11]),
     ("user_write", &[1, 0, -10, -11, -14, -20, -22, -24, -30]),
     ("user_read", &[1, 0, -10, -11, -20, -22, -24, -30]),
@@ -109,6 +114,7 @@ impl Call {
             Call::Info { .. } => "info",
             Call::Wait { .. } => "wait",
             Call::Take => "take",
+            Call::Cancel { .. } => "cancel",
             Call::Close { .. } => "close",
             Call::UserWrite(_) => "user_write",
             Call::UserRead(_) => "user_read",
@@ -148,6 +154,7 @@ impl Call {
                 vec![on(handle), ("key", key), ("mask", mask.into()), ("edge", edge.into())]
             }
             Call::Thresholds { handle } | Call::Info { handle } | Call::Close { handle } => vec![on(handle)],
+            Call::Cancel { handle, key } => vec![on(handle), ("key", key)],
             Call::Take => vec![],
         }
     }
@@ -184,6 +191,7 @@ impl Call {
                 Call::Wait { handle, key: values[1], mask: values[2] as u32, edge: values[3] as u8 }
             }
             Call::Take => Call::Take,
+            Call::Cancel { .. } => Call::Cancel { handle, key: values[1] },
             Call::Close { .. } => Call::Close { handle },
         }
     }

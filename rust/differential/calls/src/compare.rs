@@ -92,7 +92,7 @@ fn same_looks(original: &Look, other: &Look) -> Result<(), Part> {
     same("infos", &original.infos, &other.infos)?;
     same("thresholds", &original.thresholds, &other.thresholds)?;
     same("packets", &original.packets, &other.packets)?;
-    same("number of waits", &original.waits, &other.waits)?;
+    same("waits", &original.waits, &other.waits)?;
     same_bytes("user memory, at its first difference", &original.memory, &other.memory)
 }
 

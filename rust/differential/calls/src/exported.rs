@@ -86,6 +86,7 @@ impl Exported {
                 raw::set_write_threshold(pair, handle, threshold)
             }
             Call::Wait { handle, key, mask, edge } => raw::wait(pair, handle, key, mask, edge),
+            Call::Cancel { handle, key } => raw::cancel(pair, handle, key),
             Call::Close { handle } => raw::close(pair, handle),
             Call::UserWrite(ref t) => self.user_write(t),
             Call::UserRead(ref t) => self.user_read(t),
@@ -127,14 +128,16 @@ impl Side for Exported {
 
     fn look(&mut self) -> Look {
         let places = &self.pair.places;
+        let source = |place: &raw::Place| (place.end as usize - 1, place.key);
         let packet = |place: &raw::Place| Packet {
-            end: place.end as usize - 1,
+            source: source(place),
             trigger: place.mask,
             observed: place.observed,
         };
+        let (packets, rest) = places.table.split_at(places.packets);
         Look {
-            packets: places.table[..places.packets].iter().map(packet).collect(),
-            waits: places.waits,
+            packets: packets.iter().map(packet).collect(),
+            waits: rest[..places.waits].iter().map(source).collect(),
             memory: self.memory.clone(),
             signals: [1, 2].map(|handle| u32::try_from(raw::signal(&mut self.pair, handle)).ok()),
             infos: [1, 2].map(|handle| done(self.info(handle))),

@@ -21,6 +21,7 @@ enum Kind {
     Close,
     Wait,
     Take,
+    Cancel,
     ManyWaits,
 }
 
@@ -30,19 +31,19 @@ use Kind::*;
 #[rustfmt::skip]
 const TRAFFIC: &[(Kind, u64)] = &[
     (Write, 36), (Read, 30), (Peek, 6), (ReadThreshold, 5), (WriteThreshold, 5), (Thresholds, 3), (Info, 3),
-    (Disposition, 2), (Wait, 5), (Take, 5),
+    (Disposition, 2), (Wait, 5), (Take, 5), (Cancel, 1),
 ];
 /// Waits fire, in order, and places run out.
 #[rustfmt::skip]
 const WAITS: &[(Kind, u64)] = &[
     (Wait, 34), (Take, 18), (Write, 12), (Read, 12), (Disposition, 8), (ReadThreshold, 5), (WriteThreshold, 5),
-    (Shutdown, 2), (Thresholds, 2), (Close, 1), (ManyWaits, 1),
+    (Shutdown, 2), (Thresholds, 2), (Close, 1), (Cancel, 6), (ManyWaits, 1),
 ];
 /// Writing is disabled and enabled, and ends close.
 #[rustfmt::skip]
 const ENDINGS: &[(Kind, u64)] = &[
     (Disposition, 24), (Shutdown, 8), (Close, 2), (Write, 23), (Read, 15), (Peek, 4), (Wait, 8), (Take, 6),
-    (Info, 2), (ReadThreshold, 3), (WriteThreshold, 3), (Thresholds, 2),
+    (Info, 2), (ReadThreshold, 3), (WriteThreshold, 3), (Thresholds, 2), (Cancel, 3),
 ];
 
 /// Where lists come from: a seed, the capacity of all pairs if it is not to be
@@ -154,6 +155,7 @@ fn put(kind: Kind, draw: &mut Draw, calls: &mut Vec<Call>) {
             Call::Wait { handle, key, mask, edge }
         }
         Take => Call::Take,
+        Cancel => Call::Cancel { handle, key: draw.cancel_key() },
         ManyWaits => {
             let waits = draw.many_waits().into_iter();
             return calls.extend(waits.map(|(handle, key, mask)| Call::Wait { handle, key, mask, edge: 1 }));

@@ -68,13 +68,13 @@ fn on_socket(socket: &impl Sockets, call: &Call) -> Answer {
 
 /// A look at both ends, unless they are closed, and at their waits.
 fn look(ends: [Option<&impl Sockets>; 2], waits: &Waits, memory: Vec<u8>) -> Look {
-    let packet = |Fired { end, trigger, observed, .. }| Packet { end, trigger, observed };
+    let packet = |Fired { source, trigger, observed, .. }| Packet { source, trigger, observed };
     Look {
         signals: ends.map(|end| end.map(|end| word_of(end.signal()))),
         infos: ends.map(|end| end.map(|end| end.info())),
         thresholds: ends.map(|end| end.map(|end| end.thresholds())),
         packets: waits.fired().map(packet).collect(),
-        waits: waits.waiting().iter().sum(),
+        waits: waits.waiting().collect(),
         memory,
     }
 }
@@ -113,6 +113,10 @@ impl<S: Sockets> Original<S> {
                 let object: Arc<dyn KernelObject> = socket.clone();
                 let refused = self.waits.register((end, handle), &object, key, mask, edge).err();
                 Answer::word(refused.unwrap_or(0))
+            }
+            Call::Cancel { handle, key } => {
+                let removed = self.waits.cancel((end, handle), socket.id(), key);
+                Answer::word(removed.map_or_else(|status| status, |removed| removed as i64))
             }
             Call::Close { .. } => {
                 self.ends[end] = None;
@@ -161,6 +165,7 @@ fn record(call: &Call) -> Option<Record> {
         Call::UserShutdown { handle, options } => Record::Shutdown { handle, options },
         Call::Wait { handle, key, mask, edge } => Record::Wait { handle, key, mask, edge },
         Call::Take => Record::Take,
+        Call::Cancel { handle, key } => Record::Cancel { handle, key },
         Call::Close { handle } => Record::Close { handle },
         _ => return None,
     })

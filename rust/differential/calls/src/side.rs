@@ -1,6 +1,7 @@
 //! What either side of the comparison does and shows.
 
 use crate::call::{Call, Shape};
+use differential::waits::Source;
 
 /// A side's answer to a call.
 #[derive(Clone, Debug, PartialEq)]
@@ -41,10 +42,10 @@ pub fn buffer(count: u64) -> Vec<u8> {
     vec![0x5a; count as usize]
 }
 
-/// A packet without its key, and the end, 0 or 1, of its wait.
+/// A packet.
 #[derive(Clone, Debug, PartialEq)]
 pub struct Packet {
-    pub end: usize,
+    pub source: Source,
     pub trigger: u32,
     pub observed: u32,
 }
@@ -57,8 +58,8 @@ pub struct Look {
     pub thresholds: [Option<[u64; 2]>; 2],
     /// Oldest first.
     pub packets: Vec<Packet>,
-    /// How many waits have not fired.
-    pub waits: usize,
+    /// Those that have not fired, oldest first.
+    pub waits: Vec<Source>,
     /// All of user memory.
     pub memory: Vec<u8>,
 }

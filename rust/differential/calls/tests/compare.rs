@@ -87,6 +87,27 @@ fn a_wrong_byte_is_cut_to_a_write_and_a_read() {
 }
 
 #[test]
+fn a_wrong_number_of_a_cancel_is_cut_to_a_wait_and_a_cancel() {
+    let one_less = |call: &Call, answer: &mut Answer| {
+        if matches!(call, Call::Cancel { .. }) && answer.word > 0 {
+            answer.word -= 1;
+        }
+    };
+    let (list, what) = cut_list(false, one_less, |_| {});
+    let lines: Vec<&str> = list.lines().collect();
+    assert!(lines[1].starts_with("wait ") && lines[2].starts_with("cancel "), "{list}");
+    assert_eq!((lines.len(), what), (3, "word"), "{list}");
+}
+
+#[test]
+fn waits_in_another_order_are_cut_to_two_waits() {
+    let (list, what) = cut_list(false, |_, _| {}, |look| look.waits.reverse());
+    let lines: Vec<&str> = list.lines().collect();
+    assert!(lines[1..].iter().all(|line| line.starts_with("wait ")), "{list}");
+    assert_eq!((lines.len(), what), (3, "waits"), "{list}");
+}
+
+#[test]
 fn a_wrong_threshold_is_cut_to_its_call() {
     let (list, what) = cut_list(
         false,

@@ -238,6 +238,22 @@ pub fn take(pair: &mut Pair, out: &mut [u64; 5]) -> i64 {
     exports::murgwethan_take(pair, out)
 }
 
+/// Removes every wait of an end that has this key, all 64 bits of it, and every packet that such a wait made
+/// and that was not taken. What is left keeps its order. No signal word changes, and no right is asked for.
+///
+/// Answers how many waits and packets it removed, at least 1: as many places are free again.
+///
+/// # Errors
+///
+/// 1. [`Internal`](crate::Status::Internal): the record.
+/// 2. [`BadHandle`](crate::Status::BadHandle): the handle is neither 1 nor 2, or its end is closed. Packets of
+///    a closed end can be taken, but not cancelled.
+/// 3. [`NotFound`](crate::Status::NotFound): the end has no wait and no packet with this key.
+#[inline]
+pub fn cancel(pair: &mut Pair, handle: u32, key: u64) -> i64 {
+    exports::murgwethan_cancel(pair, handle, key)
+}
+
 /// Closes an end: its queue and its waits are gone, and an open peer is told by its signal word.
 ///
 /// Answers 0.

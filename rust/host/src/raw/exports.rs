@@ -60,6 +60,7 @@ unsafe extern "C" {
     ) -> i64;
     pub safe fn murgwethan_wait(p: &mut Pair, handle: u32, key: u64, mask: u32, edge: u8) -> i64;
     pub safe fn murgwethan_take(p: &mut Pair, out: &mut [u64; 5]) -> i64;
+    pub safe fn murgwethan_cancel(p: &mut Pair, handle: u32, key: u64) -> i64;
     pub safe fn murgwethan_close(p: &mut Pair, handle: u32) -> i64;
     pub safe fn murgwethan_signal(p: &mut Pair, handle: u32) -> i64;
     pub fn murgwethan_user_write(

@@ -43,6 +43,8 @@ static void stream(void) {
     CHECK(create(MURGWETHAN_STREAM, CAPACITY + 1) == MURGWETHAN_ERR_INVALID_ARGS);
     CHECK(create(MURGWETHAN_STREAM, CAPACITY) == 0);
     CHECK(murgwethan_wait(&pair, 2, 77, MURGWETHAN_SIGNAL_READABLE, 0) == 0);
+    CHECK(murgwethan_wait(&pair, 2, 78, MURGWETHAN_SIGNAL_PEER_CLOSED, 0) == 0);
+    CHECK(murgwethan_cancel(&pair, 2, 78) == 1 && murgwethan_cancel(&pair, 2, 78) == MURGWETHAN_ERR_NOT_FOUND);
     CHECK(murgwethan_take(&pair, packet) == MURGWETHAN_ERR_SHOULD_WAIT);
     CHECK(write_text("abcdefghij") == CAPACITY);
     CHECK(murgwethan_signal(&pair, 1) == 0);

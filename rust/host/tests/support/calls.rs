@@ -16,6 +16,7 @@ pub enum What {
     Info,
     Wait { key: u64, mask: u32, edge: u8 },
     Take,
+    Cancel { key: u64 },
     Close,
     UserWrite(Transfer),
     UserRead(Transfer),
@@ -37,6 +38,7 @@ impl What {
             What::Info => "info",
             What::Wait { .. } => "wait",
             What::Take => "take",
+            What::Cancel { .. } => "cancel",
             What::Close => "close",
             What::UserWrite(_) => "user_write",
             What::UserRead(_) => "user_read",
@@ -147,11 +149,19 @@ fn bytes(numbers: &mut Numbers, shape: &Shape) -> What {
     }
 }
 
+/// The key of a wait or of a cancel: mostly one of few, of which two are alike in their lower 32 bits.
+pub fn key(numbers: &mut Numbers) -> u64 {
+    match numbers.below(4) {
+        0 => numbers.next(),
+        _ => numbers.pick(&[1, 2, 0x1_0000_0001, u64::MAX]),
+    }
+}
+
 fn wait(numbers: &mut Numbers) -> What {
     let bits = [0x1, 0x2, 0x4, 0x10, 0x20, 0x400, 0x800, 0x400, 0x8000_0000, 0];
     let mask = numbers.pick(&bits) | if numbers.one_in(4) { numbers.pick(&bits) } else { 0 };
     let edge = numbers.pick(&[0, 0, 0, 0, 1, 1, 1, 1, 2, 255]);
-    What::Wait { key: numbers.next(), mask, edge }
+    What::Wait { key: key(numbers), mask, edge }
 }
 
 fn other(numbers: &mut Numbers, shape: &Shape) -> What {
@@ -172,16 +182,17 @@ fn other(numbers: &mut Numbers, shape: &Shape) -> What {
 impl Call {
     pub fn random(numbers: &mut Numbers, shape: &Shape, most: Most) -> Call {
         let draw = numbers.below(100);
-        let (until_bytes, until_waits, until_takes) = match most {
-            Most::Bytes => (75, 80, 84),
-            Most::Waits => (15, 78, 83),
-            Most::Neither => (40, 60, 72),
+        let (until_bytes, until_waits, until_takes, until_cancels) = match most {
+            Most::Bytes => (75, 80, 83, 84),
+            Most::Waits => (15, 76, 81, 83),
+            Most::Neither => (40, 60, 70, 75),
         };
         let what = match draw {
             99 if numbers.one_in(3) => What::Close,
             _ if draw < until_bytes => bytes(numbers, shape),
             _ if draw < until_waits => wait(numbers),
             _ if draw < until_takes => What::Take,
+            _ if draw < until_cancels => What::Cancel { key: key(numbers) },
             _ => other(numbers, shape),
         };
         let handle = if numbers.one_in(30) {

@@ -62,6 +62,7 @@ impl Host<'_> {
             What::SetReadThreshold { threshold } => raw::set_read_threshold(pair, handle, threshold),
             What::SetWriteThreshold { threshold } => raw::set_write_threshold(pair, handle, threshold),
             What::Wait { key, mask, edge } => raw::wait(pair, handle, key, mask, edge),
+            What::Cancel { key } => raw::cancel(pair, handle, key),
             What::Close => raw::close(pair, handle),
         }
     }

@@ -1,4 +1,5 @@
-//! The socket pair, written from document 01 alone and in its order: plain, slow, one byte at a time.
+//! The socket pair, written from document 01 alone and in its order, with cancel from 02 (i): plain, slow,
+//! one byte at a time.
 
 use murgwethan::raw;
 
@@ -102,6 +103,8 @@ pub struct Model {
     ends: [End; 2],
     packets: Vec<Wait>,
     waits: Vec<Wait>,
+    /// The places behind them. A new wait takes the first; what is freed stands before them, all zeros.
+    unused: Vec<raw::Place>,
     /// Whether the record says that more than 128 places are used.
     overfull: bool,
 }
@@ -151,6 +154,7 @@ impl Model {
             ends: [end_from(&record.one), end_from(&record.two)],
             packets: list(fired),
             waits: list(waiting),
+            unused: table[used.len()..].to_vec(),
             overfull,
         }
     }
@@ -168,16 +172,20 @@ impl Model {
         record.two = record_of(&self.ends[1]);
         record.places.packets = self.packets.len();
         record.places.waits = self.waits.len();
-        for (place, wait) in record.places.table.iter_mut().zip(self.packets.iter().chain(&self.waits)) {
-            let Wait { end, key, mask, observed } = *wait;
-            *place = raw::Place { key, mask, observed, end };
-        }
+        let used = self.packets.iter().chain(&self.waits).map(place_of);
+        let held = used.chain(self.unused.iter().copied());
+        record.places.table.iter_mut().zip(held).for_each(|(place, held)| *place = held);
         Some(record)
     }
 }
 
 fn wait_of(place: &raw::Place) -> Wait {
     Wait { end: place.end, key: place.key, mask: place.mask, observed: place.observed }
+}
+
+fn place_of(wait: &Wait) -> raw::Place {
+    let Wait { end, key, mask, observed } = *wait;
+    raw::Place { key, mask, observed, end }
 }
 
 fn end_from(end: &raw::Endpoint) -> End {
@@ -300,6 +308,7 @@ impl Model {
         } else {
             self.waits.push(wait);
         }
+        self.unused.remove(0);
         Ok(0)
     }
 
@@ -307,8 +316,30 @@ impl Model {
         self.record_test()?;
         refuse_if(self.packets.is_empty(), -22)?;
         let packet = self.packets.remove(0);
+        self.free(1);
         *out = [packet.key, packet.mask.into(), packet.observed.into(), 1, 0];
         Ok(0)
+    }
+
+    /// So many places are free again.
+    fn free(&mut self, number: usize) {
+        self.unused.splice(0..0, vec![raw::Pair::UNMADE.places.table[0]; number]);
+    }
+
+    /// Removes the waits and packets for which `goes` holds; how many these were.
+    fn remove(list: &mut Vec<Wait>, goes: impl Fn(&Wait) -> bool) -> usize {
+        let before = list.len();
+        list.retain(|wait| !goes(wait));
+        before - list.len()
+    }
+
+    pub fn cancel(&mut self, handle: u32, key: u64) -> Answer {
+        let end = self.opening(handle)?;
+        let goes = |wait: &Wait| wait.end == number_of(end) && wait.key == key;
+        let removed = Model::remove(&mut self.packets, goes) + Model::remove(&mut self.waits, goes);
+        refuse_if(removed == 0, -25)?;
+        self.free(removed);
+        Ok(removed as u64)
     }
 
     /// The signal word; -1 for a damaged record, -11 for a closed end and for a handle that is none.
@@ -516,7 +547,8 @@ impl Model {
         let end = self.opening(handle)?;
         let none = Line { start: 0, len: 0 };
         self.ends[end] = End { open: false, bytes: none, lengths: none, ..self.ends[end] };
-        self.waits.retain(|wait| wait.end != number_of(end));
+        let dropped = Model::remove(&mut self.waits, |wait| wait.end == number_of(end));
+        self.free(dropped);
         if self.ends[1 - end].open {
             self.change(1 - end, WRITABLE, PEER_CLOSED);
         }

@@ -212,6 +212,7 @@ fn on_model_record(model: &mut Model, handle: u32, what: &What) -> model::Answer
         What::SetReadThreshold { threshold } => model.set_read_threshold(handle, threshold),
         What::SetWriteThreshold { threshold } => model.set_write_threshold(handle, threshold),
         What::Wait { key, mask, edge } => model.wait(handle, key, mask, edge),
+        What::Cancel { key } => model.cancel(handle, key),
         What::Close => model.close(handle),
         _ => unreachable!("{what:?} is lent something"),
     }

@@ -36,7 +36,7 @@ pub fn stored() -> Vec<Stored> {
         script: include_bytes!("../../../../crates/socket_script/stdin").to_vec(),
         listing: include_str!("../../../../crates/socket_script/stdout").to_string(),
     });
-    assert_eq!(stored.len(), 864, "the stored scripts and the long one");
+    assert_eq!(stored.len(), 917, "the stored scripts and the long one");
     stored
 }
 
