@@ -16,7 +16,7 @@ use Rattle.definition.specs.Effect.{Effect, keepingWaits, applied}
 use Rattle.endpoint.specs.ends.AtOnce.{movedBy}
 use Rattle.endpoint.specs.ends.Outcome.{unchangedEnds}
 use Rattle.transfer.specs.declared.change.Transfer.{Transfer}
-use Rattle.transfer.specs.change.Changes.{keptTransfer, outcomeBy, Changes}
+use Rattle.transfer.specs.change.Changes.{keptTransfer, transferOutcome, Changes}
 use Rattle.transfer.specs.write.WriteChange.{wroteBy, WriteChanges, Wrote}
 use Rattle.definition.specs.Read.{readEffect, consumed, pairRead, Reads, readAnswer}
 use Rattle.transfer.specs.read.ReadChange.{readBy, ReadChanges, Read}
@@ -31,8 +31,8 @@ use Rattle.socket.proofs.Visiting.{applied-two, settled-moved}
 -- the step of a call by the end of handle h that gives t, and whose effect drops no wait and changes at most two words
 transfer-settled : (p : Pair) (h : ℕ) (none : Bool) (q : Queue) (stands effect : Effect) (t : Transfer) → length (p .places .table) ≡ 128
     → (none ≡ false → sound (p .places) ≡ true) → effect .drops ≡ false → length (effect .changes) ≤ 2 → Changes none q stands effect t
-    → settledStep (outcomeBy (endsOf p) h t stands) p ≡ record { pair = pick none p (applied (isOne h) effect p); answer = t .answer }
-unfolding outcomeBy keptTransfer settledStep unchangedEnds withEnds pick
+    → settledStep (transferOutcome (endsOf p) h t stands) p ≡ record { pair = pick none p (applied (isOne h) effect p); answer = t .answer }
+unfolding transferOutcome keptTransfer settledStep unchangedEnds withEnds pick
 transfer-settled p h true q stands effect t l s d n c = rw (ap (λ (k : Transfer). k .moves) (c .kept refl)) refl
 transfer-settled p h false q stands effect t l s d n c =
     rw (c .moves refl, c .moved refl)

@@ -28,7 +28,7 @@ ghost use Rattle.definition.specs.Pair.{isOne, own, peer};
 ghost use Rattle.definition.specs.Read.{readEffect, leaving, drainedQueue, bufferRead};
 ghost use Rattle.endpoint.specs.ends.AtOnce.{movedBy};
 ghost use Rattle.endpoint.specs.ends.Outcome.{canFire};
-ghost use Rattle.transfer.specs.read.ReadChange.{drainedEffect, readBy, Drained, ReadChanges, Drain, Deliver, Read};
+ghost use Rattle.transfer.specs.read.ReadChange.{drainedEffect, readBy, DrainChanges, ReadChanges, Drain, Deliver, Read};
 
 // The bytes that leave the queue: a datagram leaves whole.
 fn leaving_of(datagram: bool, first: u32, k: u32) -> u32
@@ -124,7 +124,7 @@ pub(crate) fn drain_transfer(
     k: u32,
 ) -> Transfer
     requires { ⌜ ((k ≡ 0 → ⊥) → Drain datagram capacity (leaving datagram first k) (own .queue)) ⌝ }
-    ensures { λ r. ⌜ (r .answer ≡ answer) × Drained datagram capacity own peer peek first k r ⌝ }
+    ensures { λ r. ⌜ (r .answer ≡ answer) × DrainChanges datagram capacity own peer peek first k r ⌝ }
 {
     let q = own.queue;
     if peek {

@@ -23,7 +23,7 @@ ghost use Rattle.definition.specs.Pair.{isOne, own, peer};
 ghost use Rattle.definition.specs.Write.{writeEffect, fedQueue, ringFed, ringWritten, tableFed, tableWritten};
 ghost use Rattle.endpoint.specs.ends.AtOnce.{movedBy};
 ghost use Rattle.endpoint.specs.ends.Outcome.{canFire};
-ghost use Rattle.transfer.specs.write.WriteChange.{fedEffect, wroteBy, Fed, WriteChanges, Feed, Wrote};
+ghost use Rattle.transfer.specs.write.WriteChange.{fedEffect, wroteBy, FeedChanges, WriteChanges, Feed, Wrote};
 
 // The queue that m bytes went into.
 fn fed_queue(datagram: bool, m: u32, q: Queue) -> Queue

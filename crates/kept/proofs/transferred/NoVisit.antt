@@ -15,7 +15,7 @@ use Rattle.definition.specs.Effect.{ifOpen, keepingWaits}
 use Rattle.endpoint.specs.ends.AtOnce.{ownChanged, peerChanged, ownAfter, peerAfter, movedBy}
 use Rattle.endpoint.specs.ends.Outcome.{noVisits, keepsWord, canFire, anyCanFire, outcomeOf}
 use Rattle.transfer.specs.declared.change.Transfer.{Transfer}
-use Rattle.transfer.specs.change.Changes.{outcomeBy}
+use Rattle.transfer.specs.change.Changes.{transferOutcome}
 use Rattle.transfer.specs.write.WriteChange.{fedEffect, wroteBy}
 use Rattle.transfer.specs.read.ReadChange.{drainedEffect, readBy}
 use Rattle.definition.specs.declared.Pair.{Pair}
@@ -55,7 +55,7 @@ settled-no-visit w t x d p e = pick-off _ _ _ _ _ (none-visited w (d .visits) e)
 pub no-visit-wrote : (h : ℕ) (x : Transfer) (p q : Pair)
     → writeWithoutVisit h x p ≡ true
     → q ≡ wrotePair (isOne h) x p → q ≡ settledStep (wroteBy (endsOf p) h x) p .pair
-unfolding wrotePair wroteBy outcomeBy writeWithoutVisit
+unfolding wrotePair wroteBy transferOutcome writeWithoutVisit
 no-visit-wrote h x p q e f =
     let w = both _ _ e in
     f ∙ settled-no-visit (endsOf p .waits) (isOne h) x (movedBy (isOne h) (fedEffect (own (isOne h) (endsOf p)) (peer (isOne h) (endsOf p)) x)) p (via-not refl (w .1))
@@ -64,7 +64,7 @@ no-visit-wrote h x p q e f =
 pub no-visit-read : (h : ℕ) (x : Transfer) (p q : Pair)
     → readWithoutVisit h x p ≡ true
     → q ≡ transferredPair (isOne h) (isOne h) x p → q ≡ settledStep (readBy (endsOf p) h x) p .pair
-unfolding readPair readBy outcomeBy readWithoutVisit
+unfolding readPair readBy transferOutcome readWithoutVisit
 no-visit-read h x p q e f =
     let w = both _ _ e in
     let v = both _ _ (w .1) in

@@ -14,7 +14,7 @@ use Rattle.endpoint.specs.declared.ends.Visits.{Visits}
 use Rattle.endpoint.specs.ends.AtOnce.{movedBy}
 use Rattle.endpoint.specs.ends.Outcome.{noVisits, outcomeOf, unchangedEnds}
 use Rattle.transfer.specs.declared.change.Transfer.{Transfer}
-use Rattle.transfer.specs.change.Changes.{keptTransfer, outcomeBy, Changes}
+use Rattle.transfer.specs.change.Changes.{keptTransfer, transferOutcome, Changes}
 
 module _ (none : Bool) (q : Queue) (stands effect : Effect) (t : Transfer) where
   pub kept-changes : (a : Answer) → none ≡ true → t ≡ keptTransfer q a → (t .answer ≡ a) × Changes none q stands effect t
@@ -35,17 +35,17 @@ module _ (none : Bool) (q : Queue) (stands effect : Effect) (t : Transfer) where
 -- ---- the outcome
 
 module _ (e : Ends) (h : ℕ) (t : Transfer) (f : Effect) where
-  pub outcome-kept : (r : EndsOutcome) → t .moves ≡ false → r ≡ unchangedEnds e (t .answer) → r ≡ outcomeBy e h t f
-  unfolding outcomeBy pick
+  pub outcome-kept : (r : EndsOutcome) → t .moves ≡ false → r ≡ unchangedEnds e (t .answer) → r ≡ transferOutcome e h t f
+  unfolding transferOutcome pick
   outcome-kept r off g = rw off g
 
   pub outcome-moved : (r : EndsOutcome) (d : Moved) (v : Visits) → t .moves ≡ true → d ≡ movedBy (isOne h) f → v ≡ noVisits
-      → r ≡ outcomeOf (e .waits) (isOne h) (t .answer) d v → r ≡ outcomeBy e h t f
-  unfolding outcomeBy pick
+      → r ≡ outcomeOf (e .waits) (isOne h) (t .answer) d v → r ≡ transferOutcome e h t f
+  unfolding transferOutcome pick
   outcome-moved r d v on fd fv g = rw (on, ← fd, ← fv) g
 
-  pub outcome-answer : t .answer ≡ outcomeBy e h t f .answer
-  unfolding outcomeBy outcomeOf unchangedEnds pick
+  pub outcome-answer : t .answer ≡ transferOutcome e h t f .answer
+  unfolding transferOutcome outcomeOf unchangedEnds pick
   outcome-answer = by (t .moves)
     where
       by : (b : Bool) → t .answer ≡ pick b (outcomeOf (e .waits) (isOne h) (t .answer) (movedBy (isOne h) f) noVisits) (unchangedEnds e (t .answer)) .answer

@@ -21,7 +21,7 @@ use Rattle.endpoint.specs.ends.AtOnce.{movedBy}
 use Rattle.endpoint.specs.ends.Outcome.{canFire}
 use Rattle.transfer.specs.declared.change.Transfer.{Transfer}
 use Rattle.transfer.specs.change.Changes.{keptTransfer, Changes}
-use Rattle.transfer.specs.read.ReadChange.{drainedEffect, Drained, ReadChanges, Read}
+use Rattle.transfer.specs.read.ReadChange.{drainedEffect, DrainChanges, ReadChanges, Read}
 use Rattle.transfer.proofs.change.Changes.{kept-changes}
 
 pub delivered-first : (k first m : ℕ) → first ≡ pick (eqb k 0) 0 m → (k ≡ 0 → ⊥) → first ≡ m
@@ -45,10 +45,10 @@ or-either false b e = e
 module _ (e : Ends) (h : ℕ) (peek : Bool) (table : List ℕ) (x : Answer) (k : ℕ) (o t : Endpoint) (d : Transfer) (fk : k ≡ countOf x)
     (fo : o ≡ own (isOne h) e) (ft : t ≡ peer (isOne h) e) where
   pub read-changes : (first : ℕ) → first ≡ firstLength (e .datagram) (o .queue) table
-      → (d .answer ≡ x) × Drained (e .datagram) (e .capacity) o t peek first k d → ReadChanges e h peek table d
+      → (d .answer ≡ x) × DrainChanges (e .datagram) (e .capacity) o t peek first k d → ReadChanges e h peek table d
   read-changes first fl c =
       let first′ = firstLength (e .datagram) (own (isOne h) e .queue) table in
-      subst (λ (y : Answer). Drained (e .datagram) (e .capacity) (own (isOne h) e) (peer (isOne h) e) peek first′ (countOf y) d) (sym (c .0))
+      subst (λ (y : Answer). DrainChanges (e .datagram) (e .capacity) (own (isOne h) e) (peer (isOne h) e) peek first′ (countOf y) d) (sym (c .0))
       (rw (← fk, ← fo, ← ft, ← fl) (c .1))
 
   pub read-none : k ≡ 0 → d ≡ keptTransfer (o .queue) x → (d .answer ≡ x) × ReadChanges e h peek table d
@@ -62,12 +62,12 @@ module _ (e : Ends) (h : ℕ) (peek : Bool) (table : List ℕ) (x : Answer) (k :
       → x ≡ readAnswer e (lentOf (e .datagram) (own (isOne h) e .queue) ring table) h (length buffer)
       → first ≡ pick (eqb k 0) 0 (firstLength (e .datagram) (o .queue) table)
       → buffer′ ≡ pick (eqb k 0) buffer (paste buffer 0 (front (e .capacity) (o .queue .bytes .start) k ring) k)
-      → (d .answer ≡ x) × Drained (e .datagram) (e .capacity) o t peek first k d
+      → (d .answer ≡ x) × DrainChanges (e .datagram) (e .capacity) o t peek first k d
       → Read e h peek ring table buffer buffer′ d
   unfolding bufferRead
   transfer-read ring buffer buffer′ first fx fl fb c =
       let m = firstLength (e .datagram) (o .queue) table in
-      let c′ : Drained (e .datagram) (e .capacity) o t peek m k d
+      let c′ : DrainChanges (e .datagram) (e .capacity) o t peek m k d
       = looked (e .datagram) (e .capacity) o t peek (eqb k 0) m k d (rw fl at (c .1)) in
       record { answer = c .0 ∙ fx; changes = read-changes m refl (c .0, c′); bytes = rw (c .0, ← fk, ← fo) fb }
 

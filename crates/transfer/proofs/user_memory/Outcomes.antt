@@ -24,7 +24,7 @@ use Rattle.ring.proofs.copy.Laws.{put-take}
 use Rattle.ring.proofs.copy.Lists.{copied-part}
 use Rattle.transfer.specs.declared.change.Transfer.{Transfer}
 use Rattle.transfer.specs.change.Changes.{keptTransfer}
-use Rattle.transfer.specs.read.ReadChange.{Drained, ReadChanges}
+use Rattle.transfer.specs.read.ReadChange.{DrainChanges, ReadChanges}
 use Rattle.transfer.specs.write.WriteChange.{fedEffect}
 use Rattle.transfer.specs.user_memory.Transfers.{UserWrote, UserBytesRead, UserRead, pairOf}
 use Rattle.transfer.proofs.read.Outcomes.{read-none, read-changes}
@@ -91,7 +91,7 @@ module _ (e : Ends) (h base options address n countAt : ℕ) (ring table memory 
       → buffer′
       ≡ pick (eqb k 0) (take i (drop (address - base) memory))
       (paste (take i (drop (address - base) memory)) 0 (front (e .capacity) (o .queue .bytes .start) k ring) k)
-      → (d .answer ≡ x) × Drained (e .datagram) (e .capacity) o t (isPeek options) (firstLength (e .datagram) (o .queue) table) k d
+      → (d .answer ≡ x) × DrainChanges (e .datagram) (e .capacity) o t (isPeek options) (firstLength (e .datagram) (o .queue) table) k d
       → UserBytesRead e h base options address n countAt ring table memory
       (take (address - base) memory ++ (buffer′ ++ drop i (drop (address - base) memory)))
       d

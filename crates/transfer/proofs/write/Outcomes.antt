@@ -19,15 +19,15 @@ use Rattle.endpoint.specs.ends.AtOnce.{movedBy}
 use Rattle.endpoint.specs.ends.Outcome.{canFire}
 use Rattle.transfer.specs.declared.change.Transfer.{Transfer}
 use Rattle.transfer.specs.change.Changes.{keptTransfer}
-use Rattle.transfer.specs.write.WriteChange.{fedEffect, Fed, WriteChanges, Wrote}
+use Rattle.transfer.specs.write.WriteChange.{fedEffect, FeedChanges, WriteChanges, Wrote}
 use Rattle.transfer.proofs.change.Changes.{kept-changes, moved-changes}
 
 -- a write with the answer x, whose count is m, by end o to its peer t, that gives d
 module _ (e : Ends) (h : ℕ) (x : Answer) (m : ℕ) (o t : Endpoint) (d : Transfer) (fm : m ≡ countOf x) (fo : o ≡ own (isOne h) e)
     (ft : t ≡ peer (isOne h) e) where
-  told : d .answer ≡ x → Fed (e .datagram) (e .capacity) o t m d → WriteChanges e h d
+  told : d .answer ≡ x → FeedChanges (e .datagram) (e .capacity) o t m d → WriteChanges e h d
   told a c =
-      subst (λ (y : Answer). Fed (e .datagram) (e .capacity) (own (isOne h) e) (peer (isOne h) e) (countOf y) d) (sym a) (rw (← fm, ← fo, ← ft) c)
+      subst (λ (y : Answer). FeedChanges (e .datagram) (e .capacity) (own (isOne h) e) (peer (isOne h) e) (countOf y) d) (sym a) (rw (← fm, ← fo, ← ft) c)
 
   pub none-changes : m ≡ 0 → d ≡ keptTransfer (t .queue) x → (d .answer ≡ x) × WriteChanges e h d
   none-changes z k =

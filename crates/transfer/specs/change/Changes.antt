@@ -19,8 +19,8 @@ unfoldable pub keptTransfer : Queue → Answer → Transfer
 keptTransfer q a = record { queue = q; lost = 0; gained = 0; moves = false; answer = a }
 
 -- the outcome of a call by the end of handle h that gives t, which stands for the effect f
-unfoldable pub outcomeBy : Ends → (h : ℕ) → Transfer → (f : Effect) → EndsOutcome
-outcomeBy e h t f =
+unfoldable pub transferOutcome : Ends → (h : ℕ) → Transfer → (f : Effect) → EndsOutcome
+transferOutcome e h t f =
     pick (t .moves)
     (outcomeOf (e .waits) (isOne h) (t .answer) (movedBy (isOne h) f) noVisits)
     (unchangedEnds e (t .answer))

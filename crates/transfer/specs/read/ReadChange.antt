@@ -16,7 +16,7 @@ use Rattle.definition.specs.Status.{_or_, countOf}
 use Rattle.definition.specs.Tests.{firstLength, lentOf}
 use Rattle.endpoint.specs.declared.ends.EndsOutcome.{EndsOutcome}
 use Rattle.transfer.specs.declared.change.Transfer.{Transfer}
-use Rattle.transfer.specs.change.Changes.{outcomeBy, Changes}
+use Rattle.transfer.specs.change.Changes.{transferOutcome, Changes}
 
 -- the effect that t stands for: the reader has the queue and loses, then an open peer gains
 unfoldable pub drainedEffect : (own peer : Endpoint) → Transfer → Effect
@@ -24,17 +24,17 @@ drainedEffect own peer t = keepingWaits (withQueue (t .queue) own) peer (ownWord
 
 -- the outcome of a read by the end of handle h that gives t
 unfoldable pub readBy : Ends → (h : ℕ) → Transfer → EndsOutcome
-readBy e h t = outcomeBy e h t (drainedEffect (own (isOne h) e) (peer (isOne h) e) t)
+readBy e h t = transferOutcome e h t (drainedEffect (own (isOne h) e) (peer (isOne h) e) t)
 
 -- t is what a read or peek by end `own` that delivered k bytes changes; first is the first queued length
-abbrev pub Drained : (datagram : Bool) → (C : ℕ) → (own peer : Endpoint) → (peek : Bool) → (first k : ℕ) → Transfer → Type 0
-Drained datagram C own peer peek first k t =
+abbrev pub DrainChanges : (datagram : Bool) → (C : ℕ) → (own peer : Endpoint) → (peek : Bool) → (first k : ℕ) → Transfer → Type 0
+DrainChanges datagram C own peer peek first k t =
     Changes (peek or eqb k 0) (own .queue) (drainedEffect own peer t) (readEffect datagram C own peer (leaving datagram first k)) t
 
 -- the same for the end of handle h, by the answer of t; table is its own
 abbrev pub ReadChanges : Ends → (h : ℕ) → (peek : Bool) → (table : List ℕ) → Transfer → Type 0
 ReadChanges e h peek table t =
-    Drained (e .datagram) (e .capacity) (own (isOne h) e) (peer (isOne h) e) peek (firstLength (e .datagram) (own (isOne h) e .queue) table)
+    DrainChanges (e .datagram) (e .capacity) (own (isOne h) e) (peer (isOne h) e) peek (firstLength (e .datagram) (own (isOne h) e .queue) table)
     (countOf (t .answer)) t
 
 -- what the code that takes n bytes out of a queue relies on; an answer above 0 shows it

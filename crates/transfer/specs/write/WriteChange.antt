@@ -16,7 +16,7 @@ use Rattle.definition.specs.Tests.{lentOf}
 use Rattle.definition.specs.Write.{writeEffect, writeAnswer, ringWritten, tableWritten}
 use Rattle.endpoint.specs.declared.ends.EndsOutcome.{EndsOutcome}
 use Rattle.transfer.specs.declared.change.Transfer.{Transfer}
-use Rattle.transfer.specs.change.Changes.{outcomeBy, Changes}
+use Rattle.transfer.specs.change.Changes.{transferOutcome, Changes}
 
 -- the effect that t stands for: the peer has the queue and gains, then the writer loses
 unfoldable pub fedEffect : (own peer : Endpoint) → Transfer → Effect
@@ -24,15 +24,15 @@ fedEffect own peer t = keepingWaits own (withQueue (t .queue) peer) (peerWord 0 
 
 -- the outcome of a write by the end of handle h that gives t
 unfoldable pub wroteBy : Ends → (h : ℕ) → Transfer → EndsOutcome
-wroteBy e h t = outcomeBy e h t (fedEffect (own (isOne h) e) (peer (isOne h) e) t)
+wroteBy e h t = transferOutcome e h t (fedEffect (own (isOne h) e) (peer (isOne h) e) t)
 
 -- t is what a write of m bytes by end `own` changes
-abbrev pub Fed : (datagram : Bool) → (C : ℕ) → (own peer : Endpoint) → (m : ℕ) → Transfer → Type 0
-Fed datagram C own peer m t = Changes (eqb m 0) (peer .queue) (fedEffect own peer t) (writeEffect datagram C own peer m) t
+abbrev pub FeedChanges : (datagram : Bool) → (C : ℕ) → (own peer : Endpoint) → (m : ℕ) → Transfer → Type 0
+FeedChanges datagram C own peer m t = Changes (eqb m 0) (peer .queue) (fedEffect own peer t) (writeEffect datagram C own peer m) t
 
 -- the same for the end of handle h, by the answer of t
 abbrev pub WriteChanges : Ends → (h : ℕ) → Transfer → Type 0
-WriteChanges e h t = Fed (e .datagram) (e .capacity) (own (isOne h) e) (peer (isOne h) e) (countOf (t .answer)) t
+WriteChanges e h t = FeedChanges (e .datagram) (e .capacity) (own (isOne h) e) (peer (isOne h) e) (countOf (t .answer)) t
 
 -- what the code that puts m bytes into a queue relies on; an answer above 0 shows it
 pub record Feed (datagram : Bool) (C : ℕ) (q : Queue) (m : ℕ) (src ring table : List ℕ) : Type 0 where
