@@ -22,7 +22,7 @@ use Rattle.definition.specs.Pair.{withSignals, own, peer, withEnd, withPlaces, 
 use Rattle.endpoint.specs.declared.ends.Pending.{Pending}
 use Rattle.endpoint.specs.declared.ends.Visits.{Visits}
 use Rattle.endpoint.specs.declared.ends.Moved.{Moved}
-use Rattle.endpoint.specs.ends.Outcome.{noVisits, canFire, anyCanFire, outcomeOf, keptEnds}
+use Rattle.endpoint.specs.ends.Outcome.{noVisits, canFire, anyCanFire, outcomeOf}
 use Rattle.endpoint.specs.ends.AtOnce.{ownChanged, peerChanged, visitOf, ownAfter, peerAfter, visitsOf, firstTwo, movedBy, moreBy}
 use Rattle.definition.specs.declared.Pair.{Pair}
 use Rattle.definition.proofs.Pair as T
@@ -139,11 +139,6 @@ applied-two t e p d l s =
     sym (no-visits (movedPair t (movedBy t e) p))
     ∙ ap (λ (v : Visits). visitedPair v (movedPair t (movedBy t e) p)) (sym (none-more vs (rw (many t (e .changes) (e .own) (e .peer)) l)))
     ∙ applied-last t e p d (omega (arith, l)) s
-
-pub kept-visited : (t : Bool) (p : Pair) → movedPair t (keptEnds (own t (endsOf p)) (peer t (endsOf p))) p ≡ p
-unfolding keptEnds visitedPair withEnds withPlaces pick
-kept-visited true p = rw (visited-none (p .places), visited-none (p .places)) refl
-kept-visited false p = rw (visited-none (p .places), visited-none (p .places)) refl
 
 -- ---- where no wait can fire
 
