@@ -36,7 +36,7 @@ pub record Effect : Type 0 where
   pub drops : Bool
   pub changes : List WordChange
 
--- no call but close drops waits
+-- of the calls that have an effect only close drops waits
 unfoldable pub keepingWaits : (own peer : Endpoint) → List WordChange → Effect
 keepingWaits own peer cs = record { own = own; peer = peer; drops = false; changes = cs }
 

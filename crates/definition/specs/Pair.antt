@@ -63,7 +63,7 @@ abbrev pub peer : Bool → Ends → Endpoint
 peer true e = e .two
 peer false e = e .one
 
--- the pair without its table of places, of which every answer but that of take is made
+-- the pair without its table of places, of which every answer but those of take and cancel is made
 abbrev pub endsOf : Pair → Ends
 endsOf p =
     record {

@@ -127,7 +127,7 @@ pub struct Change {
     pub answer: Answer,
 }
 
-// What every answer but that of take is made of. It is small, so that it is passed on at little cost.
+// What every answer but those of take and cancel is made of. It is small, so that it is passed on at little cost.
 pub struct Ends {
     pub datagram: bool,
     pub capacity: u32,

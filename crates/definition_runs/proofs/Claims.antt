@@ -9,7 +9,7 @@ use Rattle.definition_runs.proofs.Refused.{refused-changes-nothing, mem
 use Rattle.definition_runs.proofs.RunsSound.{runs-are-sound}
 use Rattle.definition_runs.proofs.cases.Lines.{lines-match}
 use Rattle.definition.proofs.cases.Edges.{at-the-edges, in-order, packets-in-order, cancels-in-order}
-use Rattle.port.proofs.cancel.Kept.{used-cancelled}
+use Rattle.definition_runs.proofs.Cancels.{cancel-frees}
 use Rattle.definition.proofs.cases.Damaged.{damaged-records, lent-slices, first-lengths, create-arguments}
 
 pub claims : Claims
@@ -27,7 +27,7 @@ claims =
       edges = at-the-edges;
       orders = in-order;
       packets = packets-in-order;
-      frees = used-cancelled;
+      frees = cancel-frees;
       cancels = cancels-in-order;
       damaged = damaged-records;
       lent = lent-slices;

@@ -11,6 +11,7 @@ pub mod Start
 pub mod TwoRuns
 pub mod RunsSound
 pub mod Example
+pub mod Cancels
 pub mod Claims
 pub mod runs
 pub mod cases

@@ -30,9 +30,10 @@ datagramCalls memory row =
     ∷ input (close 2) 0 []
     ∷ []
 
--- On a stream end 2 has two waits of one key. 6 bytes are written, which fires one of them; a cancel removes its packet and the other. 4 bytes are read. The write of 8 then takes 6, which run past the ring's end of 8 and continue at its start.
--- A peek and a plain read into 5 and 3 bytes go over both writes; a read of 0 consumes nothing. The rest is read, over the ring's end, with the
--- count put over it. Then a plain row goes the other way and is peeked at, its writer closes, and it is read.
+-- On a stream end 2 has two waits of one key. 6 bytes are written, which fires one of them; a cancel removes its packet and the other. 4 bytes are
+-- read. The write of 8 then takes 6, which run past the ring's end of 8 and continue at its start. A peek and a plain read into 5 and 3 bytes go over
+-- both writes; a read of 0 consumes nothing. The rest is read, over the ring's end, with the count put over it. Then a plain row goes the other way and
+-- is peeked at, its writer closes, and it is read.
 abbrev pub streamCalls : (memory row : List ℕ) → List Input
 streamCalls memory row =
     input (control (wait 2 5 1 0)) 0 []

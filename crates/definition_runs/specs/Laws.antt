@@ -1,19 +1,21 @@
--- Laws of all calls: a refused call changes nothing, memory at exit, and no call of a run meets a record that no run leaves.
--- 01 "Status and answer word", "Calls over user memory".
+-- Laws of all calls: a refused call changes nothing, memory at exit, and no call of a run meets a record that no run leaves. And of cancel: how many
+-- places it frees. 01 "Status and answer word", "Calls over user memory"; 02 (i).
 use mathlib.Core.Path.{_≡_}
 use mathlib.Core.List.{[], List}
 use mathlib.Core.Bool.{Bool, true, false}
 use lib.ListN.{length}
 use Rattle.definition.specs.declared.Status.{Status}
-use Rattle.definition.specs.declared.Answer.the-variants.{Refused}
+use Rattle.definition.specs.declared.Answer.the-variants.{Done, Refused}
 use Rattle.definition.specs.declared.Status.the-variants.{Internal}
 use Rattle.definition.specs.Calls.{Input, State, Outcome, memoryAfter, ownSlices, Create, Slices, Seen}
 use Rattle.definition_runs.specs.Run.{Does, Run}
 use Rattle.definition.specs.Tests.{shortSlices, firstLength, badFirst, soundEnds}
 use Rattle.definition.specs.Pair.{own, endsOf}
 use Rattle.definition.specs.Status.{isDone}
-use Rattle.definition.specs.declared.Places.{Places}
-use Rattle.definition.specs.Port.{used, matching, cancelledOf}
+use Rattle.definition.specs.declared.Pair.{Pair}
+use Rattle.definition.specs.declared.Step.{Step}
+use Rattle.definition.specs.declared.Record.the-variants.{Count}
+use Rattle.definition.specs.Port.{used, Cancels}
 use Prim.Native.Nat.{ℕ, _+_, _≤_}
 
 pub record Unchanged (s : State) (i : Input) (s′ : State) (o : Outcome) : Type 0 where
@@ -48,6 +50,8 @@ RunsAreSound =
     → Run c one two is x os s → isDone (x .answer) ≡ true
     → Sound s
 
--- 02 (i): of any table that has a place for each that it counts as used, the places used before a cancel are those used after it and the number removed
+-- 02 (i): a done cancel frees as many places as it answers, of any pair whose table has a place for each that it counts as used
 abbrev pub CancelFrees : Type 0
-CancelFrees = (one : Bool) (key : ℕ) (t : Places) → used t ≤ length (t .table) → used (cancelledOf one key t) + matching one key t ≡ used t
+CancelFrees =
+    (p : Pair) (h key n : ℕ) (r : Step) → used (p .places) ≤ length (p .places .table) → Cancels p h key r → r .answer ≡ Done (Count n)
+    → used (r .pair .places) + n ≡ used (p .places)

@@ -120,7 +120,8 @@ takeStep p = stepOf p (takeAnswer p) (took p)
 unfoldable pub cancelStep : Pair → (body : List ℕ) → Step
 cancelStep p b = stepOf p (cancelAnswer p (four b 0) (eight b 4)) (cancelled (isOne (four b 0)) (eight b 4) p)
 
--- by the tag: 0, 3 to 10, and 12; 1 and 2 are as 3, 11 and those above 12 as 12
+-- By the tag: 0, 3 to 10, and 12. No other tag comes here: `callOf` keeps 1, 2 and 11 for itself, and no body is right for one above 12. Here 1 and 2
+-- are as 3, and 11 and those above 12 as 12.
 unfoldable pub controlStep : Rings → Pair → (tag : ℕ) → (body : List ℕ) → Step
 controlStep z p tag b =
     pick (ltb tag 1) (createStep z b)

@@ -12,7 +12,7 @@ ghost use mathlib.Core.Path.{_≡_};
 ghost use Rattle.definition.specs.Pair.{own, endsOf, shownBy, withPlaces};
 ghost use Rattle.socket.specs.Step.{innerStep};
 
-// The pair without its table of places, of which every answer but that of take is made.
+// The pair without its table of places, of which every answer but those of take and cancel is made.
 pub fn ends_of(p: Pair) -> Ends
     ensures { λ r. ⌜ r ≡ endsOf p ⌝ }
 {

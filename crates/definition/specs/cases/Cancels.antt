@@ -30,23 +30,34 @@ cancelScripts =
     (yes 0 0x2 0x2 ∷ yes 0 0x2 0x2 ∷ yes 1 0x2 0x2 ∷ no 25 0x2 0x2 ∷ yes 1 0x2 0x2 ∷ [])
     ∷ scriptOf streamKind 7 (c (wait 1 1 4 0) ∷ c (wait 1 4294967297 4 0) ∷ c (cancel 1 1) ∷ c (cancel 1 1) ∷ c (cancel 1 4294967297) ∷ [])
     (yes 0 0x2 0x2 ∷ yes 0 0x2 0x2 ∷ yes 1 0x2 0x2 ∷ no 25 0x2 0x2 ∷ yes 1 0x2 0x2 ∷ [])
-    -- waits and packets go, all of them, and are counted; others stay
+    -- waits and packets go, all of them, and are counted; others stay, and no wait fires, not one with the edge flag that meets the word
     ∷ scriptOf streamKind 7
-    (c (wait 1 3 2 0) ∷ c (wait 1 3 4 0) ∷ c (wait 1 3 2 1) ∷ c (wait 1 4 2 0) ∷ c (cancel 1 3) ∷ c takePacket ∷ c takePacket ∷ [])
-    (yes 0 0x2 0x2 ∷ yes 0 0x2 0x2 ∷ yes 0 0x2 0x2 ∷ yes 0 0x2 0x2 ∷ yes 3 0x2 0x2 ∷ packetLine 4 2 2 0x2 0x2 ∷ no 22 0x2 0x2 ∷ [])
+    (c (wait 1 3 2 0) ∷ c (wait 1 3 4 0) ∷ c (wait 1 3 2 1) ∷ c (wait 1 3 2 0) ∷ c (wait 1 4 2 0) ∷ c (wait 1 5 2 1)
+    ∷ c (cancel 1 3) ∷ c (cancel 1 3) ∷ c takePacket ∷ c takePacket ∷ [])
+    (yes 0 0x2 0x2 ∷ yes 0 0x2 0x2 ∷ yes 0 0x2 0x2 ∷ yes 0 0x2 0x2 ∷ yes 0 0x2 0x2 ∷ yes 0 0x2 0x2
+    ∷ yes 4 0x2 0x2 ∷ no 25 0x2 0x2 ∷ packetLine 4 2 2 0x2 0x2 ∷ no 22 0x2 0x2 ∷ [])
     -- what is left keeps its order, waits and packets alike
     ∷ scriptOf streamKind 7
     (c (wait 2 1 1 0) ∷ c (wait 2 2 1 0) ∷ c (wait 2 3 1 0) ∷ c (wait 2 4 1 0) ∷ c (cancel 2 2) ∷ w 1 4096 1 ∷ c (cancel 2 3)
     ∷ c takePacket ∷ c takePacket ∷ c takePacket ∷ [])
     (yes 0 0x2 0x2 ∷ yes 0 0x2 0x2 ∷ yes 0 0x2 0x2 ∷ yes 0 0x2 0x2 ∷ yes 1 0x2 0x2 ∷ yes 1 0x2 0x3 ∷ yes 1 0x2 0x3
     ∷ packetLine 4 1 3 0x2 0x3 ∷ packetLine 1 1 3 0x2 0x3 ∷ no 22 0x2 0x3 ∷ [])
-    -- a place that it freed serves a new wait
+    -- a wait that comes later is newer than those that were left
+    ∷ scriptOf streamKind 7
+    (c (wait 2 1 1 0) ∷ c (wait 2 2 1 0) ∷ c (wait 2 3 1 0) ∷ c (cancel 2 1) ∷ c (wait 2 4 1 0) ∷ w 1 4096 1
+    ∷ c takePacket ∷ c takePacket ∷ c takePacket ∷ c takePacket ∷ [])
+    (yes 0 0x2 0x2 ∷ yes 0 0x2 0x2 ∷ yes 0 0x2 0x2 ∷ yes 1 0x2 0x2 ∷ yes 0 0x2 0x2 ∷ yes 1 0x2 0x3
+    ∷ packetLine 4 1 3 0x2 0x3 ∷ packetLine 3 1 3 0x2 0x3 ∷ packetLine 2 1 3 0x2 0x3 ∷ no 22 0x2 0x3 ∷ [])
+    -- the place of a packet serves a new wait, and so does that of a wait
+    ∷ scriptOf streamKind 7
+    (replicate 127 (c (wait 1 1 4 0)) ++ (c (wait 1 2 2 0) ∷ c (wait 1 3 4 0) ∷ c (cancel 1 2) ∷ c (wait 1 3 4 0) ∷ []))
+    (replicate 127 (yes 0 0x2 0x2) ++ (yes 0 0x2 0x2 ∷ no 3 0x2 0x2 ∷ yes 1 0x2 0x2 ∷ yes 0 0x2 0x2 ∷ []))
     ∷ scriptOf streamKind 7
     (replicate 127 (c (wait 1 1 4 0)) ++ (c (wait 1 2 4 0) ∷ c (wait 1 3 4 0) ∷ c (cancel 1 2) ∷ c (wait 1 3 4 0) ∷ c (wait 1 3 4 0) ∷ c (cancel 1 1) ∷ []))
     (replicate 127 (yes 0 0x2 0x2) ++ (yes 0 0x2 0x2 ∷ no 3 0x2 0x2 ∷ yes 1 0x2 0x2 ∷ yes 0 0x2 0x2 ∷ no 3 0x2 0x2 ∷ yes 127 0x2 0x2 ∷ []))
     ∷ []
 
--- ---- a table that no run leaves: three packets, four waits, of which one is of no end, and two unused places that are not zero
+-- ---- a table that no run leaves, of 14 places: five packets, seven waits, of which one is of no end, and two unused places that are not zero
 
 abbrev pub place : (key mask observed number : ℕ) → Place
 place key mask observed number = record { key = key; mask = mask; observed = observed; end = number }
@@ -58,33 +69,33 @@ abbrev pub before : Places
 unfolding linesOf
 before =
     tableOf
-    (place 5 1 1 1 ∷ place 6 2 2 1 ∷ place 5 3 3 2 ∷ [])
-    (place 5 4 0 1 ∷ place 5 5 0 2 ∷ place 4294967301 6 0 1 ∷ place 5 7 0 3 ∷ [])
+    (place 5 1 1 1 ∷ place 6 2 2 1 ∷ place 5 3 3 2 ∷ place 5 4 4 1 ∷ place 4294967301 5 5 1 ∷ [])
+    (place 5 6 0 1 ∷ place 5 7 0 2 ∷ place 4294967301 8 0 1 ∷ place 5 9 0 3 ∷ place 5 10 0 1 ∷ place 6 11 0 1 ∷ place 7 12 0 1 ∷ [])
     unusedPlaces
 
--- without what is of end 1 and has the key 5: two places are freed, and stand zeroed before the unused ones
+-- without what is of end 1 and has the key 5: four places are freed, and stand zeroed before the unused ones
 abbrev pub after1 : Places
 unfolding linesOf
 after1 =
     tableOf
-    (place 6 2 2 1 ∷ place 5 3 3 2 ∷ [])
-    (place 5 5 0 2 ∷ place 4294967301 6 0 1 ∷ place 5 7 0 3 ∷ [])
-    (free ∷ free ∷ unusedPlaces)
+    (place 6 2 2 1 ∷ place 5 3 3 2 ∷ place 4294967301 5 5 1 ∷ [])
+    (place 5 7 0 2 ∷ place 4294967301 8 0 1 ∷ place 5 9 0 3 ∷ place 6 11 0 1 ∷ place 7 12 0 1 ∷ [])
+    (free ∷ free ∷ free ∷ free ∷ unusedPlaces)
 
--- without what is of end 2
+-- without what is of end 2 and has the key 5
 abbrev pub after2 : Places
 unfolding linesOf
 after2 =
     tableOf
-    (place 5 1 1 1 ∷ place 6 2 2 1 ∷ [])
-    (place 5 4 0 1 ∷ place 4294967301 6 0 1 ∷ place 5 7 0 3 ∷ [])
+    (place 5 1 1 1 ∷ place 6 2 2 1 ∷ place 5 4 4 1 ∷ place 4294967301 5 5 1 ∷ [])
+    (place 5 6 0 1 ∷ place 4294967301 8 0 1 ∷ place 5 9 0 3 ∷ place 5 10 0 1 ∷ place 6 11 0 1 ∷ place 7 12 0 1 ∷ [])
     (free ∷ free ∷ unusedPlaces)
 
 pub record CancelCases : Type 0 where
   pub lines : Show cancelScripts
   pub first : cancelledOf true 5 before ≡ after1
   pub second : cancelledOf false 5 before ≡ after2
-  pub count : matching true 5 before ≡ 2
+  pub count : matching true 5 before ≡ 4
   -- nothing matches, and the table stays as it is
-  pub noCount : matching true 7 before ≡ 0
-  pub same : cancelledOf true 7 before ≡ before
+  pub noCount : matching true 9 before ≡ 0
+  pub same : cancelledOf true 9 before ≡ before

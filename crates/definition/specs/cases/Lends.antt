@@ -6,7 +6,7 @@ use mathlib.Core.Bool.{false}
 use mathlib.Core.Path.{_≡_}
 use lib.ListN.{replicate}
 use Rattle.definition.specs.cases.States.{onStream, onDatagram, opened, closedWith, lentSlices, first, Row, queue, queued, none, is, refusedWith, rowWord}
-use Rattle.definition.specs.cases.LentCalls.{writesTo, writes, reads, infos, doneWord, refusedWord, lent, noSuchEnd, otherCalls}
+use Rattle.definition.specs.cases.LentCalls.{writesTo, writes, reads, infos, doneWord, refusedWord, lent, noSuchEnd, otherCalls, otherRefusals}
 use Rattle.definition.specs.Calls.{getInfo, Call, plainWrite, plainRead, control}
 
 -- a table of 7 entries
@@ -42,6 +42,7 @@ untestedRows =
     noSuchEnd (lent onStream (queued onStream) none) ++ noSuchEnd (lent onDatagram (queued onDatagram) none)
     ++ map (λ (c : Call). is (lent onStream (queued onStream) none) c 0) (otherCalls 1 ++ otherCalls 2)
     ++ map (λ (c : Call). is (lent onDatagram (queued onDatagram) none) c 0) (otherCalls 1 ++ otherCalls 2)
+    ++ otherRefusals (lent onStream (queued onStream) none) ++ otherRefusals (lent onDatagram (queued onDatagram) none)
     -- the record comes before the slices
     ++ (refusedWith (lent onStream (queue 8 3 0 0) none) (plainWrite 1) 1 ∷ refusedWith (lent onDatagram (queue 8 3 7 1) none) (plainRead 2 false) 1
     ∷ refusedWith (lent onDatagram (queue 8 3 7 1) none) (control (getInfo 1)) 1 ∷ [])

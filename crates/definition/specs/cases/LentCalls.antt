@@ -6,7 +6,7 @@ use mathlib.Core.List.{List, [], _∷_, _++_, map}
 use lib.IntN.{ℤ, pos, negℤ}
 use Rattle.definition.specs.declared.Queue.{Queue}
 use Rattle.definition.specs.declared.Endpoint.{Endpoint}
-use Rattle.definition.specs.Calls.{Call, Slices, state, write, plainWrite, read, plainRead, getInfo, control, State, setDisposition, shutdown, plainDisposition, plainShutdown, setReadThreshold, setWriteThreshold, getThresholds, wait, close}
+use Rattle.definition.specs.Calls.{Call, Slices, state, write, plainWrite, read, plainRead, getInfo, control, State, setDisposition, shutdown, plainDisposition, plainShutdown, setReadThreshold, setWriteThreshold, getThresholds, wait, takePacket, cancel, close}
 use Rattle.definition.specs.cases.States.{queued, pairOfEight, Row, row, none, opened, lentSlices, refusedWith}
 
 -- ---- calls that are lent a slice
@@ -55,10 +55,14 @@ noSuchEnd s =
     ∷ refusedWith s (read 3 1 4096 3 0) 10 ∷ refusedWith s (control (getInfo 3)) 11
     ∷ []
 
--- the calls that are lent no slice
+-- the calls that are lent no slice, and are done here
 abbrev pub otherCalls : (h : ℕ) → List Call
 otherCalls h =
     close h
     ∷ map control
     (setDisposition h 0 0 ∷ shutdown h 3 ∷ plainDisposition h 0 0 ∷ plainShutdown h true true ∷ setReadThreshold h 8
     ∷ setWriteThreshold h 8 ∷ getThresholds h ∷ wait h 1 1 1 ∷ [])
+
+-- the same of take and cancel, which find nothing here
+abbrev pub otherRefusals : State → List Row
+otherRefusals s = refusedWith s (control takePacket) 22 ∷ refusedWith s (control (cancel 1 1)) 25 ∷ refusedWith s (control (cancel 2 1)) 25 ∷ []

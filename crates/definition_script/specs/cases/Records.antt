@@ -28,7 +28,7 @@ right =
 abbrev wrong : List Body
 wrong =
     body 0 9 ∷ body 0 11 ∷ body 1 31 ∷ body 2 33 ∷ body 3 8 ∷ body 4 12 ∷ body 5 8 ∷ body 6 16 ∷ body 7 0 ∷ body 8 8 ∷ body 9 16 ∷ body 10 1 ∷ body 11 8
-    ∷ body 11 4105 ∷ body 12 8 ∷ body 12 17 ∷ body 13 8 ∷ body 13 12 ∷ body 255 9
+    ∷ body 11 4105 ∷ body 12 8 ∷ body 12 17 ∷ body 13 0 ∷ body 13 4 ∷ body 13 8 ∷ body 13 9 ∷ body 13 10 ∷ body 13 12 ∷ body 13 17 ∷ body 13 32 ∷ body 255 9
     ∷ []
 
 abbrev takes : List Body → List Bool
@@ -36,7 +36,7 @@ takes bs = map (λ (b : Body). isBody (b .tag) (b .length)) bs
 
 pub record Records : Type 0 where
   pub right : takes right ≡ replicate 14 true
-  pub wrong : takes wrong ≡ replicate 19 false
+  pub wrong : takes wrong ≡ replicate 25 false
   -- a whole record, cut ones, and one that no further bytes make good
   pub whole : recordOf (8 ∷ 4 ∷ 0 ∷ 2 ∷ 0 ∷ 0 ∷ 0 ∷ 9 ∷ []) ≡ Whole 8 4
   pub cut : recordOf (8 ∷ 4 ∷ 0 ∷ 2 ∷ 0 ∷ 0 ∷ []) ≡ Cut
