@@ -1,8 +1,12 @@
 // A call whose waits are visited last. A caller that keeps the pair in place so passes the table of places on only where a wait can fire, and
 // the table is rebuilt only where one does.
 use crate::parts;
+use definition::Endpoint;
 use definition::Pair;
+use definition::Queue;
+use definition::Span;
 use definition::Step;
+use definition::Thresholds;
 use endpoint::ends::EndsOutcome;
 ghost use mathlib.Core.Path.{_≡_};
 ghost use Rattle.definition.specs.Status.{pick};
@@ -50,12 +54,41 @@ pub fn visit_only(p: Pair, r: EndsOutcome) -> Pair
     parts::with_first_place(p, t)
 }
 
+// The same end, put together from its fields. Copied whole, the two ends of an outcome are stored and loaded in parts that do not match, for which a
+// processor waits.
+fn by_fields(e: Endpoint) -> Endpoint
+    ensures { λ r. ⌜ r ≡ e ⌝ }
+{
+    let t = e.thresholds;
+    let thresholds = Thresholds {
+        read: t.read,
+        write: t.write,
+    };
+    let q = e.queue;
+    let bytes = Span {
+        start: q.bytes.start,
+        count: q.bytes.count,
+    };
+    let lengths = Span {
+        start: q.lengths.start,
+        count: q.lengths.count,
+    };
+    Endpoint {
+        closed: e.closed,
+        read_disabled: e.read_disabled,
+        rights: e.rights,
+        signals: e.signals,
+        thresholds,
+        queue: Queue { bytes, lengths },
+    }
+}
+
 // The pair with the ends of an outcome.
 pub fn with_outcome(p: Pair, r: EndsOutcome) -> Pair
     ensures { λ q. ⌜ q ≡ withOutcome r p ⌝ }
 {
-    let one = r.one;
-    let two = r.two;
+    let one = by_fields(r.one);
+    let two = by_fields(r.two);
     let places = p.places;
     Pair {
         datagram: p.datagram,
