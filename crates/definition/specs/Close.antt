@@ -11,7 +11,7 @@ use Rattle.definition.specs.Signal.{WRITABLE, «PEER_CLOSED»}
 use Rattle.definition.specs.Effect.{peerWord, ifOpen, Effect, applied}
 use Rattle.definition.specs.declared.Step.{Step}
 
--- 01 "Delivered bytes", close: the queue is emptied and both its starts are 0; the rest of the record stays
+-- 01 "Delivered bytes", close: the end is closed, its queue is emptied and both starts of it are 0; the rest of the end, its word too, stays
 unfoldable pub closedEnd : Endpoint → Endpoint
 closedEnd e =
     record { closed = true; «read_disabled» = e .«read_disabled»; rights = e .rights; signals = e .signals; thresholds = e .thresholds; queue = noQueue }
