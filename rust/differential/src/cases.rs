@@ -1,4 +1,5 @@
-//! The named scripts of cases.txt, with what document 01 says of their lines.
+//! The named scripts of cases.txt, with what document 01, or for cancel 02 (i),
+//! says of their lines.
 
 use script::text::{encode, Missing};
 

@@ -1,5 +1,5 @@
-//! A pair of the original's sockets with what document 01 adds around it:
-//! handles 1 and 2 with rights words, 128 places for waits, the edge byte,
+//! A pair of the original's sockets with what documents 01 and 02 (i) add around
+//! it: handles 1 and 2 with rights words, 128 places for waits, the edge byte,
 //! taking without blocking, the number that a cancel removes, and one slice of
 //! user memory.
 

@@ -1,4 +1,4 @@
-//! What document 01 says of single scripts holds of the original.
+//! What documents 01 and 02 (i) say of single scripts holds of the original.
 
 use differential::cases::cases;
 use differential::machine::{Done, Machine};

@@ -1,5 +1,5 @@
-//! Random scripts and stored scripts reach every status that document 01 gives
-//! a call of the script program, and every branch that has a name.
+//! Random scripts and stored scripts reach every status that documents 01 and
+//! 02 (i) give a call of the script program, and every branch that has a name.
 
 use differential::branches::BRANCHES;
 use differential::compare::cover;

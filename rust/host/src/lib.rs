@@ -6,7 +6,8 @@
 //! reference counts or allocation.
 //!
 //! The code is the static library of the crate `host`, in which every function is proved to do what
-//! document 01 says, on every input. This crate declares its calls ([`raw`]) and gives them Rust's types.
+//! document 01 says, and cancel what request (i) of document 02 says, on every input. This crate declares its
+//! calls ([`raw`]) and gives them Rust's types.
 //!
 //! The feature `std` adds views of an end that are `std::io::Read` and `std::io::Write`.
 #![no_std]

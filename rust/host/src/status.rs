@@ -61,7 +61,7 @@ impl Status {
         self as i64
     }
 
-    /// The name in document 01 and in Zircon.
+    /// The name in document 01 or 02, and in Zircon.
     pub const fn name(self) -> &'static str {
         match self {
             Status::Internal => "INTERNAL",

@@ -1,4 +1,5 @@
-//! Random sequences of calls through the host's calls and through a model written from document 01.
+//! Random sequences of calls through the host's calls and through a model written from document 01, with
+//! cancel from 02 (i).
 
 mod support;
 

@@ -1,4 +1,5 @@
-//! What the tests share: a model written from document 01, calls, slices with guards around them, new pairs.
+//! What the tests share: a model written from document 01, with cancel from 02 (i), calls, slices with guards
+//! around them, new pairs.
 #![allow(dead_code)] // No test uses all of it.
 
 pub mod answers;
