@@ -18,8 +18,7 @@ pub const BRANCHES: [&str; 151] = [
     "a call fires several waits",
     "a handle refused as closed",
     "a handle refused as none",
-    "cancel finds nothing",
-    "cancel finds other keys only",
+    "cancel finds other keys at its end",
     "cancel finds the key at the other end only",
     "cancel frees places where all were used",
     "cancel leaves a key that is alike in 32 bits",
@@ -32,6 +31,7 @@ pub const BRANCHES: [&str; 151] = [
     "cancel removes several packets",
     "cancel removes several waits",
     "cancel removes waits and packets",
+    "cancel where no place is used",
     "close drops queued bytes",
     "close drops waits",
     "close leaves bytes at the peer",
@@ -564,8 +564,8 @@ impl Step<'_> {
         let facts = match self.answer {
             Err(-11) => vec![(gone > 0, "cancel of a closed end's packets")],
             Err(_) => vec![
-                (self.before.used() == 0, "cancel finds nothing"),
-                (held(&|(at, _)| at == end), "cancel finds other keys only"),
+                (self.before.used() == 0, "cancel where no place is used"),
+                (held(&|(at, _)| at == end), "cancel finds other keys at its end"),
                 (at_other, "cancel finds the key at the other end only"),
             ],
             Ok(_) => vec![

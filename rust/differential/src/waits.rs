@@ -82,9 +82,9 @@ impl Waits {
         if self.used() >= PLACES {
             return Err(status(ZxError::NO_RESOURCES));
         }
-        let source = (object.id(), handle);
-        self.port.wait_async(object, source, key, signal_of(mask), options, None);
-        self.second.wait_async(object, source, self.registered, signal_of(mask), options, None);
+        let object_and_handle = (object.id(), handle);
+        self.port.wait_async(object, object_and_handle, key, signal_of(mask), options, None);
+        self.second.wait_async(object, object_and_handle, self.registered, signal_of(mask), options, None);
         self.waiting.insert(self.registered, (end, key));
         self.registered += 1;
         Ok(())
