@@ -21,4 +21,4 @@ packets-in-order = refl
 
 pub cancels-in-order : CancelCases
 unfolding cancelScripts scriptLines linesOf
-cancels-in-order = record { lines = refl; first = refl; second = refl; count = refl; noCount = refl; same = refl }
+cancels-in-order = record { lines = refl; first = refl; second = refl; count = refl; noCount = refl; same = refl; rest = refl }

@@ -1,4 +1,5 @@
--- Cases of cancel: the order of its tests, end and key, waits and packets, what is left and its order, and the places that it frees. 02 (i).
+-- Cases of cancel: the order of its tests, end and key, waits and packets, what is left and its order, the places that it frees, and that the rest of
+-- the pair stays. 02 (i).
 use Prim.Native.Nat.{ℕ}
 use mathlib.Core.Bool.{true, false}
 use mathlib.Core.List.{List, [], _∷_, _++_}
@@ -8,12 +9,14 @@ use lib.IntN.{pos}
 use lib.ListN.{replicate}
 use Rattle.definition.specs.declared.Place.{Place}
 use Rattle.definition.specs.declared.Places.{Places}
+use Rattle.definition.specs.declared.Pair.{Pair}
 use Rattle.definition.specs.declared.Record.the-variants.{Packet}
 use Rattle.definition.specs.declared.SignalWord.the-variants.{Closed, Word}
-use Rattle.definition.specs.Port.{free, tableOf, matching, cancelledOf}
+use Rattle.definition.specs.Port.{free, tableOf, matching, cancelledOf, cancelled}
 use Rattle.definition.specs.Calls.{wait, takePacket, cancel, close}
 use Rattle.definition.specs.cases.Lines.{linesOf}
-use Rattle.definition.specs.cases.Scripts.{line, streamKind, on, c, w, yes, no, yes1, no1, packetLine, Script, scriptOf, Show}
+use Rattle.definition.specs.cases.Scripts.{line, streamKind, datagramKind, on, c, w, yes, no, yes1, no1, packetLine, Script, scriptOf, Show}
+use Rattle.definition.specs.cases.States.{queue}
 
 unfoldable pub cancelScripts : List Script
 cancelScripts =
@@ -25,6 +28,12 @@ cancelScripts =
     (yes 0 0x2 0x2 ∷ yes1 0 0x4 ∷ no1 11 0x4 ∷ no1 25 0x4
     ∷ line (pos 0) (Word 0x4) Closed [] (some (Packet (record { key = 1; trigger = 2; observed = 2; count = 1; timestamp = 0 })))
     ∷ [])
+    -- a closed end is −11 also where nothing matches; with a closed peer a wait can be cancelled, and then nothing matches
+    ∷ scriptOf streamKind 7 (c (wait 1 1 1 0) ∷ on (close 2) ∷ c (cancel 2 1) ∷ c (cancel 1 1) ∷ c (cancel 1 1) ∷ [])
+    (yes 0 0x2 0x2 ∷ yes1 0 0x4 ∷ no1 11 0x4 ∷ yes1 1 0x4 ∷ no1 25 0x4 ∷ [])
+    -- on a datagram pair; the key 0 is one key and not every key: it does not find the packet with the key 5, and does find the wait with the key 0
+    ∷ scriptOf datagramKind 7 (c (wait 2 5 2 0) ∷ c (cancel 2 0) ∷ c (wait 2 0 1 0) ∷ c (cancel 2 0) ∷ c (cancel 2 5) ∷ [])
+    (yes 0 0x2 0x2 ∷ no 25 0x2 0x2 ∷ yes 0 0x2 0x2 ∷ yes 1 0x2 0x2 ∷ yes 1 0x2 0x2 ∷ [])
     -- the end counts, and all 64 bits of the key
     ∷ scriptOf streamKind 7 (c (wait 1 7 4 0) ∷ c (wait 2 7 4 0) ∷ c (cancel 1 7) ∷ c (cancel 1 7) ∷ c (cancel 2 7) ∷ [])
     (yes 0 0x2 0x2 ∷ yes 0 0x2 0x2 ∷ yes 1 0x2 0x2 ∷ no 25 0x2 0x2 ∷ yes 1 0x2 0x2 ∷ [])
@@ -91,6 +100,19 @@ after2 =
     (place 5 6 0 1 ∷ place 4294967301 8 0 1 ∷ place 5 9 0 3 ∷ place 5 10 0 1 ∷ place 6 11 0 1 ∷ place 7 12 0 1 ∷ [])
     (free ∷ free ∷ unusedPlaces)
 
+-- a datagram pair with this table; each end has rights, a word, thresholds and a queue of its own and reading disabled, and end 2 is closed
+abbrev pub pairWith : Places → Pair
+pairWith t =
+    record {
+      datagram = true;
+      spare1 = 1;
+      spare2 = 2;
+      capacity = 8;
+      one = record { closed = false; «read_disabled» = true; rights = 5; signals = 0x411; thresholds = record { read = 2; write = 3 }; queue = queue 7 3 6 2 };
+      two = record { closed = true; «read_disabled» = true; rights = 3; signals = 0x824; thresholds = record { read = 4; write = 1 }; queue = queue 5 4 3 1 };
+      places = t;
+    }
+
 pub record CancelCases : Type 0 where
   pub lines : Show cancelScripts
   pub first : cancelledOf true 5 before ≡ after1
@@ -99,3 +121,5 @@ pub record CancelCases : Type 0 where
   -- nothing matches, and the table stays as it is
   pub noCount : matching true 9 before ≡ 0
   pub same : cancelledOf true 9 before ≡ before
+  -- the rest of the pair stays as it is
+  pub rest : cancelled true 5 (pairWith before) ≡ pairWith after1

@@ -1,4 +1,4 @@
--- The worked example of 01 and what stops or ends a script, as bytes and the bytes of their listings. 01 "Script program".
+-- The worked example of 01 and what stops or ends a script, as bytes and the bytes of their listings. 01 "Script program", 02 (i).
 use Prim.Native.Nat.{ℕ}
 use mathlib.Core.List.{List, [], _∷_, _++_, map}
 use mathlib.Core.Path.{_≡_}
@@ -147,9 +147,12 @@ cancelledOne = 50 ∷ 32 ∷ 49 ∷ 32 ∷ 48 ∷ 48 ∷ 48 ∷ 48 ∷ 48 ∷ 48
 abbrev cancelledNone : List ℕ
 cancelledNone = 51 ∷ 32 ∷ 45 ∷ 50 ∷ 53 ∷ 32 ∷ 48 ∷ 48 ∷ 48 ∷ 48 ∷ 48 ∷ 48 ∷ 48 ∷ 50 ∷ 32 ∷ 48 ∷ 48 ∷ 48 ∷ 48 ∷ 48 ∷ 48 ∷ 48 ∷ 50 ∷ 10 ∷ []
 
--- a cancel of end 1; the key has two halves
-abbrev cancel : List ℕ
-cancel = entry 12 (n4 1 ++ n8 0x700000005)
+-- a wait for PEER_CLOSED; a cancel
+abbrev wait : (handle key : ℕ) → List ℕ
+wait h key = entry 9 (n4 h ++ (n8 key ++ (n4 4 ++ (0 ∷ []))))
+
+abbrev cancel : (handle key : ℕ) → List ℕ
+cancel h key = entry 12 (n4 h ++ n8 key)
 
 unfoldable pub cases : List Case
 cases =
@@ -167,8 +170,9 @@ cases =
     -- a fill below memory; a fill, a write, and info of the end that it went to
     ∷ lists (creates 0 ++ fill 65535 abc) (line0 ++ notFilled)
     ∷ lists (creates 1 ++ (fill 65536 abc ++ (write 1 3 ++ entry 7 (n4 2)))) (line0 ++ (filledLine ++ (wrote3 ++ datagramInfo)))
-    -- a wait, its cancel, and a cancel that finds nothing
-    ∷ lists (creates 0 ++ (entry 9 (n4 1 ++ (n8 0x700000005 ++ (n4 4 ++ (0 ∷ [])))) ++ (cancel ++ cancel))) (line0 ++ (line1 ++ (cancelledOne ++ cancelledNone)))
+    -- a wait, its cancel, and a cancel that finds nothing: the key has two halves; the handle is the record's
+    ∷ lists (creates 0 ++ (wait 1 0x700000005 ++ (cancel 1 0x700000005 ++ cancel 1 0x700000005))) (line0 ++ (line1 ++ (cancelledOne ++ cancelledNone)))
+    ∷ lists (creates 0 ++ (wait 2 5 ++ (cancel 2 5 ++ cancel 1 5))) (line0 ++ (line1 ++ (cancelledOne ++ cancelledNone)))
     -- a peek, and a read whose count lands over its bytes; then nothing is queued
     ∷ lists (creates 0 ++ (fill 65536 abc ++ (write 1 3 ++ (moves 2 2 8 65600 3 0 ++ (moves 2 2 0 65600 8 65601 ++ moves 2 2 0 65600 8 0)))))
     (line0 ++ (filledLine ++ (wrote3 ++ (peeked ++ (readAll ++ readAgain)))))
