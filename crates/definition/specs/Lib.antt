@@ -1,6 +1,7 @@
 -- Where each paragraph of document 01 is defined. Every name is defined once.
 --   Status and answer word    Status: statuses, answers, the answer word. Tests: the record, the slices, the handle. Create
---   Signal word and packets   Signal: the word. Port: the 128 places, wait, take. Effect: what a call does to both ends, the changes of words in their order, and the pair after it
+--   Signal word and packets   Signal: the word. Port: the 128 places, wait, take, cancel (02 (i)).
+--                             Effect: what a call does to both ends, the changes of words in their order, and the pair after it
 --   Delivered bytes           Ring: a queue in its ring. Write, Read, Threshold, Disposition, Shutdown, Close, each with its effect
 --   Info record               Info
 --   Calls over user memory    Memory: ranges, the count, the lookup. Write, Read, Disposition and Shutdown have these calls behind the plain ones

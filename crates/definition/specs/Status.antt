@@ -1,4 +1,4 @@
--- Statuses and answers: their numbers and words, and the tests with their statuses that every answer is written with. 01 "Status and answer word".
+-- Statuses and answers: their numbers and words, and the tests with their statuses that every answer is written with. 01 "Status and answer word", 02 (i).
 use Prim.Native.Nat.{ℕ}
 use mathlib.Core.Bool.{Bool, true, false}
 use lib.IntN.{ℤ, pos, negℤ}

@@ -1,5 +1,5 @@
 // Every record and enum of the pair and its calls. There is no function here: what the calls do is defined in specs/, one file for each
-// paragraph or call of document 01, and the functions of the other crates are proved to do it.
+// paragraph or call of documents 01 and 02 (i), and the functions of the other crates are proved to do it.
 
 // Why a call is refused. `statusNumber` gives each its number.
 pub enum Status {

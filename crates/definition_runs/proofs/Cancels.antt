@@ -24,11 +24,13 @@ counts p h key d =
     ap countOf (then-is _ _ (a .0) ∙ then-is _ _ (b .0))
 
 -- its next pair
-goes : (p : Pair) (h key : ℕ) → isDone (cancelAnswer p h key) ≡ true → pick (isDone (cancelAnswer p h key)) (cancelled (isOne h) key p) p ≡ cancelled (isOne h) key p
+goes : (p : Pair) (h key : ℕ) → isDone (cancelAnswer p h key) ≡ true
+    → pick (isDone (cancelAnswer p h key)) (cancelled (isOne h) key p) p ≡ cancelled (isOne h) key p
 unfolding pick
 goes p h key d = rw d refl
 
-left : (p : Pair) (h key : ℕ) → used (p .places) ≤ length (p .places .table) → used (cancelled (isOne h) key p .places) + matching (isOne h) key (p .places) ≡ used (p .places)
+left : (p : Pair) (h key : ℕ) → used (p .places) ≤ length (p .places .table)
+    → used (cancelled (isOne h) key p .places) + matching (isOne h) key (p .places) ≡ used (p .places)
 unfolding cancelled withPlaces
 left p h key l = used-cancelled (isOne h) key (p .places) l
 

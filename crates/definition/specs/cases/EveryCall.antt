@@ -13,7 +13,8 @@ use Rattle.definition.specs.cases.States.{finding}
 -- by one handle; most have more wrong with them, which is tested later
 abbrev pub callsBy : (h : ℕ) → List Call
 callsBy h =
-    write h 1 0 1 1 ∷ write h 0 4096 3 0 ∷ read h 1 0 1 1 ∷ read h 0 4096 3 0 ∷ read h 8 4096 3 0 ∷ plainWrite h ∷ plainRead h false ∷ plainRead h true ∷ close h
+    write h 1 0 1 1 ∷ write h 0 4096 3 0 ∷ read h 1 0 1 1 ∷ read h 0 4096 3 0 ∷ read h 8 4096 3 0
+    ∷ plainWrite h ∷ plainRead h false ∷ plainRead h true ∷ close h
     ∷ map control
     (setDisposition h 3 3 ∷ shutdown h 0 ∷ plainDisposition h 3 3 ∷ plainShutdown h true true ∷ setReadThreshold h 9
     ∷ setWriteThreshold h 9 ∷ getThresholds h ∷ getInfo h ∷ wait h 0 0 2 ∷ cancel h 0 ∷ [])
