@@ -1,5 +1,5 @@
-//! Where the original, called directly, does other than document 01. The
-//! harness stands between in each of these, so no script shows them.
+//! Where the original, called directly, does other than documents 01 and 02 (i).
+//! The harness stands between in each of these, so no script shows them.
 
 use std::future::Future;
 use std::sync::Arc;

@@ -1,4 +1,4 @@
-//! Document 01's cases at the edges, through the types of this crate. C is 8.
+//! Document 01's cases at the edges, and cancel (02 (i)), through the types of this crate. C is 8.
 
 mod support;
 
