@@ -34,7 +34,7 @@ const NONE: Case = Case {
 /// The lower 32 bits are those of 7.
 const TWIN: u64 = 0x1_0000_0007;
 
-const CASES: [Case; 14] = [
+const CASES: [Case; 15] = [
     NONE,
     Case { name: "one wait", waits: &[(7, 1)], word: 1, ..NONE },
     Case { name: "one packet", packets: &[(7, 1)], word: 1, ..NONE },
@@ -103,6 +103,7 @@ const CASES: [Case; 14] = [
         left: [&[0], &[]],
         ..NONE
     },
+    Case { name: "a closed end, and no match", closed: [true, false], word: -11, ..NONE },
     Case {
         name: "a closed peer",
         closed: [false, true],
@@ -114,7 +115,7 @@ const CASES: [Case; 14] = [
     },
 ];
 
-/// The places from one on, each other than all others; a wait has observed nothing.
+/// Places numbered from `from` on, no two alike; a wait has observed nothing.
 fn places(held: &[Held], from: usize, packets: bool) -> Vec<Place> {
     let place = |(at, (key, end)): (usize, &Held)| Place {
         key: *key,
@@ -176,6 +177,7 @@ enum Fault {
     KeyIn32Bits,
     PacketsNotCounted,
     NotFoundBeforeBadHandle,
+    NotFoundBeforeClosedEnd,
     FreedPlacesAsTheyWere,
     FreedPlacesBehindTheUnused,
     DoneWithNothing,
@@ -185,7 +187,7 @@ enum Fault {
 use Fault::*;
 
 /// Each fault with the case that is the first to show it.
-const SEEN: [(Fault, &str); 12] = [
+const SEEN: [(Fault, &str); 13] = [
     (EndIgnored, "the end counts"),
     (WaitsOnly, "one packet"),
     (PacketsOnly, "one wait"),
@@ -194,6 +196,7 @@ const SEEN: [(Fault, &str); 12] = [
     (KeyIn32Bits, "all 64 bits of the key"),
     (PacketsNotCounted, "one packet"),
     (NotFoundBeforeBadHandle, "no handle, and no match"),
+    (NotFoundBeforeClosedEnd, "a closed end, and no match"),
     (FreedPlacesAsTheyWere, "one wait"),
     (FreedPlacesBehindTheUnused, "one wait"),
     (DoneWithNothing, "nothing there"),
@@ -207,7 +210,8 @@ fn cancel_with(fault: Fault, pair: &mut Pair, handle: u32, key: u64) -> i64 {
         2 => pair.two.closed,
         _ => true,
     };
-    let refused = closed && !(fault == ClosedEndsToo && (1..=2).contains(&handle));
+    let named = (1..=2).contains(&handle);
+    let refused = closed && !(fault == ClosedEndsToo && named);
     let goes = |place: &Place| {
         let same_key = place.key == key || fault == KeyIn32Bits && place.key as u32 == key as u32;
         same_key && (place.end == handle.into() || fault == EndIgnored)
@@ -220,6 +224,7 @@ fn cancel_with(fault: Fault, pair: &mut Pair, handle: u32, key: u64) -> i64 {
     let removed = gone + if skips { 0 } else { remove(&mut waiting, fault, goes) };
     match removed {
         0 if fault == NotFoundBeforeBadHandle => return -25,
+        0 if fault == NotFoundBeforeClosedEnd && named => return -25,
         _ if refused => return -11,
         0 if fault != DoneWithNothing => return -25,
         _ => {}
