@@ -2,11 +2,12 @@ use Prim.Native.Nat.{_+_, _-_}
 use mathlib.Core.Path.{_∙_}
 use denote.Ref.{now}
 use native.Mathlib.Omega.{arith}
-use Rattle.transfer.proofs.user_memory.Landed.{part-length, read-room, user-delivers}
-use Rattle.transfer.proofs.user_memory.Outcomes.{bytes-none, bytes-some}
+use Rattle.transfer.proofs.change.UserMemory.{part-length}
+use Rattle.transfer.proofs.read.user_memory.Landed.{read-room, user-delivers}
+use Rattle.transfer.proofs.read.user_memory.Outcomes.{bytes-none, bytes-some}
 use borrow.Author.Needs.{needs}
-use Rattle.transfer.proofs.user_memory.read_bytes_transfer.Statement.{statement}
-use Rattle.transfer.proofs.user_memory.read_bytes_transfer.Tie as tie
+use Rattle.transfer.proofs.read.user_memory.read_bytes_transfer.Statement.{statement}
+use Rattle.transfer.proofs.read.user_memory.read_bytes_transfer.Tie as tie
 
 read-answer-requires : tie.Need-read-answer-requires
 read-answer-requires c κs = search needs

@@ -1,8 +1,8 @@
 use mathlib.Core.Path.{refl}
 use Rattle.endpoint.proofs.answer.Rules.{pick-on, pick-off, via}
 use borrow.Author.Needs.{needs}
-use Rattle.transfer.proofs.user_memory.land_none.Statement.{statement}
-use Rattle.transfer.proofs.user_memory.land_none.Tie as tie
+use Rattle.transfer.proofs.write.user_memory.land_none.Statement.{statement}
+use Rattle.transfer.proofs.write.user_memory.land_none.Tie as tie
 
 is-done-requires : tie.Need-is-done-requires
 is-done-requires c κs = search needs
