@@ -22,7 +22,7 @@ pub extern "C" fn murgwethan_user_write(
 ) -> i64
     ensures { λ w. ⌜ Answered (UserWrites (now (p .entry)) handle base options address count «count_at» (now (memory .entry)) (now (memory .exit)) (now (ring .entry)) (now (ring .exit)) (now (table .entry)) (now (table .exit))) (now (p .exit)) w ⌝ }
 {
-    let t = transfer::user_memory::write_transfer(
+    let t = transfer::write::user_memory::write_transfer(
         socket::ends_of(*p),
         handle,
         options,
@@ -53,7 +53,7 @@ pub extern "C" fn murgwethan_user_read(
 ) -> i64
     ensures { λ w. ⌜ Answered (UserReads (now (p .entry)) handle base options address count «count_at» (now (ring .entry)) (now (table .entry)) (now (memory .entry)) (now (memory .exit))) (now (p .exit)) w ⌝ }
 {
-    let t = transfer::user_memory::read_transfer(
+    let t = transfer::read::user_memory::read_transfer(
         socket::ends_of(*p),
         handle,
         options,

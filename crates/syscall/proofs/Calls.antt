@@ -7,7 +7,7 @@ use Rattle.definition.specs.declared.Step.{Step}
 use Rattle.definition.specs.Memory.{countPut}
 use Rattle.definition.specs.Read.{BytesRead, UserReads}
 use Rattle.definition.specs.Status.{pick, countOf, isDone}
-use Rattle.transfer.proofs.user_memory.Landed.{count-lands}
+use Rattle.transfer.proofs.read.user_memory.Landed.{count-lands}
 
 -- a read but for its count, with the count after it, is the whole read
 pub count-after : (p : Pair) (h base options address n countAt : ℕ) (ring table memory memory′ memory″ : List ℕ) (r : Step)

@@ -17,8 +17,10 @@ use Rattle.endpoint.proofs.answer.Chains.{counted}
 use Rattle.transfer.specs.declared.change.Transfer.{Transfer}
 use Rattle.transfer.specs.read.ReadChange.{readBy, ReadChanges}
 use Rattle.transfer.specs.write.WriteChange.{wroteBy}
-use Rattle.transfer.specs.user_memory.Transfers.{UserWrote, UserBytesRead, UserRead}
-use Rattle.transfer.proofs.user_memory.Passed.{write-passed, read-passed}
+use Rattle.transfer.specs.read.user_memory.UserRead.{UserBytesRead, UserRead}
+use Rattle.transfer.specs.write.user_memory.UserWrite.{UserWrote}
+use Rattle.transfer.proofs.read.user_memory.Passed.{read-passed}
+use Rattle.transfer.proofs.write.user_memory.Passed.{write-passed}
 use Rattle.socket.specs.Deferred.{settledStep}
 use Rattle.socket.proofs.Settled.{wrote-settled, read-settled}
 

@@ -29,7 +29,7 @@ pub fn write(
     ensures { λ r. ⌜ UserWrites p handle base options address count «count_at» (now (memory .entry)) (now (memory .exit)) (now (ring .entry)) (now (ring .exit)) (now (table .entry)) (now (table .exit)) r ⌝ }
 {
     let e = ends_of(p);
-    let t = transfer::user_memory::write_transfer(
+    let t = transfer::write::user_memory::write_transfer(
         e,
         handle,
         options,
@@ -60,7 +60,7 @@ pub fn read_bytes(
     ensures { λ r. ⌜ BytesRead p handle base options address count «count_at» (now (ring .entry)) (now (table .entry)) (now (memory .entry)) (now (memory .exit)) r ⌝ }
 {
     let e = ends_of(p);
-    let t = transfer::user_memory::read_bytes_transfer(
+    let t = transfer::read::user_memory::read_bytes_transfer(
         e,
         handle,
         options,
@@ -91,7 +91,7 @@ pub fn read(
     ensures { λ r. ⌜ UserReads p handle base options address count «count_at» (now (ring .entry)) (now (table .entry)) (now (memory .entry)) (now (memory .exit)) r ⌝ }
 {
     let e = ends_of(p);
-    let t = transfer::user_memory::read_transfer(
+    let t = transfer::read::user_memory::read_transfer(
         e,
         handle,
         options,

@@ -1,4 +1,3 @@
 pub mod change
 pub mod read
-pub mod user_memory
 pub mod write

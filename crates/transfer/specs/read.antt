@@ -1,1 +1,2 @@
 pub mod ReadChange
+pub mod user_memory

@@ -1,1 +1,2 @@
 pub mod WriteChange
+pub mod user_memory

@@ -30,6 +30,8 @@ ghost use Rattle.endpoint.specs.ends.AtOnce.{movedBy};
 ghost use Rattle.endpoint.specs.ends.Outcome.{canFire};
 ghost use Rattle.transfer.specs.read.ReadChange.{drainedEffect, readBy, DrainChanges, ReadChanges, Drain, Deliver, Read};
 
+pub mod user_memory;
+
 // The bytes that leave the queue: a datagram leaves whole.
 fn leaving_of(datagram: bool, first: u32, k: u32) -> u32
     ensures { λ r. ⌜ r ≡ leaving datagram first k ⌝ }
@@ -66,9 +68,10 @@ fn drained_queue(datagram: bool, capacity: u32, n: u32, q: Queue) -> Queue
 }
 
 // Copies the first k bytes of a queue into the buffer.
-pub(crate) fn deliver(capacity: u32, start: u32, k: u32, ring: &[u8], buffer: &mut [u8])
+fn deliver(capacity: u32, start: u32, k: u32, ring: &[u8], buffer: &mut [u8])
     requires { ⌜ ((k ≡ 0 → ⊥) → (start < capacity) × (k ≤ capacity) × (capacity ≤ length (now ring)) × (k ≤ length (now buffer))) ⌝ }
-    ensures { λ _. ⌜ now (buffer .exit) ≡ pick (eqb k 0) (now (buffer .entry)) (paste (now (buffer .entry)) 0 (front capacity start k (now (ring .entry))) k) ⌝ }
+    ensures { λ _. ⌜ now (buffer .exit) ≡ pick (eqb k 0) (now (buffer .entry))
+        (paste (now (buffer .entry)) 0 (front capacity start k (now (ring .entry))) k) ⌝ }
 {
     if k == 0 {
         return;
@@ -113,7 +116,7 @@ fn drained(
 }
 
 // What changes by a read that delivered k bytes: a peek, or a read that delivered nothing, changes nothing.
-pub(crate) fn drain_transfer(
+fn drain_transfer(
     datagram: bool,
     capacity: u32,
     own: Endpoint,
@@ -227,7 +230,8 @@ pub fn read_outcome(p: Ends, handle: u32, t: Transfer) -> EndsOutcome
 
 // Whether bytes left by a read whose peer is open, and no wait can fire.
 pub fn is_read_without_visit(p: Ends, handle: u32, t: Transfer) -> bool
-    ensures { λ r. ⌜ r ≡ (t .moves and not (peer (isOne handle) p .closed) and not (canFire (p .waits) (movedBy (isOne handle) (drainedEffect (own (isOne handle) p) (peer (isOne handle) p) t) .visits))) ⌝ }
+    ensures { λ r. ⌜ r ≡ (t .moves and not (peer (isOne handle) p .closed)
+        and not (canFire (p .waits) (movedBy (isOne handle) (drainedEffect (own (isOne handle) p) (peer (isOne handle) p) t) .visits))) ⌝ }
 {
     if !t.moves {
         return false;

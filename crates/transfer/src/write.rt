@@ -25,6 +25,8 @@ ghost use Rattle.endpoint.specs.ends.AtOnce.{movedBy};
 ghost use Rattle.endpoint.specs.ends.Outcome.{canFire};
 ghost use Rattle.transfer.specs.write.WriteChange.{fedEffect, wroteBy, FeedChanges, WriteChanges, Feed, Wrote};
 
+pub mod user_memory;
+
 // The queue that m bytes went into.
 fn fed_queue(datagram: bool, m: u32, q: Queue) -> Queue
     requires { ⌜ (q .bytes .count + m < 2 ^ 32) × (datagram ≡ true → q .lengths .count + 1 < 2 ^ 32) ⌝ }
@@ -49,7 +51,7 @@ fn fed_queue(datagram: bool, m: u32, q: Queue) -> Queue
 }
 
 // Copies m bytes behind those queued, and on datagram pairs puts their length behind those queued.
-pub(crate) fn feed(
+fn feed(
     datagram: bool,
     capacity: u32,
     q: Queue,
@@ -79,7 +81,7 @@ pub(crate) fn feed(
 }
 
 // What changes where m bytes went in.
-pub(crate) fn fed(
+fn fed(
     datagram: bool,
     capacity: u32,
     own: Endpoint,
@@ -179,7 +181,8 @@ pub fn write_outcome(p: Ends, handle: u32, t: Transfer) -> EndsOutcome
 
 // Whether bytes went in by a write, and no wait can fire.
 pub fn is_write_without_visit(p: Ends, handle: u32, t: Transfer) -> bool
-    ensures { λ r. ⌜ r ≡ (t .moves and not (canFire (p .waits) (movedBy (isOne handle) (fedEffect (own (isOne handle) p) (peer (isOne handle) p) t) .visits))) ⌝ }
+    ensures { λ r. ⌜ r ≡ (t .moves
+        and not (canFire (p .waits) (movedBy (isOne handle) (fedEffect (own (isOne handle) p) (peer (isOne handle) p) t) .visits))) ⌝ }
 {
     if !t.moves {
         return false;

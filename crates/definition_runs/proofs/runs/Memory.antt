@@ -18,7 +18,7 @@ use Rattle.transfer.proofs.read.Moved.{read-drains}
 use Rattle.definition.specs.declared.Pair.{Pair}
 use Rattle.definition.specs.Pair.{isOne, endsOf, own}
 use Rattle.definition.specs.Tests.{lentOf}
-use Rattle.transfer.proofs.user_memory.Landed.{read-room, user-delivers}
+use Rattle.transfer.proofs.read.user_memory.Landed.{read-room, user-delivers}
 
 -- ---- lists
 

@@ -15,8 +15,8 @@ use Rattle.definition.specs.Pair.{isOne, peer, endsOf}
 use Rattle.definition.specs.Tests.{lentOf}
 use Rattle.definition.specs.Memory.{fits, littleEndian, countPut}
 use Rattle.user_answers.proofs.memory.Landed.{fits-in, count-put, count-none, count-out, count-in}
-use Rattle.transfer.proofs.user_memory.Landed.{landed-length}
-use Rattle.transfer.proofs.user_memory.Passed.{write-passed}
+use Rattle.transfer.proofs.read.user_memory.Landed.{landed-length}
+use Rattle.transfer.proofs.write.user_memory.Passed.{write-passed}
 use Rattle.definition_script.specs.declared.Decoded.{Decoded}
 use Rattle.definition_script.specs.declared.Decoded.the-variants.{Whole, Bad, Cut}
 use Rattle.definition_script.specs.declared.TransferBody.{TransferBody}

@@ -62,12 +62,12 @@ use Rattle.socket.proofs.Visiting.{places-128}
 use Rattle.kept.proofs.pair.Stored.{settled-as}
 use Rattle.kept.proofs.transfers.Stored.{passed-on, wrote-answer}
 use Rattle.definition.specs.Write.{UserWrites}
-use Rattle.transfer.specs.user_memory.Transfers.{UserWrote}
+use Rattle.transfer.specs.write.user_memory.UserWrite.{UserWrote}
 use Rattle.syscall.proofs.Settled.{wrote-whole}
-use Rattle.transfer.proofs.user_memory.write_transfer as step
-use Rattle.transfer.proofs.user_memory.write_transfer.Symbol as step-def
-use Rattle.transfer.proofs.user_memory.write_transfer.Symbol.{name as #step}
-use Rattle.transfer.proofs.user_memory.write_transfer.Met as step-thm
+use Rattle.transfer.proofs.write.user_memory.write_transfer as step
+use Rattle.transfer.proofs.write.user_memory.write_transfer.Symbol as step-def
+use Rattle.transfer.proofs.write.user_memory.write_transfer.Symbol.{name as #step}
+use Rattle.transfer.proofs.write.user_memory.write_transfer.Met as step-thm
 use Rattle.socket.proofs.ends_of as ends
 use Rattle.socket.proofs.ends_of.Symbol as ends-def
 use Rattle.socket.proofs.ends_of.Symbol.{name as #ends}
@@ -186,6 +186,6 @@ murgwethan-user-write-spec 𝓤 H 𝓜 𝓖 𝓡 =
     entered 𝓤 H (tripleOf 𝓤 H (𝓖 .A) f.signature (f.spec 𝓤 H (𝓖 .A) (𝓜 .mem) (𝓡 .run)))
     (tables 𝓤 H 𝓜 𝓡 code.env .C) (tables 𝓤 H 𝓜 𝓡 code.env .Λ) #own code.function (code.unfolded 𝓤 H 𝓜 𝓡)
     (meets 𝓤 H (𝓖 .A) (givenOf 𝓤 H 𝓜 𝓖) (𝓜 .mem) (𝓡 .run) (tablesOf 𝓤 H 𝓜 (tables 𝓤 H 𝓜 𝓡 code.env))
-    (cited 𝓤 H (Called 𝓤 H (𝓖 .A) (𝓜 .mem) (𝓡 .run)) 𝓜 𝓡 code.env #step step-def.routine code.calls-transfer·user-memory·write-transfer (step-thm.met 𝓤 H 𝓜 𝓖 𝓡))
+    (cited 𝓤 H (Called 𝓤 H (𝓖 .A) (𝓜 .mem) (𝓡 .run)) 𝓜 𝓡 code.env #step step-def.routine code.calls-transfer·write·user-memory·write-transfer (step-thm.met 𝓤 H 𝓜 𝓖 𝓡))
     (cited 𝓤 H (ends-contract 𝓤 H (𝓖 .A) (𝓜 .mem) (𝓡 .run)) 𝓜 𝓡 code.env #ends ends-def.routine code.calls-socket·ends-of (ends-thm.met 𝓤 H 𝓜 𝓖 𝓡))
     (cited 𝓤 H (wrote-contract 𝓤 H (𝓖 .A) (𝓜 .mem) (𝓡 .run)) 𝓜 𝓡 code.env #wrote wrote-def.routine code.calls-kept·transfers·user-wrote (wrote-thm.met 𝓤 H 𝓜 𝓖 𝓡)))

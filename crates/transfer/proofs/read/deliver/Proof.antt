@@ -17,9 +17,13 @@ same-length : tie.Need-same-length
 same-length c = search needs
 
 returns-2 : tie.Need-returns-2
-returns-2 c = let a = c .before .before .before .before .before .before .before .args in
-    let w = c .before .before .before .before .before .before .before .pre (c .before .before .before .before .if1 .left) in
-    pick-off _ _ _ _ _ (ne-eqb _ _ (c .before .before .before .before .if1 .left)) (c .before .before .copy-out .ensures ∙ copied-out (a .capacity) (a .start) (a .k) (now (a .ring)) (now (a .buffer)) (w .0) (w .1) (w .2) (w .3))
+returns-2 c =
+    let a = c .before .before .before .before .before .before .before .args in
+    let z = c .before .before .before .before .if1 .left in
+    let w = c .before .before .before .before .before .before .before .pre z in
+    pick-off _ _ _ _ _ (ne-eqb _ _ z)
+    (c .before .before .copy-out .ensures
+    ∙ copied-out (a .capacity) (a .start) (a .k) (now (a .ring)) (now (a .buffer)) (w .0) (w .1) (w .2) (w .3))
 
 pub deliver-spec : {M : Type 1} → statement M
 deliver-spec = tie.close (tie.spec returns copy-out-requires same-length returns-2)

@@ -13,7 +13,10 @@ place-requires : tie.Need-place-requires
 place-requires c κs = search needs
 
 cast-t13 : tie.Need-cast-t13
-cast-t13 c = let a = c .before .before .args in let d = c .before .before .pre in omega (arith, c .place .ensures, place-lt (a .capacity) (a .q .bytes .start) (a .n) (d .start) (omega arith))
+cast-t13 c =
+    let a = c .before .before .args in
+    let d = c .before .before .pre in
+    omega (arith, c .place .ensures, place-lt (a .capacity) (a .q .bytes .start) (a .n) (d .start) (omega arith))
 
 sub-t14 : tie.Need-sub-t14
 sub-t14 c = c .before .before .before .pre .within
@@ -25,7 +28,10 @@ place-requires-2 : tie.Need-place-requires-2
 place-requires-2 c κs = search needs
 
 cast-t18 : tie.Need-cast-t18
-cast-t18 c = let a = c .before .before .before .before .before .before .args in let d = c .before .before .before .before .before .before .pre in omega (arith, c .place2 .ensures, place-lt (a .capacity) (a .q .lengths .start) 1 (d .first) (omega arith))
+cast-t18 c =
+    let a = c .before .before .before .before .before .before .args in
+    let d = c .before .before .before .before .before .before .pre in
+    omega (arith, c .place2 .ensures, place-lt (a .capacity) (a .q .lengths .start) 1 (d .first) (omega arith))
 
 sub-t19 : tie.Need-sub-t19
 sub-t19 c = c .before .before .before .before .before .before .before .pre .lengths (c .before .before .before .if1 .taken)

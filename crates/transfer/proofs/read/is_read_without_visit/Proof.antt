@@ -35,7 +35,8 @@ returns-3 : tie.Need-returns-3
 returns-3 c =
     let a = c .before .before .before .before .before .before .before .args in
     let on : a .t .moves ≡ true = via-not-not refl (c .before .before .before .before .before .if1 .left) in
-    read-no-visit (a .p) (a .handle) (a .t) _ _ _ _ on (c .before .before .own .ensures) (c .before .before .before .before .peer .ensures) (c .before .before .before .if2 .left) (c .before .drained-visits .ensures) (c .can-fire .ensures)
+    read-no-visit (a .p) (a .handle) (a .t) _ _ _ _ on (c .before .before .own .ensures) (c .before .before .before .before .peer .ensures)
+    (c .before .before .before .if2 .left) (c .before .drained-visits .ensures) (c .can-fire .ensures)
 
 pub is-read-without-visit-spec : {M : Type 1} → statement M
 is-read-without-visit-spec =

@@ -1,4 +1,6 @@
+use mathlib.Core.Path.{_≡_}
 use denote.Ref.{now}
+use Rattle.transfer.specs.read.ReadChange.{DrainChanges}
 use Rattle.transfer.proofs.read.Moved.{read-drains}
 use Rattle.transfer.proofs.read.Outcomes.{delivered-first, transfer-read}
 use borrow.Author.Needs.{needs}
@@ -38,14 +40,19 @@ same-length : tie.Need-same-length
 same-length c = search needs
 
 returns : tie.Need-returns
-returns c = let a = c .before .before .before .before .before .before .before .before .before .before .before .before .before .before .args in
-    transfer-read (a .p) (a .handle) (a .peek) (now (a .table)) _ _ _ _ _
-    (c .before .before .before .before .before .before .before .before .before .count-of .ensures)
-    (c .before .before .before .before .before .before .before .before .own .ensures)
-    (c .before .before .before .before .before .before .before .peer .ensures) (now (a .ring)) (now (a .buffer)) _ _
-    (c .before .before .before .before .before .before .before .before .before .before .read-answer .ensures)
-    (c .before .before .before .before .before .first-delivered .ensures) (c .before .before .before .deliver .ensures)
-    (c .drain-transfer .ensures)
+returns c =
+    let f = c .before .before .before .before .before in
+    let q = f .before .before in
+    let a = q .before .before .before .before .before .before .before .args in
+    let d = c .drain-transfer .result in
+    let drained :
+    (d .answer ≡ q .before .before .before .read-answer .result)
+    × DrainChanges (a .p .datagram) (a .p .capacity) (q .before .own .result) (q .peer .result) (a .peek) (f .first-delivered .result)
+    (q .before .before .count-of .result) d
+    = c .drain-transfer .ensures in
+    transfer-read (a .p) (a .handle) (a .peek) (now (a .table)) _ _ _ _ _ (q .before .before .count-of .ensures) (q .before .own .ensures)
+    (q .peer .ensures) (now (a .ring)) (now (a .buffer)) _ _ (q .before .before .before .read-answer .ensures) (f .first-delivered .ensures)
+    (c .before .before .before .deliver .ensures) drained
 
 pub read-transfer-spec : {M : Type 1} → statement M
 read-transfer-spec =

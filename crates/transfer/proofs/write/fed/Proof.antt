@@ -1,5 +1,6 @@
-use mathlib.Core.Path.{_≡_, refl, sym, ap, _∙_}
-use Rattle.definition.specs.Write.{writeEffect}
+use Prim.Native.Nat.{_+_, _-_}
+use mathlib.Core.Path.{_≡_, refl}
+use Rattle.definition.specs.Write.{writeEffect, gainedByPeer, lostByWriter, fedQueue}
 use Rattle.transfer.specs.write.WriteChange.{fedEffect}
 use borrow.Author.Needs.{needs}
 use Rattle.transfer.proofs.write.fed.Statement.{statement}
@@ -22,7 +23,13 @@ fed-queue-requires c κs = search needs
 
 returns : tie.Need-returns
 unfolding fedEffect writeEffect
-returns c = (refl, refl, rw (← c .before .before .gained-by-peer .ensures, ← c .before .lost-by-writer .ensures, ← c .fed-queue .ensures) refl)
+returns c =
+    let a = c .before .before .before .before .before .args in
+    let queued = a .peer .queue .bytes .count + a .m in
+    let gained : c .before .before .gained-by-peer .result ≡ gainedByPeer (a .peer) queued = c .before .before .gained-by-peer .ensures in
+    let lost : c .before .lost-by-writer .result ≡ lostByWriter (a .own) (a .capacity - queued) = c .before .lost-by-writer .ensures in
+    let queue : c .fed-queue .result ≡ fedQueue (a .datagram) (a .m) (a .peer .queue) = c .fed-queue .ensures in
+    (refl, refl, rw (← gained, ← lost, ← queue) refl)
 
 pub fed-spec : {M : Type 1} → statement M
 fed-spec =

@@ -32,10 +32,21 @@ place-requires-2 : tie.Need-place-requires-2
 place-requires-2 c κs = search needs
 
 mul-table : tie.Need-mul-table
-mul-table c = let a = c .before .before .before .before .before .before .before .before .before .before .before .before .before .before .args in let d = c .before .before .before .before .before .before .before .before .before .before .before .before .before .before .pre in omega (arith, c .place2 .ensures, place-lt (a .capacity) (a .q .lengths .start) (a .q .lengths .count) (d .first) (let l = d .lengths (c .before .before .before .if1 .taken) in omega arith))
+mul-table c =
+    let e = c .before .before .before .before .before .before .before .before .before .before .before .before .before .before in
+    let a = e .args in
+    let d = e .pre in
+    let l = d .lengths (c .before .before .before .if1 .taken) in
+    omega (arith, c .place2 .ensures, place-lt (a .capacity) (a .q .lengths .start) (a .q .lengths .count) (d .first) (omega arith))
 
 slice-write-table : tie.Need-slice-write-table
-slice-write-table c = let a = c .before .before .before .before .before .before .before .before .before .before .before .before .before .before .args in let d = c .before .before .before .before .before .before .before .before .before .before .before .before .before .before .pre in omega (arith, c .place2 .ensures, place-lt (a .capacity) (a .q .lengths .start) (a .q .lengths .count) (d .first) (let l = d .lengths (c .before .before .before .if1 .taken) in omega arith), d .wide (c .before .before .before .if1 .taken))
+slice-write-table c =
+    let e = c .before .before .before .before .before .before .before .before .before .before .before .before .before .before in
+    let a = e .args in
+    let d = e .pre in
+    let l = d .lengths (c .before .before .before .if1 .taken) in
+    let wide = d .wide (c .before .before .before .if1 .taken) in
+    omega (arith, c .place2 .ensures, place-lt (a .capacity) (a .q .lengths .start) (a .q .lengths .count) (d .first) (omega arith))
 
 same-length : tie.Need-same-length
 same-length c = search needs
@@ -45,16 +56,32 @@ same-length-2 c = search needs
 
 returns : tie.Need-returns
 unfolding ringFed tableFed
-returns c = let a = c .before .before .before .before .before .before .before .before .before .before .before .before .before .before .args in let d = c .before .before .before .before .before .before .before .before .before .before .before .before .before .before .pre in
-    (c .before .before .before .before .before .before .copy-in .ensures ∙ copied-in (a .capacity) (c .before .before .before .before .before .before .before .before .place .result) (a .m) (now (a .bytes)) (now (a .ring)) (rw (c .before .before .before .before .before .before .before .before .place .ensures) (place-lt (a .capacity) (a .q .bytes .start) (a .q .bytes .count) (d .start) (omega arith))) (omega arith) (d .long) (d .has) ∙ ap (λ (x : ℕ). put (a .capacity) x (a .m) (now (a .bytes)) (now (a .ring))) (c .before .before .before .before .before .before .before .before .place .ensures), pick-on _ _ _ _ _ (c .before .before .before .if1 .taken) (rw (← c .place2 .ensures) refl))
+returns c =
+    let p = c .before .before .before .before .before .before .before .before in
+    let a = p .before .before .before .before .before .before .args in
+    let d = p .before .before .before .before .before .before .pre in
+    let lt = place-lt (a .capacity) (a .q .bytes .start) (a .q .bytes .count) (d .start) (omega arith) in (
+      c .before .before .before .before .before .before .copy-in .ensures
+          ∙ copied-in (a .capacity) (p .place .result) (a .m) (now (a .bytes)) (now (a .ring)) (rw (p .place .ensures) lt) (omega arith) (d .long) (d .has)
+          ∙ ap (λ (x : ℕ). put (a .capacity) x (a .m) (now (a .bytes)) (now (a .ring))) (p .place .ensures),
+      pick-on _ _ _ _ _ (c .before .before .before .if1 .taken) (rw (← c .place2 .ensures) refl),
+    )
 
 same-length-3 : tie.Need-same-length-3
 same-length-3 c = search needs
 
 returns-2 : tie.Need-returns-2
 unfolding ringFed tableFed
-returns-2 c = let a = c .before .before .before .before .before .before .before .before .before .before .before .args in let d = c .before .before .before .before .before .before .before .before .before .before .before .pre in
-    (c .before .before .before .copy-in .ensures ∙ copied-in (a .capacity) (c .before .before .before .before .before .place .result) (a .m) (now (a .bytes)) (now (a .ring)) (rw (c .before .before .before .before .before .place .ensures) (place-lt (a .capacity) (a .q .bytes .start) (a .q .bytes .count) (d .start) (omega arith))) (omega arith) (d .long) (d .has) ∙ ap (λ (x : ℕ). put (a .capacity) x (a .m) (now (a .bytes)) (now (a .ring))) (c .before .before .before .before .before .place .ensures), pick-off _ _ _ _ _ (c .if1 .left) refl)
+returns-2 c =
+    let p = c .before .before .before .before .before in
+    let a = p .before .before .before .before .before .before .args in
+    let d = p .before .before .before .before .before .before .pre in
+    let lt = place-lt (a .capacity) (a .q .bytes .start) (a .q .bytes .count) (d .start) (omega arith) in (
+      c .before .before .before .copy-in .ensures
+          ∙ copied-in (a .capacity) (p .place .result) (a .m) (now (a .bytes)) (now (a .ring)) (rw (p .place .ensures) lt) (omega arith) (d .long) (d .has)
+          ∙ ap (λ (x : ℕ). put (a .capacity) x (a .m) (now (a .bytes)) (now (a .ring))) (p .place .ensures),
+      pick-off _ _ _ _ _ (c .if1 .left) refl,
+    )
 
 pub feed-spec : {M : Type 1} → statement M
 feed-spec =

@@ -29,7 +29,8 @@ returns-2 : tie.Need-returns-2
 returns-2 c =
     let a = c .before .before .before .before .before .before .args in
     let on : a .t .moves ≡ true = via-not-not refl (c .before .before .before .before .if1 .left) in
-    wrote-no-visit (a .p) (a .handle) (a .t) _ _ _ _ on (c .before .before .before .own .ensures) (c .before .before .peer .ensures) (c .before .fed-visits .ensures) (c .can-fire .ensures)
+    wrote-no-visit (a .p) (a .handle) (a .t) _ _ _ _ on (c .before .before .before .own .ensures) (c .before .before .peer .ensures)
+    (c .before .fed-visits .ensures) (c .can-fire .ensures)
 
 pub is-write-without-visit-spec : {M : Type 1} → statement M
 is-write-without-visit-spec =

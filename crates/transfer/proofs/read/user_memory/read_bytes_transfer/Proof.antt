@@ -1,12 +1,15 @@
 use Prim.Native.Nat.{_+_, _-_}
-use mathlib.Core.Path.{_∙_}
+use mathlib.Core.Path.{_≡_, _∙_}
 use denote.Ref.{now}
 use native.Mathlib.Omega.{arith}
-use Rattle.transfer.proofs.user_memory.Landed.{part-length, read-room, user-delivers}
-use Rattle.transfer.proofs.user_memory.Outcomes.{bytes-none, bytes-some}
+use Rattle.definition.specs.Read.{isPeek}
+use Rattle.transfer.specs.read.ReadChange.{DrainChanges}
+use Rattle.transfer.proofs.change.UserMemory.{part-length}
+use Rattle.transfer.proofs.read.user_memory.Landed.{read-room, user-delivers}
+use Rattle.transfer.proofs.read.user_memory.Outcomes.{bytes-none, bytes-some}
 use borrow.Author.Needs.{needs}
-use Rattle.transfer.proofs.user_memory.read_bytes_transfer.Statement.{statement}
-use Rattle.transfer.proofs.user_memory.read_bytes_transfer.Tie as tie
+use Rattle.transfer.proofs.read.user_memory.read_bytes_transfer.Statement.{statement}
+use Rattle.transfer.proofs.read.user_memory.read_bytes_transfer.Tie as tie
 
 read-answer-requires : tie.Need-read-answer-requires
 read-answer-requires c κs = search needs
@@ -103,12 +106,18 @@ returns-2 c =
     let p = c .before .before .before .before .before .before .before .before in
     let a = p .before .before .before .before .before .before .before .args in
     let m = p .before .before .count-of .result in
+    let l = c .before .before .before .before .before in
+    let d = c .drain-transfer .result in
+    let drained :
+    (d .answer ≡ p .before .before .before .read-answer .result)
+    × DrainChanges (a .p .datagram) (a .p .capacity) (p .before .own .result) (p .peer .result) (isPeek (a .options)) (l .first-length .result) m d
+    = c .drain-transfer .ensures in
     bytes-some (a .p) (a .handle) (a .base) (a .options) (a .address) (a .count) (a .count-at) (now (a .ring)) (now (a .table)) (now (a .memory))
     _ _ _ _ _ (p .before .before .before .read-answer .ensures) (p .before .before .count-of .ensures) (p .before .own .ensures)
     (p .peer .ensures)
     (a .address - a .base + m - (a .address - a .base)) _ (c .before .before .before .before .before .before .if1 .left) (omega arith)
     (c .before .before .before .deliver .ensures)
-    (rw (c .before .before .before .before .before .first-length .ensures) at (c .drain-transfer .ensures))
+    (rw (l .first-length .ensures) at drained)
 
 pub read-bytes-transfer-spec : {M : Type 1} → statement M
 read-bytes-transfer-spec =

@@ -1,10 +1,10 @@
 use mathlib.Core.Path.{refl}
 use denote.Ref.{now}
 use Rattle.endpoint.proofs.answer.Rules.{pick-on, pick-off, via}
-use Rattle.transfer.proofs.user_memory.Outcomes.{read-after}
+use Rattle.transfer.proofs.read.user_memory.Outcomes.{read-after}
 use borrow.Author.Needs.{needs}
-use Rattle.transfer.proofs.user_memory.read_transfer.Statement.{statement}
-use Rattle.transfer.proofs.user_memory.read_transfer.Tie as tie
+use Rattle.transfer.proofs.read.user_memory.read_transfer.Statement.{statement}
+use Rattle.transfer.proofs.read.user_memory.read_transfer.Tie as tie
 
 read-bytes-transfer-requires : tie.Need-read-bytes-transfer-requires
 read-bytes-transfer-requires c κs = search needs

@@ -2,11 +2,11 @@ use Prim.Native.Nat.{_+_, _-_}
 use mathlib.Core.Path.{refl, _∙_}
 use denote.Ref.{now}
 use native.Mathlib.Omega.{arith}
-use Rattle.transfer.proofs.user_memory.Landed.{write-room, user-feeds}
-use Rattle.transfer.proofs.user_memory.Outcomes.{wrote-none, wrote-some}
+use Rattle.transfer.proofs.write.user_memory.Landed.{write-room, user-feeds}
+use Rattle.transfer.proofs.write.user_memory.Outcomes.{wrote-none, wrote-some}
 use borrow.Author.Needs.{needs}
-use Rattle.transfer.proofs.user_memory.write_transfer.Statement.{statement}
-use Rattle.transfer.proofs.user_memory.write_transfer.Tie as tie
+use Rattle.transfer.proofs.write.user_memory.write_transfer.Statement.{statement}
+use Rattle.transfer.proofs.write.user_memory.write_transfer.Tie as tie
 
 write-answer-requires : tie.Need-write-answer-requires
 write-answer-requires c κs = search needs

@@ -1,10 +1,10 @@
--- The bytes of user memory that a write takes and a read fills, and the count that lands. Assumes nothing.
+-- The bytes of user memory that a read fills, and the count that lands. Assumes nothing.
 use Prim.Native.Nat.{ℕ, _+_, _-_, _≤_}
 use mathlib.Core.Path.{_≡_, refl, sym, ap, _∙_}
 use mathlib.Core.Bool.{Bool, true, false}
 use mathlib.Core.List.{List}
 use native.Mathlib.Omega.{arith}
-use lib.ListN.{length, take, drop, length-take, length-drop}
+use lib.ListN.{length}
 use lib.Seq.{length-paste}
 use lib.Dec.{eqb}
 use borrow.Author.Tests.{eq-eqb, eqb-true, eqb-false}
@@ -13,60 +13,23 @@ use Rattle.definition.specs.declared.Answer.the-variants.{Done, Refused}
 use Rattle.definition.specs.declared.Ends.{Ends}
 use Rattle.definition.specs.declared.Pair.{Pair}
 use Rattle.definition.specs.Memory.{countFits, countLanded, countPut}
-use Rattle.definition.specs.Pair.{isOne, endsOf, own, peer}
+use Rattle.definition.specs.Pair.{isOne, endsOf, own}
 use Rattle.definition.specs.Read.{userReadAnswer, bytesLanded}
 use Rattle.definition.specs.Status.{pick, countOf, isDone}
 use Rattle.definition.specs.Tests.{firstLength, lentOf}
-use Rattle.definition.specs.Write.{userWriteAnswer}
 use Rattle.endpoint.proofs.answer.Rules.{pick-on, pick-off}
 use Rattle.endpoint.proofs.answer.Chains.{counted}
 use Rattle.ring.proofs.copy.Laws.{length-front}
 use Rattle.user_answers.proofs.memory.Landed.{fits-in, count-put}
 use Rattle.transfer.specs.read.ReadChange.{Deliver}
-use Rattle.transfer.specs.write.WriteChange.{Feed}
 use Rattle.transfer.proofs.read.Moved.{read-drains}
-use Rattle.transfer.proofs.write.Moved.{write-feeds}
-use Rattle.transfer.proofs.user_memory.Passed.{write-passed, read-passed}
+use Rattle.transfer.proofs.read.user_memory.Passed.{read-passed}
 
 -- a refused call moves nothing
 none-moved : (a : Answer) → isDone a ≡ false → countOf a ≡ 0
 unfolding isDone countOf
 none-moved (Done d) e = let z : _≡_ {A = Bool} true false = e in (cc)
 none-moved (Refused s) e = refl
-
--- a part of memory of n bytes
-pub part-length : (memory : List ℕ) (at n : ℕ) → at + n ≤ length memory → length (take n (drop at memory)) ≡ n
-part-length memory at n room = simp (length-take, length-drop) (omega arith)
-
--- a write that was answered x
-module _ (e : Ends) (h base options address n countAt : ℕ) (memory ring table : List ℕ) (x : Answer)
-    (told : x ≡ userWriteAnswer e (lentOf (e .datagram) (peer (isOne h) e .queue) ring table) h base (length memory) options address n countAt) where
-  -- the bytes that it takes lie in memory
-  pub write-room : (countOf x ≡ 0 → ⊥) → (base ≤ address) × (address - base + countOf x ≤ length memory)
-  write-room z =
-      let w = write-passed e _ h base (length memory) options address n countAt x told (counted x z) in
-      fits-in base (length memory) address (countOf x) (w .bytes) z
-
-  -- and fit into the peer's queue
-  pub user-feeds : (m k : ℕ) → m ≡ countOf x → (m ≡ 0 → ⊥) → k ≡ m
-      → Feed (e .datagram) (e .capacity) (peer (isOne h) e .queue) m (take k (drop (address - base) memory)) ring table
-  user-feeds m k fm z fk =
-      let some : countOf x ≡ 0 → ⊥ = λ y. z (fm ∙ y) in
-      let w = write-passed e _ h base (length memory) options address n countAt x told (counted x some) in
-      let room = write-room some in
-      let size = part-length memory (address - base) k (omega (arith, room .1)) in
-      write-feeds e h (take k (drop (address - base) memory)) ring table n x m (w .plain) fm z (λ _. omega (arith, size))
-
-  -- the count after them
-  pub count-written : (m : ℕ) (memory′ : List ℕ) → m ≡ countOf x → memory′ ≡ pick (isDone x) (countPut base countAt m memory) memory
-      → memory′ ≡ pick (isDone x) (countLanded base countAt (countOf x) memory) memory
-  count-written m memory′ fm u = by (isDone x) refl
-    where
-      by : (t : Bool) → isDone x ≡ t → memory′ ≡ pick (isDone x) (countLanded base countAt (countOf x) memory) memory
-      by true d =
-          let w = write-passed e _ h base (length memory) options address n countAt x told d in
-          pick-on _ _ _ _ _ d (u ∙ sym (pick-on _ _ _ _ _ d refl) ∙ count-put base countAt m memory (w .count) ∙ ap (λ (k : ℕ). countLanded base countAt k memory) fm)
-      by false d = pick-off _ _ _ _ _ d (u ∙ sym (pick-off _ _ _ _ _ d refl))
 
 -- where nothing is delivered, no byte lands
 pub none-landed : (p : Pair) (h base address k : ℕ) (ring memory : List ℕ) → k ≡ 0 → bytesLanded p h base address k ring memory ≡ memory
@@ -89,7 +52,8 @@ module _ (e : Ends) (h base options address n countAt : ℕ) (ring table memory 
       read-drains e h ring table n x k (w .plain) fk z
 
 module _ (p : Pair) (h base options address n countAt : ℕ) (ring table memory : List ℕ) (x : Answer)
-    (told : x ≡ userReadAnswer (endsOf p) (lentOf (p .datagram) (own (isOne h) (endsOf p) .queue) ring table) h base (length memory) options address n countAt) where
+    (told :
+    x ≡ userReadAnswer (endsOf p) (lentOf (p .datagram) (own (isOne h) (endsOf p) .queue) ring table) h base (length memory) options address n countAt) where
   -- memory keeps its length as bytes land
   pub landed-length : length (bytesLanded p h base address (countOf x) ring memory) ≡ length memory
   unfolding bytesLanded

@@ -1,0 +1,3 @@
+pub mod Landed
+pub mod Outcomes
+pub mod Passed
