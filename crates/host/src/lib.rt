@@ -2,8 +2,6 @@
 // returns the answer's word, or the signal word of an end.
 use definition::Pair;
 ghost use mathlib.Core.Path.{_≡_};
-ghost use lib.ListN.{length};
-ghost use lib.Dec.{eqb};
 ghost use Rattle.definition.specs.Create.{Creates};
 ghost use Rattle.definition.specs.Write.{Writes};
 ghost use Rattle.definition.specs.Read.{Reads};
@@ -133,10 +131,16 @@ pub extern "C" fn murgwethan_wait(p: &mut Pair, handle: u32, key: u64, mask: u32
 pub extern "C" fn murgwethan_cancel(p: &mut Pair, handle: u32, key: u64) -> i64
     ensures { λ w. ⌜ Answered (Cancels (now (p .entry)) handle key) (now (p .exit)) w ⌝ }
 {
-    let r = socket::cancelled(*p, handle, key);
-    let next = crate::values::step_pair(r);
-    *p = next;
-    crate::values::step_word(r)
+    let k = socket::only_match(*p, handle, key);
+    if socket::is_place(k) {
+        *p = socket::without_place(*p, k);
+        1
+    } else {
+        let r = socket::cancelled(*p, handle, key);
+        let word = crate::values::step_word(r);
+        *p = crate::values::step_pair(r);
+        word
+    }
 }
 
 // Closes the end of a handle: its queue and its waits vanish, packets stay, and an open peer is told by its word.

@@ -1,5 +1,5 @@
 // A pair that is kept behind a reference: the next pair of a create, a wait and a take, stored there. In the compiled code the table of places is
-// copied only where it is rebuilt: where one place is used, or is to be used, it is changed where it stands.
+// copied only where it is rebuilt: where one place is used, or is to be used, or a wait goes behind at most 7, it is changed where it stands.
 use definition::Answer;
 use definition::Pair;
 ghost use mathlib.Core.Path.{_≡_};
@@ -35,6 +35,8 @@ pub fn wait(p: &mut Pair, a: Answer, handle: u32, key: u64, mask: u32, edge: u8)
     let w = endpoint::answer::word(a);
     if socket::is_unused(*p) {
         *p = socket::registered_first(*p, a, handle, key, mask, edge);
+    } else if socket::appends_few(*p, handle, mask, edge) {
+        *p = socket::registered_few(*p, a, handle, key, mask);
     } else {
         *p = socket::registered(*p, a, handle, key, mask, edge);
     }

@@ -1,2 +1,3 @@
+pub mod few
 pub mod places
 pub mod visits

@@ -7,9 +7,9 @@ use crate::places::is_sound;
 use definition::Place;
 use definition::Places;
 ghost use mathlib.Core.Path.{_≡_};
-ghost use mathlib.Core.Bool.{true, not};
+ghost use mathlib.Core.Bool.{true};
 ghost use Prim.Native.Nat.{_+_, _≤_};
-ghost use lib.Dec.{eqb, leb};
+ghost use lib.Dec.{leb};
 ghost use Rattle.definition.specs.Status.{pick, _and_};
 ghost use Rattle.definition.specs.Port.{matches, matching, cancelledOf};
 
@@ -20,7 +20,7 @@ pub struct Remaining {
 }
 
 // Whether a place is of that end and has that key.
-fn is_match(p: Place, one: bool, key: u64) -> bool
+pub fn is_match(p: Place, one: bool, key: u64) -> bool
     ensures { λ r. ⌜ r ≡ matches one key p ⌝ }
 {
     if p.end != end_number(one) {

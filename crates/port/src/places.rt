@@ -30,14 +30,21 @@ pub fn new_places() -> Places
     }
 }
 
-// Whether no more than 128 places are used. The sum of the two counts is never taken, as it can be too large.
+// Whether no more than so many places are used. The sum of the two counts is never taken, as it can be too large.
+pub fn uses_at_most(packets: usize, waits: usize, most: usize) -> bool
+    ensures { λ r. ⌜ r ≡ leb (packets + waits) most ⌝ }
+{
+    if most < packets {
+        return false;
+    }
+    waits <= most - packets
+}
+
+// Whether no more than 128 places are used.
 pub fn is_sound(packets: usize, waits: usize) -> bool
     ensures { λ r. ⌜ r ≡ leb (packets + waits) 128 ⌝ }
 {
-    if 128 < packets {
-        return false;
-    }
-    waits <= 128 - packets
+    uses_at_most(packets, waits, 128)
 }
 
 // Whether so many packets and so many waits are used.

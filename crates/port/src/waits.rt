@@ -6,6 +6,7 @@ use crate::places::end_number;
 use crate::places::is_sound;
 use crate::places::is_unused;
 use crate::places::sound_answer;
+use crate::places::uses_at_most;
 use definition::Next;
 use definition::Place;
 use definition::Places;
@@ -13,7 +14,7 @@ use endpoint::signal::word_if;
 ghost use mathlib.Core.Path.{_≡_};
 ghost use mathlib.Core.Bool.{true, not};
 ghost use Prim.Native.Nat.{_+_, _≤_, _<_};
-ghost use lib.Dec.{leb, ltb, eqb};
+ghost use lib.Dec.{leb, ltb};
 ghost use Rattle.definition.specs.Status.{pick, _and_};
 ghost use Rattle.definition.specs.Signal.{meets};
 ghost use Rattle.port.specs.places.Table.{unused};
@@ -39,6 +40,16 @@ fn fires_at_once(word: u32, mask: u32, edge: bool) -> bool
         return false;
     }
     word & mask != 0
+}
+
+// Whether a wait goes behind the waits of a table of which at most 7 places are used: it does not fire as it is registered.
+pub fn appends_few(packets: usize, waits: usize, word: u32, mask: u32, edge: bool) -> bool
+    ensures { λ r. ⌜ r ≡ (not (not edge and meets word mask) and leb (packets + waits) 7) ⌝ }
+{
+    if fires_at_once(word, mask, edge) {
+        return false;
+    }
+    uses_at_most(packets, waits, 7)
 }
 
 // Puts a packet behind the packets, or a wait behind the waits, if there is room: what stands behind it moves by one place to the back.

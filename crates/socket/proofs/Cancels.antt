@@ -5,7 +5,7 @@ use mathlib.Core.Bool.{Bool, true, false, not}
 use mathlib.Core.Logic.{⊎-elim}
 use native.Mathlib.Omega.{arith}
 use lib.ListN.{length}
-use lib.Dec.{eqb}
+use lib.Dec.{eqb, ltb}
 use borrow.Author.Tests.{eqb-true, leb-true}
 use Rattle.definition.specs.declared.Answer.{Answer}
 use Rattle.definition.specs.declared.Answer.the-variants.{Done}
@@ -19,7 +19,9 @@ use Rattle.definition.specs.Tests.{openingTest, Steps}
 use Rattle.definition.specs.Port.{used, sound, matching, cancelledOf, cancelAnswer, cancelled}
 use Rattle.port.specs.declared.cancel.Remaining.{Remaining}
 use Rattle.port.proofs.places.Lists.{either}
+use Rattle.port.specs.few.Few.{onlyMatch, isAmongFew, withoutPlace}
 use Rattle.port.proofs.cancel.Kept.{none-cancelled}
+use Rattle.port.proofs.few.Cancelled.{only-one}
 use Rattle.endpoint.proofs.answer.Rules.{then-stop, then-go}
 use Rattle.answers.proofs.tests.Sound.{opening-passed}
 use Rattle.socket.proofs.Steps.{steps-refused, steps-done}
@@ -78,3 +80,27 @@ cancel-steps p h key o d n q x l fo fd fn fq fx = rw (fq, fx, fn, fd, fo) (by (i
         let stops : openingTest (endsOf p) h ≡ cancelAnswer p h key = then-stop _ _ _ refl e in
         let stopped : openingTest (endsOf p) h ≡ answered (openingTest (endsOf p) h) 0 = then-stop _ _ _ refl e in
         rw e (steps-refused p p _ _ _ (sym stopped ∙ stops) (ap isDone (sym stopped) ∙ e) refl)
+
+-- ---- a cancel that takes one place out of at most 8
+
+passed-one : Done (Count 1) ≡ (refuseIf (eqb 1 0) NotFound then Done (Count 1))
+unfolding refuseIf _then_
+passed-one = refl
+
+pub one-steps : (p : Pair) (h key k : ℕ) (q : Pair) → length (p .places .table) ≡ 128
+    → k ≡ onlyMatch (isDone (openingTest (endsOf p) h)) (isOne h) key (p .places) → ltb k 8 ≡ true
+    → q ≡ withPlaces (pick (isAmongFew k (p .places)) (withoutPlace k (p .places)) (p .places)) p
+    → Steps p (cancelAnswer p h key) (cancelled (isOne h) key p) (record { pair = q; answer = Done (Count 1) })
+unfolding cancelAnswer cancelled pick isDone
+one-steps p h key k q l e b f =
+    let t = p .places in
+    let w = only-one (isDone (openingTest (endsOf p) h)) (isOne h) key t k l e b in
+    let a : Done (Count 1) ≡ cancelAnswer p h key =
+    then-go (openingTest (endsOf p) h) (openingTest (endsOf p) h) _ (Done (Count 1)) refl (w .done) (counted-one (matching (isOne h) key t) (w .count)) in
+    record {
+      answer = a;
+      pair = f ∙ ap (λ (u : Places). withPlaces u p) (w .left) ∙ ap (λ (x : Answer). pick (isDone x) (withPlaces (cancelledOf (isOne h) key t) p) p) a;
+    }
+  where
+    counted-one : (n : ℕ) → n ≡ 1 → Done (Count 1) ≡ (refuseIf (eqb n 0) NotFound then Done (Count n))
+    counted-one n e = rw e passed-one

@@ -1,30 +1,33 @@
 -- A wait and a take, put together from the answer and the table. Assumes nothing.
 use Prim.Native.Nat.{ℕ, _<_}
-use mathlib.Core.Path.{_≡_, refl, sym, ap, _∙_}
-use mathlib.Core.Bool.{Bool, true, false}
+use mathlib.Core.Path.{_≡_, refl, ap, _∙_}
+use mathlib.Core.Bool.{Bool, true, false, not}
 use mathlib.Core.Logic.{⊎-elim}
 use native.Mathlib.Omega.{arith}
 use lib.ListN.{getD}
-use lib.Dec.{eqb}
-use borrow.Author.Tests.{eqb-true, eqb-false}
+use lib.Dec.{eqb, leb}
+use borrow.Author.Tests.{eqb-false, leb-true, not-true}
 use Rattle.definition.specs.declared.Status.the-variants.{ShouldWait}
 use Rattle.definition.specs.declared.Record.the-variants.{Packet}
 use Rattle.definition.specs.declared.Answer.{Answer}
 use Rattle.definition.specs.declared.Answer.the-variants.{Done}
 use Rattle.definition.specs.Status.{pick, _and_, isDone, refuseIf, _then_}
-use Rattle.endpoint.proofs.answer.Chains.{then-both, refuse-passed}
+use Rattle.endpoint.proofs.answer.Chains.{both, then-both, refuse-passed}
 use Rattle.definition.specs.declared.Places.{Places}
 use Rattle.definition.specs.declared.Next.{Next}
-use Rattle.definition.specs.Port.{sound, free, packetsOf, packetOf, done, refused, registerOf, takeOf, waitAnswer, waited, takeAnswer, took}
+use Rattle.definition.specs.Port.{used, sound, free, waitOf, appendedOf, packetsOf, packetOf, done, refused, registerOf, takeOf, waitAnswer, waited, takeAnswer, took}
 use Rattle.port.proofs.places.Lists.{either}
 use Rattle.port.proofs.waits.Operations.{register-done}
-use Rattle.port.proofs.packets.Operations.{take-none, take-done}
+use Rattle.port.proofs.packets.Operations.{take-done}
 use Rattle.answers.proofs.tests.Sound.{sound-passed}
 use Rattle.answers.proofs.control_calls.Passed.{wait-room}
 use Rattle.definition.specs.declared.Pair.{Pair}
 use Rattle.definition.specs.Pair.{isOne, own, endsOf, withPlaces}
 use Rattle.definition.specs.Tests.{Steps}
-use Rattle.socket.specs.Deferred.{registeredPair, takenPair}
+use Rattle.port.specs.few.Few.{fewUsed}
+use Rattle.port.proofs.few.Cancelled.{appended-register}
+use Rattle.definition.specs.Signal.{meets}
+use Rattle.socket.specs.Deferred.{registeredPair, takenPair, appendsFew, appendedPair}
 
 -- the next pair by the answer: the next table where the call is done, else the same pair
 by-answer : (b c : Bool) (p q p′ : Pair) (t : Places) → c ≡ b → p′ ≡ withPlaces (pick c t (p .places)) p → (b ≡ true → withPlaces t p ≡ q) → p′ ≡ pick b q p
@@ -51,6 +54,23 @@ first-only true true r p = refl
 first-only true false r p = refl
 first-only false true r p = refl
 first-only false false r p = refl
+
+-- a wait that does not fire as it is registered goes behind the others
+pub few-registered : (asked t : Bool) (key mask edge : ℕ) (p : Pair) → appendsFew t mask edge p ≡ true
+    → appendedPair asked t key mask p ≡ registeredPair asked t key mask edge p
+unfolding appendsFew appendedPair registeredPair fewUsed pick _and_ done
+few-registered asked t key mask edge p e =
+    let w = own t (endsOf p) .signals in
+    let g = both _ _ e in
+    let room = leb-true (used (p .places)) 7 (g .1) in
+    ap (λ (u : Places). withPlaces u p)
+    (by asked w (eqb edge 1) (not-true _ (g .0)) (g .1) (omega (arith, room)))
+  where
+    by : (a : Bool) (w : ℕ) (x : Bool) → (not x and meets w mask) ≡ false → leb (used (p .places)) 7 ≡ true → used (p .places) < 128
+        → pick (a and leb (used (p .places)) 7) (appendedOf (waitOf t key mask) (p .places)) (p .places)
+        ≡ pick a (registerOf t w key mask x (p .places) .places) (p .places)
+    by true w x n f r = rw f (appended-register t w key mask x (p .places) n r)
+    by false w x n f r = refl
 
 -- ---- take
 

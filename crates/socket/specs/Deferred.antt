@@ -1,7 +1,7 @@
 -- How the code goes: a call whose waits are visited last, and a table that is passed on by whether the call is done. 01 "Signal word and packets":
 -- a change of a word visits the end's waits. The laws of proofs/ say that the visits can wait until all words have changed.
 use Prim.Native.Nat.{ℕ}
-use mathlib.Core.Bool.{Bool}
+use mathlib.Core.Bool.{Bool, not}
 use mathlib.Core.List.{List, [], _∷_}
 use lib.Dec.{eqb}
 use Rattle.endpoint.specs.declared.ends.Pending.{Pending}
@@ -14,8 +14,10 @@ use Rattle.definition.specs.declared.Step.{Step}
 use Rattle.port.specs.visits.Visits.{visited, anyDue}
 use Rattle.definition.specs.Pair.{withPlaces, own, endsOf}
 use Rattle.definition.specs.Status.{_and_, _or_, pick}
+use Rattle.definition.specs.Signal.{meets}
 use Rattle.port.specs.places.Table.{onlyWait}
-use Rattle.definition.specs.Port.{dropOf, registerOf, takeOf}
+use Rattle.port.specs.few.Few.{fewUsed}
+use Rattle.definition.specs.Port.{waitOf, appendedOf, dropOf, registerOf, takeOf}
 
 -- the table after the waits of each change are visited, in the order of the changes
 unfoldable pub visitedBy : List Pending → Places → Places
@@ -66,3 +68,11 @@ registeredPair asked t key mask edge p =
 -- 01 "Signal word and packets": the pair without its oldest packet, where that is asked
 unfoldable pub takenPair : (asked : Bool) → Pair → Pair
 takenPair asked p = withPlaces (pick asked (takeOf (p .places) .places) (p .places)) p
+
+-- whether at most 7 places are used, and a wait of end t with this mask does not fire as it is registered
+unfoldable pub appendsFew : (t : Bool) → (mask edge : ℕ) → Pair → Bool
+appendsFew t mask edge p = not (not (eqb edge 1) and meets (own t (endsOf p) .signals) mask) and fewUsed (p .places)
+
+-- the pair with a wait of end t behind the others, where that is asked and at most 7 places are used
+unfoldable pub appendedPair : (asked t : Bool) → (key mask : ℕ) → Pair → Pair
+appendedPair asked t key mask p = withPlaces (pick (asked and fewUsed (p .places)) (appendedOf (waitOf t key mask) (p .places)) (p .places)) p

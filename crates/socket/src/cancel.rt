@@ -9,12 +9,15 @@ use definition::Status;
 use definition::Step;
 use endpoint::answer::is_done;
 ghost use mathlib.Core.Path.{_≡_};
-ghost use lib.Dec.{eqb};
-ghost use Rattle.definition.specs.Status.{refuseIf, _then_};
+ghost use lib.Dec.{eqb, ltb};
+ghost use Rattle.definition.specs.Status.{pick, isDone, refuseIf, _then_};
 ghost use Rattle.definition.specs.declared.Answer.the-variants.{Done};
 ghost use Rattle.definition.specs.declared.Record.the-variants.{Count};
 ghost use Rattle.definition.specs.declared.Status.the-variants.{NotFound};
+ghost use Rattle.definition.specs.Pair.{isOne, endsOf, withPlaces};
+ghost use Rattle.definition.specs.Tests.{openingTest};
 ghost use Rattle.definition.specs.Port.{Cancels};
+ghost use Rattle.port.specs.few.Few.{onlyMatch, isAmongFew, withoutPlace};
 ghost use Rattle.socket.specs.Step.{innerStep};
 
 // The answer of a cancel, by that of the first tests and by how many waits and packets were removed.
@@ -42,6 +45,31 @@ pub fn cancelled(p: Pair, handle: u32, key: u64) -> Step
         pair: parts::with_places(p, next),
         answer: cancel_answer(opened, left.removed),
     }
+}
+
+// Where the only place stands that a cancel matches, if it passes its first tests and at most 8 places are used; else 8.
+pub fn only_match(p: Pair, handle: u32, key: u64) -> usize
+    ensures { λ r. ⌜ r ≡ onlyMatch (isDone (openingTest (endsOf p) handle)) (isOne handle) key (p .places) ⌝ }
+{
+    let opened = answers::tests::opening_test(parts::ends_of(p), handle);
+    let places = p.places;
+    port::few::only_match(places, is_done(opened), handle == 1, key)
+}
+
+// Whether that is a place.
+pub fn is_place(k: usize) -> bool
+    ensures { λ r. ⌜ r ≡ ltb k 8 ⌝ }
+{
+    k < 8
+}
+
+// The pair without the place at k, if that is used and at most 8 are.
+pub fn without_place(p: Pair, k: usize) -> Pair
+    ensures { λ r. ⌜ r ≡ withPlaces (pick (isAmongFew k (p .places)) (withoutPlace k (p .places)) (p .places)) p ⌝ }
+{
+    let places = p.places;
+    let next = port::few::removed(places, k);
+    parts::with_first_place(p, next)
 }
 
 impl SocketPair {

@@ -10,7 +10,7 @@ ghost use Rattle.definition.specs.Status.{pick, isDone};
 ghost use Rattle.port.specs.places.Table.{unused, onlyPacket};
 ghost use Rattle.definition.specs.Pair.{isOne};
 ghost use Rattle.definition.specs.Port.{takeAnswer, Takes, Waits};
-ghost use Rattle.socket.specs.Deferred.{registeredPair, takenPair};
+ghost use Rattle.socket.specs.Deferred.{registeredPair, takenPair, appendsFew, appendedPair};
 ghost use Rattle.socket.specs.Step.{innerStep};
 
 // The pair with a wait more, if the answer is done.
@@ -47,6 +47,23 @@ pub fn registered_first(p: Pair, a: Answer, handle: u32, key: u64, mask: u32, ed
         mask,
         edge == 1,
     );
+    parts::with_first_place(p, next)
+}
+
+// Whether at most 7 places are used, and a wait with this mask does not fire as it is registered.
+pub fn appends_few(p: Pair, handle: u32, mask: u32, edge: u8) -> bool
+    ensures { λ r. ⌜ r ≡ appendsFew (isOne handle) mask edge p ⌝ }
+{
+    let e = parts::own(p, handle == 1);
+    port::waits::appends_few(p.places.packets, p.places.waits, e.signals, mask, edge == 1)
+}
+
+// The pair with a wait behind the others, if the answer is done and at most 7 places are used.
+pub fn registered_few(p: Pair, a: Answer, handle: u32, key: u64, mask: u32) -> Pair
+    ensures { λ r. ⌜ r ≡ appendedPair (isDone a) (isOne handle) key mask p ⌝ }
+{
+    let places = p.places;
+    let next = port::few::appended(places, is_done(a), handle == 1, key, mask);
     parts::with_first_place(p, next)
 }
 

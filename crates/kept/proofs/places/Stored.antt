@@ -1,12 +1,15 @@
 -- What the stored pair is, by the way that the code went. Assumes nothing.
 use Prim.Native.Nat.{ℕ}
 use mathlib.Core.Path.{_≡_, sym, ap, _∙_}
-use mathlib.Core.Bool.{Bool, not}
+use mathlib.Core.Bool.{Bool, true, false, not}
 use lib.Dec.{T, eqb}
 use Rattle.definition.specs.declared.Answer.{Answer}
 use Rattle.definition.specs.Status.{pick, isDone}
 use Rattle.endpoint.proofs.answer.Rules.{on-pick, off-pick}
 use Rattle.port.specs.places.Table.{unused, onlyPacket}
+use Rattle.definition.specs.Pair.{isOne}
+use Rattle.socket.specs.Deferred.{registeredPair, appendsFew, appendedPair}
+use Rattle.socket.proofs.Waits.{few-registered}
 use Rattle.definition.specs.Create.{createAnswer, newPair}
 use Rattle.answers.specs.create.Held.{heldRights}
 use Rattle.definition.specs.declared.Pair.{Pair}
@@ -30,6 +33,11 @@ created-steps p kind C r s ring1 table1 ring2 table2 a q e g =
 
 pub waited-on : (p q : Pair) (b : Bool) (n : Pair) → b ≡ unused (p .places) → T b → q ≡ pick (unused (p .places)) n p → q ≡ n
 waited-on p q b n e t g = g ∙ sym (on-pick (unused (p .places)) b n p e t)
+
+pub few-waited-on : (p q : Pair) (asked : Bool) (h key mask edge : ℕ) (b : Bool) → b ≡ appendsFew (isOne h) mask edge p → T b
+    → q ≡ appendedPair asked (isOne h) key mask p → q ≡ registeredPair asked (isOne h) key mask edge p
+few-waited-on p q asked h key mask edge true e t g = g ∙ few-registered asked (isOne h) key mask edge p (sym e)
+few-waited-on p q asked h key mask edge false e t g = absurd t
 
 pub taken-on : (p q : Pair) (b : Bool) (n : Pair) → b ≡ onlyPacket (p .places) → T b → q ≡ pick (onlyPacket (p .places)) n p → q ≡ n
 taken-on p q b n e t g = g ∙ sym (on-pick (onlyPacket (p .places)) b n p e t)

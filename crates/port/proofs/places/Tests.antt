@@ -10,12 +10,12 @@ use Rattle.definition.specs.declared.Places.{Places}
 use Rattle.definition.specs.Port.{used, sound}
 use Rattle.port.proofs.places.Lists.{either}
 
-pub fits-leb : (a b : ℕ) → a ≤ 128 → leb b (128 - a) ≡ leb (a + b) 128
-fits-leb a b h =
+pub fits-leb : (a b m : ℕ) → a ≤ m → leb b (m - a) ≡ leb (a + b) m
+fits-leb a b m h =
     ⊎-elim
-    (λ (t : leb b (128 - a) ≡ true). t ∙ sym (le-leb (a + b) 128 (omega (arith, leb-true b (128 - a) t))))
-    (λ (t : leb b (128 - a) ≡ false). t ∙ sym (lt-leb (a + b) 128 (omega (arith, leb-false b (128 - a) t))))
-    (either (leb b (128 - a)))
+    (λ (t : leb b (m - a) ≡ true). t ∙ sym (le-leb (a + b) m (omega (arith, leb-true b (m - a) t))))
+    (λ (t : leb b (m - a) ≡ false). t ∙ sym (lt-leb (a + b) m (omega (arith, leb-false b (m - a) t))))
+    (either (leb b (m - a)))
 
 pub room-ltb : (a b : ℕ) → a < 128 → ltb b (128 - a) ≡ ltb (a + b) 128
 room-ltb a b h =

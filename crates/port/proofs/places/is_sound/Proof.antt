@@ -1,16 +1,12 @@
-use Prim.Native.Nat.{_+_, _-_}
-use mathlib.Core.Path.{sym}
-use native.Mathlib.Omega.{arith}
-use borrow.Author.Tests.{lt-leb}
-use Rattle.port.proofs.places.Tests.{fits-leb}
+use borrow.Author.Needs.{needs}
 use Rattle.port.proofs.places.is_sound.Statement.{statement}
 use Rattle.port.proofs.places.is_sound.Tie as tie
 
-returns : tie.Need-returns
-returns c = sym (lt-leb (c .before .args .packets + c .before .args .waits) 128 (omega arith))
+uses-at-most-requires : tie.Need-uses-at-most-requires
+uses-at-most-requires c κs = search needs
 
-returns-2 : tie.Need-returns-2
-returns-2 c = fits-leb (c .before .args .packets) (c .before .args .waits) (c .if1 .left)
+returns : tie.Need-returns
+returns c = c .uses-at-most .ensures
 
 pub is-sound-spec : {M : Type 1} → statement M
-is-sound-spec = tie.close (tie.spec returns returns-2)
+is-sound-spec = tie.close (tie.spec uses-at-most-requires returns)

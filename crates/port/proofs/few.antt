@@ -1,0 +1,5 @@
+pub mod Lists
+mod Chosen
+mod Searches
+pub mod Cancelled
+mod Whole
