@@ -70,7 +70,7 @@ const fn first_write(capacity: usize, bytes: usize) -> Work {
 }
 
 /// The rows that the ratio is about.
-const ROWS: [Work; 23] = [
+const ROWS: [Work; 24] = [
     create(64),
     create(4096),
     create(MOST as u32),
@@ -92,6 +92,7 @@ const ROWS: [Work; 23] = [
     Work::Waits(127),
     Work::WaitFireTake,
     Work::Cancel(8),
+    Work::Cancel(16),
     Work::Cancel(127),
     Work::Info,
 ];
