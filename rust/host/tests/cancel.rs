@@ -34,7 +34,7 @@ const NONE: Case = Case {
 /// The lower 32 bits are those of 7.
 const TWIN: u64 = 0x1_0000_0007;
 
-const CASES: [Case; 15] = [
+const CASES: [Case; 17] = [
     NONE,
     Case { name: "one wait", waits: &[(7, 1)], word: 1, ..NONE },
     Case { name: "one packet", packets: &[(7, 1)], word: 1, ..NONE },
@@ -111,6 +111,22 @@ const CASES: [Case; 15] = [
         waits: &[(7, 1)],
         word: 1,
         left: [&[0], &[]],
+        ..NONE
+    },
+    Case {
+        name: "one of 8 places",
+        packets: &[(1, 1), (7, 1), (2, 2)],
+        waits: &[(3, 1), (4, 1), (5, 2), (6, 1), (8, 1)],
+        word: 1,
+        left: [&[0, 2], &[0, 1, 2, 3, 4]],
+        ..NONE
+    },
+    Case {
+        name: "one of 9 places",
+        packets: &[(1, 1), (7, 1), (2, 2)],
+        waits: &[(3, 1), (4, 1), (5, 2), (6, 1), (8, 1), (9, 1)],
+        word: 1,
+        left: [&[0, 2], &[0, 1, 2, 3, 4, 5]],
         ..NONE
     },
 ];

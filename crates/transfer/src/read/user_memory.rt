@@ -1,4 +1,4 @@
-// Read and peek over user memory: the bytes go from the caller's ring into one slice that the caller lends, at a 64-bit base. The tests are made once,
+// Read and peek over user memory: the bytes go from the reader's ring into one slice that the caller lends, at a 64-bit base. The tests are made once,
 // by the answer. After zircon-syscall's socket.rs.
 use crate::change::Transfer;
 use crate::change::kept;
