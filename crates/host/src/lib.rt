@@ -126,13 +126,14 @@ pub extern "C" fn murgwethan_wait(p: &mut Pair, handle: u32, key: u64, mask: u32
     kept::places::wait(p, a, handle, key, mask, edge)
 }
 
-// Removes the waits of an end that have this key, and the packets that such waits made, and returns how many these were.
+// Removes the waits of an end that have this key, and the packets that such waits made, and returns how many these were. Where one place alone matches
+// and at most 8 are used, it is taken out where the table stands, and the word is 1; every other cancel makes the next pair by value.
 #[no_mangle]
 pub extern "C" fn murgwethan_cancel(p: &mut Pair, handle: u32, key: u64) -> i64
     ensures { λ w. ⌜ Answered (Cancels (now (p .entry)) handle key) (now (p .exit)) w ⌝ }
 {
     let k = socket::only_match(*p, handle, key);
-    if socket::is_place(k) {
+    if socket::is_found(k) {
         *p = socket::without_place(*p, k);
         1
     } else {

@@ -1,5 +1,6 @@
-// A pair that is kept behind a reference: the next pair of a create, a wait and a take, stored there. In the compiled code the table of places is
-// copied only where it is rebuilt: where one place is used, or is to be used, or a wait goes behind at most 7, it is changed where it stands.
+// A pair that is kept behind a reference: the next pair of a create, a wait and a take, stored there. A wait where no place is used, a wait that goes
+// behind at most 7, and a take of the only place used change the table of places where it stands; in the compiled code every other wait and take copies it
+// out and back.
 use definition::Answer;
 use definition::Pair;
 ghost use mathlib.Core.Path.{_≡_};
@@ -28,7 +29,7 @@ pub fn create(
     w
 }
 
-// A wait more, if the answer is done.
+// A wait more, if the answer is done. All three ways leave the same pair; the first two change the table where it stands.
 pub fn wait(p: &mut Pair, a: Answer, handle: u32, key: u64, mask: u32, edge: u8) -> i64
     ensures { λ w. ⌜ (w ≡ answerWord a) × (now (p .exit) ≡ registeredPair (isDone a) (isOne handle) key mask edge (now (p .entry))) ⌝ }
 {
@@ -36,7 +37,7 @@ pub fn wait(p: &mut Pair, a: Answer, handle: u32, key: u64, mask: u32, edge: u8)
     if socket::is_unused(*p) {
         *p = socket::registered_first(*p, a, handle, key, mask, edge);
     } else if socket::appends_few(*p, handle, mask, edge) {
-        *p = socket::registered_few(*p, a, handle, key, mask);
+        *p = socket::registered_last(*p, a, handle, key, mask);
     } else {
         *p = socket::registered(*p, a, handle, key, mask, edge);
     }

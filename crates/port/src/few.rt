@@ -16,9 +16,9 @@ ghost use lib.Dec.{leb, ltb};
 ghost use lib.ListN.{set};
 ghost use Rattle.definition.specs.Status.{pick, _and_};
 ghost use Rattle.definition.specs.Port.{free, waitOf, appendedOf, matches};
-ghost use Rattle.port.specs.few.Few.{fewUsed, onlyMatch, removedAt, isAmongFew, withoutPlace};
+ghost use Rattle.port.specs.few.Few.{atMostSevenUsed, onlyMatch, removedAt, isAmongEight, withoutPlace};
 
-// One of two keys.
+// One of two keys, or of two numbers of ends.
 fn key_if(test: bool, yes: u64, no: u64) -> u64
     ensures { λ r. ⌜ r ≡ pick test yes no ⌝ }
 {
@@ -40,7 +40,7 @@ fn place_if(test: bool, yes: Place, no: Place) -> Place
     }
 }
 
-// One less, or 0.
+// One less; of 0, 0.
 fn less_one(n: usize) -> usize
     ensures { λ r. ⌜ r ≡ n - 1 ⌝ }
 {
@@ -60,7 +60,7 @@ fn used_within(packets: usize, waits: usize, most: usize) -> usize
     0
 }
 
-// The table with this place at `at`, if that is one of the first 8.
+// The table with this place at `at`, if that is one of the first 8; else as it was.
 fn with_place(t: Places, at: usize, p: Place) -> Places
     ensures { λ r. ⌜ r ≡ record { packets = t .packets; waits = t .waits; table = pick (ltb at 8) (set (t .table) at p) (t .table) } ⌝ }
 {
@@ -75,9 +75,9 @@ fn with_place(t: Places, at: usize, p: Place) -> Places
     out
 }
 
-// Puts a wait behind the waits, if that is asked and at most 7 places are used.
+// Puts a wait behind the waits, if that is asked and at most 7 places are used; else the table is as it was.
 pub fn appended(t: Places, asked: bool, one: bool, key: u64, mask: u32) -> Places
-    ensures { λ r. ⌜ r ≡ pick (asked and fewUsed t) (appendedOf (waitOf one key mask) t) t ⌝ }
+    ensures { λ r. ⌜ r ≡ pick (asked and atMostSevenUsed t) (appendedOf (waitOf one key mask) t) t ⌝ }
 {
     let packets = t.packets;
     let waits = t.waits;
@@ -94,16 +94,17 @@ pub fn appended(t: Places, asked: bool, one: bool, key: u64, mask: u32) -> Place
 }
 
 // Whether a place is used, and it is of that end and has that key.
-fn is_used_match(used: bool, p: Place, one: bool, key: u64) -> bool
-    ensures { λ r. ⌜ r ≡ (used and matches one key p) ⌝ }
+fn is_used_match(is_used: bool, p: Place, one: bool, key: u64) -> bool
+    ensures { λ r. ⌜ r ≡ («is_used» and matches one key p) ⌝ }
 {
-    if used {
+    if is_used {
         return is_match(p, one, key);
     }
     false
 }
 
-// Where the only place stands that matches, if that is asked and at most 8 places are used; else 8. The places are looked at from the last to the first.
+// Where the only place that matches stands; 8 if that is not asked, if more than 8 places are used, or if none or several match. The places are looked
+// at from the last to the first.
 pub fn only_match(t: Places, asked: bool, one: bool, key: u64) -> usize
     ensures { λ r. ⌜ r ≡ onlyMatch asked one key t ⌝ }
 {
@@ -121,7 +122,7 @@ pub fn only_match(t: Places, asked: bool, one: bool, key: u64) -> usize
     count_if(both(asked, n == 1), k, 8)
 }
 
-// Whether i is from the one number on and below the other.
+// Whether i is at or above low and below high.
 fn is_within(low: usize, i: usize, high: usize) -> bool
     ensures { λ r. ⌜ r ≡ (leb low i and ltb i high) ⌝ }
 {
@@ -131,8 +132,9 @@ fn is_within(low: usize, i: usize, high: usize) -> bool
     i < high
 }
 
-// Takes the place at k out of those up to the last, if that is one of the first 8: those behind it move by one place to the front, and the last is free.
-fn without_place(t: Places, k: usize, last: usize) -> Places
+// Takes the place at k out of those up to last, if last is one of the first 8: those behind it move by one place to the front, and last is free. Else k
+// is not one of the first 8 either, and nothing changes.
+fn removed_at(t: Places, k: usize, last: usize) -> Places
     requires { ⌜ (ltb last 8 ≡ true → k ≤ last) × (ltb last 8 ≡ false → 8 ≤ k) ⌝ }
     ensures { λ r. ⌜ r ≡ record { packets = t .packets; waits = t .waits; table = pick (ltb last 8) (removedAt k last free (t .table)) (t .table) } ⌝ }
 {
@@ -150,16 +152,20 @@ fn without_place(t: Places, k: usize, last: usize) -> Places
     out
 }
 
-// The table without the place at k, if that is used and at most 8 are.
-pub fn removed(t: Places, k: usize) -> Places
-    ensures { λ r. ⌜ r ≡ pick (isAmongFew k t) (withoutPlace k t) t ⌝ }
+// The table without the place at k, if that is used and at most 8 are; else as it was.
+pub fn without_place(t: Places, k: usize) -> Places
+    ensures { λ r. ⌜ r ≡ pick (isAmongEight k t) (withoutPlace k t) t ⌝ }
 {
     let packets = t.packets;
     let waits = t.waits;
     let used = used_within(packets, waits, 8);
-    let hit = k < used;
-    let mut out = without_place(t, count_if(hit, k, 8), count_if(hit, less_one(used), 8));
-    out.packets = count_if(both(hit, k < packets), less_one(packets), packets);
-    out.waits = count_if(both(hit, packets <= k), less_one(waits), waits);
+    let is_used = k < used;
+    let mut out = removed_at(
+        t,
+        count_if(is_used, k, 8),
+        count_if(is_used, less_one(used), 8),
+    );
+    out.packets = count_if(both(is_used, k < packets), less_one(packets), packets);
+    out.waits = count_if(both(is_used, packets <= k), less_one(waits), waits);
     out
 }

@@ -42,7 +42,7 @@ fn fires_at_once(word: u32, mask: u32, edge: bool) -> bool
     word & mask != 0
 }
 
-// Whether a wait goes behind the waits of a table of which at most 7 places are used: it does not fire as it is registered.
+// Whether at most 7 places are used and a wait does not fire as it is registered, so that it goes behind the waits.
 pub fn appends_few(packets: usize, waits: usize, word: u32, mask: u32, edge: bool) -> bool
     ensures { λ r. ⌜ r ≡ (not (not edge and meets word mask) and leb (packets + waits) 7) ⌝ }
 {

@@ -19,7 +19,7 @@ use Rattle.definition.specs.Tests.{openingTest, Steps}
 use Rattle.definition.specs.Port.{used, sound, matching, cancelledOf, cancelAnswer, cancelled}
 use Rattle.port.specs.declared.cancel.Remaining.{Remaining}
 use Rattle.port.proofs.places.Lists.{either}
-use Rattle.port.specs.few.Few.{onlyMatch, isAmongFew, withoutPlace}
+use Rattle.port.specs.few.Few.{onlyMatch, isAmongEight, withoutPlace}
 use Rattle.port.proofs.cancel.Kept.{none-cancelled}
 use Rattle.port.proofs.few.Cancelled.{only-one}
 use Rattle.endpoint.proofs.answer.Rules.{then-stop, then-go}
@@ -89,7 +89,7 @@ passed-one = refl
 
 pub one-steps : (p : Pair) (h key k : ℕ) (q : Pair) → length (p .places .table) ≡ 128
     → k ≡ onlyMatch (isDone (openingTest (endsOf p) h)) (isOne h) key (p .places) → ltb k 8 ≡ true
-    → q ≡ withPlaces (pick (isAmongFew k (p .places)) (withoutPlace k (p .places)) (p .places)) p
+    → q ≡ withPlaces (pick (isAmongEight k (p .places)) (withoutPlace k (p .places)) (p .places)) p
     → Steps p (cancelAnswer p h key) (cancelled (isOne h) key p) (record { pair = q; answer = Done (Count 1) })
 unfolding cancelAnswer cancelled pick isDone
 one-steps p h key k q l e b f =

@@ -24,7 +24,7 @@ use Rattle.answers.proofs.control_calls.Passed.{wait-room}
 use Rattle.definition.specs.declared.Pair.{Pair}
 use Rattle.definition.specs.Pair.{isOne, own, endsOf, withPlaces}
 use Rattle.definition.specs.Tests.{Steps}
-use Rattle.port.specs.few.Few.{fewUsed}
+use Rattle.port.specs.few.Few.{atMostSevenUsed}
 use Rattle.port.proofs.few.Cancelled.{appended-register}
 use Rattle.definition.specs.Signal.{meets}
 use Rattle.socket.specs.Deferred.{registeredPair, takenPair, appendsFew, appendedPair}
@@ -58,7 +58,7 @@ first-only false false r p = refl
 -- a wait that does not fire as it is registered goes behind the others
 pub few-registered : (asked t : Bool) (key mask edge : ℕ) (p : Pair) → appendsFew t mask edge p ≡ true
     → appendedPair asked t key mask p ≡ registeredPair asked t key mask edge p
-unfolding appendsFew appendedPair registeredPair fewUsed pick _and_ done
+unfolding appendsFew appendedPair registeredPair atMostSevenUsed pick _and_ done
 few-registered asked t key mask edge p e =
     let w = own t (endsOf p) .signals in
     let g = both _ _ e in

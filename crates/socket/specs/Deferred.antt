@@ -16,7 +16,7 @@ use Rattle.definition.specs.Pair.{withPlaces, own, endsOf}
 use Rattle.definition.specs.Status.{_and_, _or_, pick}
 use Rattle.definition.specs.Signal.{meets}
 use Rattle.port.specs.places.Table.{onlyWait}
-use Rattle.port.specs.few.Few.{fewUsed}
+use Rattle.port.specs.few.Few.{atMostSevenUsed}
 use Rattle.definition.specs.Port.{waitOf, appendedOf, dropOf, registerOf, takeOf}
 
 -- the table after the waits of each change are visited, in the order of the changes
@@ -71,8 +71,8 @@ takenPair asked p = withPlaces (pick asked (takeOf (p .places) .places) (p .plac
 
 -- whether at most 7 places are used, and a wait of end t with this mask does not fire as it is registered
 unfoldable pub appendsFew : (t : Bool) → (mask edge : ℕ) → Pair → Bool
-appendsFew t mask edge p = not (not (eqb edge 1) and meets (own t (endsOf p) .signals) mask) and fewUsed (p .places)
+appendsFew t mask edge p = not (not (eqb edge 1) and meets (own t (endsOf p) .signals) mask) and atMostSevenUsed (p .places)
 
 -- the pair with a wait of end t behind the others, where that is asked and at most 7 places are used
 unfoldable pub appendedPair : (asked t : Bool) → (key mask : ℕ) → Pair → Pair
-appendedPair asked t key mask p = withPlaces (pick (asked and fewUsed (p .places)) (appendedOf (waitOf t key mask) (p .places)) (p .places)) p
+appendedPair asked t key mask p = withPlaces (pick (asked and atMostSevenUsed (p .places)) (appendedOf (waitOf t key mask) (p .places)) (p .places)) p

@@ -17,7 +17,7 @@ ghost use Rattle.definition.specs.declared.Status.the-variants.{NotFound};
 ghost use Rattle.definition.specs.Pair.{isOne, endsOf, withPlaces};
 ghost use Rattle.definition.specs.Tests.{openingTest};
 ghost use Rattle.definition.specs.Port.{Cancels};
-ghost use Rattle.port.specs.few.Few.{onlyMatch, isAmongFew, withoutPlace};
+ghost use Rattle.port.specs.few.Few.{onlyMatch, isAmongEight, withoutPlace};
 ghost use Rattle.socket.specs.Step.{innerStep};
 
 // The answer of a cancel, by that of the first tests and by how many waits and packets were removed.
@@ -47,7 +47,7 @@ pub fn cancelled(p: Pair, handle: u32, key: u64) -> Step
     }
 }
 
-// Where the only place stands that a cancel matches, if it passes its first tests and at most 8 places are used; else 8.
+// Where the only place that a cancel matches stands; 8 if it does not pass its first tests, if more than 8 places are used, or if none or several match.
 pub fn only_match(p: Pair, handle: u32, key: u64) -> usize
     ensures { λ r. ⌜ r ≡ onlyMatch (isDone (openingTest (endsOf p) handle)) (isOne handle) key (p .places) ⌝ }
 {
@@ -56,20 +56,20 @@ pub fn only_match(p: Pair, handle: u32, key: u64) -> usize
     port::few::only_match(places, is_done(opened), handle == 1, key)
 }
 
-// Whether that is a place.
-pub fn is_place(k: usize) -> bool
+// Whether `only_match` found a place: it gives 8 where it found none.
+pub fn is_found(k: usize) -> bool
     ensures { λ r. ⌜ r ≡ ltb k 8 ⌝ }
 {
     k < 8
 }
 
-// The pair without the place at k, if that is used and at most 8 are.
+// The pair without the place at k, if that is used and at most 8 are; else as it was.
 pub fn without_place(p: Pair, k: usize) -> Pair
-    ensures { λ r. ⌜ r ≡ withPlaces (pick (isAmongFew k (p .places)) (withoutPlace k (p .places)) (p .places)) p ⌝ }
+    ensures { λ r. ⌜ r ≡ withPlaces (pick (isAmongEight k (p .places)) (withoutPlace k (p .places)) (p .places)) p ⌝ }
 {
     let places = p.places;
-    let next = port::few::removed(places, k);
-    parts::with_first_place(p, next)
+    let next = port::few::without_place(places, k);
+    parts::with_first_places(p, next)
 }
 
 impl SocketPair {

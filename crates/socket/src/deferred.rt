@@ -51,7 +51,7 @@ pub fn visit_only(p: Pair, r: EndsOutcome) -> Pair
     ensures { λ q. ⌜ q ≡ pick (onlyWait (p .places)) (visitedAll r p) p ⌝ }
 {
     let t = port::visits::visited_alone(p.places, r);
-    parts::with_first_place(p, t)
+    parts::with_first_places(p, t)
 }
 
 // The same end, put together from its fields. Copied whole, the two ends of an outcome are stored and loaded in parts that do not match, for which a

@@ -18,7 +18,7 @@ mod wait;
 mod write;
 
 pub use cancel::cancelled;
-pub use cancel::is_place;
+pub use cancel::is_found;
 pub use cancel::only_match;
 pub use cancel::without_place;
 pub use create::new_pair;
@@ -35,8 +35,8 @@ pub use wait::appends_few;
 pub use wait::has_only_packet;
 pub use wait::is_unused;
 pub use wait::registered;
-pub use wait::registered_few;
 pub use wait::registered_first;
+pub use wait::registered_last;
 pub use wait::take_answer;
 pub use wait::taken;
 pub use wait::taken_only;

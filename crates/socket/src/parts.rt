@@ -57,8 +57,8 @@ pub fn with_places(p: Pair, places: Places) -> Pair
     }
 }
 
-// The same for places of which the first alone may change: it is then stored where it stands, and nothing else is.
-pub fn with_first_place(mut p: Pair, places: Places) -> Pair
+// The same for places of which only the first 8 may change: the field is assigned, so that the compiler stores those where they stand, and nothing else.
+pub fn with_first_places(mut p: Pair, places: Places) -> Pair
     ensures { λ r. ⌜ r ≡ withPlaces places p ⌝ }
 {
     p.places = places;

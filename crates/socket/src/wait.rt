@@ -47,7 +47,7 @@ pub fn registered_first(p: Pair, a: Answer, handle: u32, key: u64, mask: u32, ed
         mask,
         edge == 1,
     );
-    parts::with_first_place(p, next)
+    parts::with_first_places(p, next)
 }
 
 // Whether at most 7 places are used, and a wait with this mask does not fire as it is registered.
@@ -58,13 +58,14 @@ pub fn appends_few(p: Pair, handle: u32, mask: u32, edge: u8) -> bool
     port::waits::appends_few(p.places.packets, p.places.waits, e.signals, mask, edge == 1)
 }
 
-// The pair with a wait behind the others, if the answer is done and at most 7 places are used.
-pub fn registered_few(p: Pair, a: Answer, handle: u32, key: u64, mask: u32) -> Pair
+// The pair with a wait behind the others, if the answer is done and at most 7 places are used; else as it was. Where `appends_few` holds, this is what
+// `registered` gives.
+pub fn registered_last(p: Pair, a: Answer, handle: u32, key: u64, mask: u32) -> Pair
     ensures { λ r. ⌜ r ≡ appendedPair (isDone a) (isOne handle) key mask p ⌝ }
 {
     let places = p.places;
     let next = port::few::appended(places, is_done(a), handle == 1, key, mask);
-    parts::with_first_place(p, next)
+    parts::with_first_places(p, next)
 }
 
 // The tests of a take, then the oldest packet.
@@ -101,7 +102,7 @@ pub fn taken_only(p: Pair, a: Answer) -> Pair
 {
     let places = p.places;
     let next = port::packets::only_taken(places, is_done(a));
-    parts::with_first_place(p, next)
+    parts::with_first_places(p, next)
 }
 
 impl SocketPair {

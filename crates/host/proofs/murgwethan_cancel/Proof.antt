@@ -46,7 +46,7 @@ use Rattle.definition.specs.declared.Answer.the-variants.{Done}
 use Rattle.definition.specs.declared.Record.the-variants.{Count}
 use Rattle.definition.specs.Pair.{isOne, endsOf, withPlaces}
 use Rattle.definition.specs.Tests.{openingTest}
-use Rattle.port.specs.few.Few.{onlyMatch, isAmongFew, withoutPlace}
+use Rattle.port.specs.few.Few.{onlyMatch, isAmongEight, withoutPlace}
 use Rattle.socket.proofs.Cancels.{one-steps}
 use Rattle.socket.proofs.Visiting.{places-128}
 use Rattle.definition.specs.declared.Pair.{Pair}
@@ -63,10 +63,10 @@ use Rattle.socket.proofs.only_match as only-match
 use Rattle.socket.proofs.only_match.Symbol as only-match-def
 use Rattle.socket.proofs.only_match.Symbol.{name as #only-match}
 use Rattle.socket.proofs.only_match.Met as only-match-thm
-use Rattle.socket.proofs.is_place as is-place
-use Rattle.socket.proofs.is_place.Symbol as is-place-def
-use Rattle.socket.proofs.is_place.Symbol.{name as #is-place}
-use Rattle.socket.proofs.is_place.Met as is-place-thm
+use Rattle.socket.proofs.is_found as is-found
+use Rattle.socket.proofs.is_found.Symbol as is-found-def
+use Rattle.socket.proofs.is_found.Symbol.{name as #is-found}
+use Rattle.socket.proofs.is_found.Met as is-found-thm
 use Rattle.socket.proofs.without_place as without-place
 use Rattle.socket.proofs.without_place.Symbol as without-place-def
 use Rattle.socket.proofs.without_place.Symbol.{name as #without-place}
@@ -97,8 +97,8 @@ module _ {M : Type 1} (𝓤 : URA M) (H : Heap 𝓤) (A : Atoms 𝓤) (at-mem : 
   abbrev only-match-contract : Contract 𝓤
   only-match-contract = tripleOf 𝓤 H A only-match.signature (only-match.spec 𝓤 H A at-mem run)
 
-  abbrev is-place-contract : Contract 𝓤
-  is-place-contract = tripleOf 𝓤 H A is-place.signature (is-place.spec 𝓤 H A at-mem run)
+  abbrev is-found-contract : Contract 𝓤
+  is-found-contract = tripleOf 𝓤 H A is-found.signature (is-found.spec 𝓤 H A at-mem run)
 
   abbrev without-place-contract : Contract 𝓤
   without-place-contract = tripleOf 𝓤 H A without-place.signature (without-place.spec 𝓤 H A at-mem run)
@@ -115,8 +115,8 @@ module _ {M : Type 1} (𝓤 : URA M) (H : Heap 𝓤) (A : Atoms 𝓤) (at-mem : 
   abbrev to-only-match : Pair → ℕ → ℕ → Val → only-match-contract .Ghost
   to-only-match a₁ a₂ a₃ v₁ = ((tt, tt, tt, (a₁, (a₂, (a₃, tt))), (v₁ ∷ [], (vint w32 a₂ ∷ [], (vint w64 a₃ ∷ [], tt)))), tt)
 
-  abbrev to-is-place : ℕ → is-place-contract .Ghost
-  to-is-place a₁ = ((tt, tt, tt, (a₁, tt), (vint w64 a₁ ∷ [], tt)), tt)
+  abbrev to-is-found : ℕ → is-found-contract .Ghost
+  to-is-found a₁ = ((tt, tt, tt, (a₁, tt), (vint w64 a₁ ∷ [], tt)), tt)
 
   abbrev to-without-place : Pair → ℕ → Val → without-place-contract .Ghost
   to-without-place a₁ a₂ v₁ = ((tt, tt, tt, (a₁, (a₂, tt)), (v₁ ∷ [], (vint w64 a₂ ∷ [], tt))), tt)
@@ -143,23 +143,23 @@ module _ {M : Type 1} (𝓤 : URA M) (H : Heap 𝓤) (A : Atoms 𝓤) (at-mem : 
     abbrev ask-only-match : (a₁ : Pair) (a₂ : ℕ) (a₃ : ℕ) (v₁ : Val) → Is T.the-row a₁ (v₁ ∷ []) → Is u32 a₂ (vint w32 a₂ ∷ []) → Is u64 a₃ (vint w64 a₃ ∷ []) → Asked 𝓤 H A
     ask-only-match a₁ a₂ a₃ v₁ i₁ i₂ i₃ = record { contract = only-match-contract; ghost = to-only-match a₁ a₂ a₃ v₁; row = u64; says = λ (y : ℕ). y ≡ onlyMatch (isDone (openingTest (endsOf a₁) a₂)) (isOne a₂) a₃ (a₁ .places); needs = goes-only-match a₁ a₂ a₃ v₁ i₁ i₂ i₃; gives = gives-only-match a₁ a₂ a₃ v₁ }
 
-    goes-is-place : (a₁ : ℕ) → Is u64 a₁ (vint w64 a₁ ∷ []) → ent 𝓤 (sem 𝓤 H A ftrue) (is-place-contract .pre (to-is-place a₁))
-    goes-is-place a₁ i₁ = qed W (‵ ftrue ∷ []) ∵ owned ! u64 (Is u64) (uint-makes 𝓤 H A W w64) a₁ (vint w64 a₁ ∷ []) i₁ $ join ! $ nothing ! $ join ! $ frame ! $ done !
+    goes-is-found : (a₁ : ℕ) → Is u64 a₁ (vint w64 a₁ ∷ []) → ent 𝓤 (sem 𝓤 H A ftrue) (is-found-contract .pre (to-is-found a₁))
+    goes-is-found a₁ i₁ = qed W (‵ ftrue ∷ []) ∵ owned ! u64 (Is u64) (uint-makes 𝓤 H A W w64) a₁ (vint w64 a₁ ∷ []) i₁ $ join ! $ nothing ! $ join ! $ frame ! $ done !
 
-    gives-is-place : (a₁ : ℕ) (v : Val) → ent 𝓤 (is-place-contract .post (to-is-place a₁) v) (mean 𝓤 H A (later (some (λ (y : Bool). ‵ (bool .own y (v ∷ [])) ⊛ raw (fact 𝓤 (y ≡ ltb a₁ 8))))))
-    gives-is-place a₁ = told W bool (λ y. ensured 𝓤 H A is-place.ended (is-place.clauses 𝓤 H A at-mem run) tt (a₁, tt) tt y) (λ y. y ≡ ltb a₁ 8) (λ y. exE 𝓤 _ (λ ws. snd∗ 𝓤 (sem 𝓤 H A (lasts is-place.ended tt (a₁, tt) ws)) (fact 𝓤 (y ≡ ltb a₁ 8))))
+    gives-is-found : (a₁ : ℕ) (v : Val) → ent 𝓤 (is-found-contract .post (to-is-found a₁) v) (mean 𝓤 H A (later (some (λ (y : Bool). ‵ (bool .own y (v ∷ [])) ⊛ raw (fact 𝓤 (y ≡ ltb a₁ 8))))))
+    gives-is-found a₁ = told W bool (λ y. ensured 𝓤 H A is-found.ended (is-found.clauses 𝓤 H A at-mem run) tt (a₁, tt) tt y) (λ y. y ≡ ltb a₁ 8) (λ y. exE 𝓤 _ (λ ws. snd∗ 𝓤 (sem 𝓤 H A (lasts is-found.ended tt (a₁, tt) ws)) (fact 𝓤 (y ≡ ltb a₁ 8))))
 
-    abbrev ask-is-place : (a₁ : ℕ) → Is u64 a₁ (vint w64 a₁ ∷ []) → Asked 𝓤 H A
-    ask-is-place a₁ i₁ = record { contract = is-place-contract; ghost = to-is-place a₁; row = bool; says = λ (y : Bool). y ≡ ltb a₁ 8; needs = goes-is-place a₁ i₁; gives = gives-is-place a₁ }
+    abbrev ask-is-found : (a₁ : ℕ) → Is u64 a₁ (vint w64 a₁ ∷ []) → Asked 𝓤 H A
+    ask-is-found a₁ i₁ = record { contract = is-found-contract; ghost = to-is-found a₁; row = bool; says = λ (y : Bool). y ≡ ltb a₁ 8; needs = goes-is-found a₁ i₁; gives = gives-is-found a₁ }
 
     goes-without-place : (a₁ : Pair) (a₂ : ℕ) (v₁ : Val) → Is T.the-row a₁ (v₁ ∷ []) → Is u64 a₂ (vint w64 a₂ ∷ []) → ent 𝓤 (sem 𝓤 H A ftrue) (without-place-contract .pre (to-without-place a₁ a₂ v₁))
     goes-without-place a₁ a₂ v₁ i₁ i₂ = qed W (‵ ftrue ∷ []) ∵ owned ! u64 (Is u64) (uint-makes 𝓤 H A W w64) a₂ (vint w64 a₂ ∷ []) i₂ $ join ! $ owned ! T.the-row (Is T.the-row) ((LL.makes T.the-type T′.the-plain) 𝓤 H A) a₁ (v₁ ∷ []) i₁ $ join ! $ nothing ! $ join ! $ frame ! $ done !
 
-    gives-without-place : (a₁ : Pair) (a₂ : ℕ) (v₁ : Val) (v : Val) → ent 𝓤 (without-place-contract .post (to-without-place a₁ a₂ v₁) v) (mean 𝓤 H A (later (some (λ (y : Pair). ‵ (T.the-row .own y (v ∷ [])) ⊛ raw (fact 𝓤 (y ≡ withPlaces (choose (isAmongFew a₂ (a₁ .places)) (withoutPlace a₂ (a₁ .places)) (a₁ .places)) a₁))))))
-    gives-without-place a₁ a₂ v₁ = told W T.the-row (λ y. ensured 𝓤 H A without-place.ended (without-place.clauses 𝓤 H A at-mem run) tt (a₁, (a₂, tt)) tt y) (λ y. y ≡ withPlaces (choose (isAmongFew a₂ (a₁ .places)) (withoutPlace a₂ (a₁ .places)) (a₁ .places)) a₁) (λ y. exE 𝓤 _ (λ ws. snd∗ 𝓤 (sem 𝓤 H A (lasts without-place.ended tt (a₁, (a₂, tt)) ws)) (fact 𝓤 (y ≡ withPlaces (choose (isAmongFew a₂ (a₁ .places)) (withoutPlace a₂ (a₁ .places)) (a₁ .places)) a₁))))
+    gives-without-place : (a₁ : Pair) (a₂ : ℕ) (v₁ : Val) (v : Val) → ent 𝓤 (without-place-contract .post (to-without-place a₁ a₂ v₁) v) (mean 𝓤 H A (later (some (λ (y : Pair). ‵ (T.the-row .own y (v ∷ [])) ⊛ raw (fact 𝓤 (y ≡ withPlaces (choose (isAmongEight a₂ (a₁ .places)) (withoutPlace a₂ (a₁ .places)) (a₁ .places)) a₁))))))
+    gives-without-place a₁ a₂ v₁ = told W T.the-row (λ y. ensured 𝓤 H A without-place.ended (without-place.clauses 𝓤 H A at-mem run) tt (a₁, (a₂, tt)) tt y) (λ y. y ≡ withPlaces (choose (isAmongEight a₂ (a₁ .places)) (withoutPlace a₂ (a₁ .places)) (a₁ .places)) a₁) (λ y. exE 𝓤 _ (λ ws. snd∗ 𝓤 (sem 𝓤 H A (lasts without-place.ended tt (a₁, (a₂, tt)) ws)) (fact 𝓤 (y ≡ withPlaces (choose (isAmongEight a₂ (a₁ .places)) (withoutPlace a₂ (a₁ .places)) (a₁ .places)) a₁))))
 
     abbrev ask-without-place : (a₁ : Pair) (a₂ : ℕ) (v₁ : Val) → Is T.the-row a₁ (v₁ ∷ []) → Is u64 a₂ (vint w64 a₂ ∷ []) → Asked 𝓤 H A
-    ask-without-place a₁ a₂ v₁ i₁ i₂ = record { contract = without-place-contract; ghost = to-without-place a₁ a₂ v₁; row = T.the-row; says = λ (y : Pair). y ≡ withPlaces (choose (isAmongFew a₂ (a₁ .places)) (withoutPlace a₂ (a₁ .places)) (a₁ .places)) a₁; needs = goes-without-place a₁ a₂ v₁ i₁ i₂; gives = gives-without-place a₁ a₂ v₁ }
+    ask-without-place a₁ a₂ v₁ i₁ i₂ = record { contract = without-place-contract; ghost = to-without-place a₁ a₂ v₁; row = T.the-row; says = λ (y : Pair). y ≡ withPlaces (choose (isAmongEight a₂ (a₁ .places)) (withoutPlace a₂ (a₁ .places)) (a₁ .places)) a₁; needs = goes-without-place a₁ a₂ v₁ i₁ i₂; gives = gives-without-place a₁ a₂ v₁ }
 
     goes-cancels : (a₁ : Pair) (a₂ a₃ : ℕ) (v₁ : Val) → Is T.the-row a₁ (v₁ ∷ []) → Is u32 a₂ (vint w32 a₂ ∷ []) → Is u64 a₃ (vint w64 a₃ ∷ []) → ent 𝓤 (sem 𝓤 H A ftrue) (cancels-contract .pre (to-cancels a₁ a₂ a₃ v₁))
     goes-cancels a₁ a₂ a₃ v₁ i₁ i₂ i₃ = qed W (‵ ftrue ∷ []) ∵ owned ! u64 (Is u64) (uint-makes 𝓤 H A W w64) a₃ _ i₃ $ join ! $ owned ! u32 (Is u32) (uint-makes 𝓤 H A W w32) a₂ _ i₂ $ join ! $ owned ! T.the-row (Is T.the-row) ((LL.makes T.the-type T′.the-plain) 𝓤 H A) a₁ (v₁ ∷ []) i₁ $ join ! $ nothing ! $ join ! $ frame ! $ done !
@@ -214,12 +214,12 @@ module _ {M : Type 1} (𝓤 : URA M) (H : Heap 𝓤) (A : Atoms 𝓤) (W : Given
   answers y p′ z e i g = record { answer = y .answer; word = g; kept = subst (λ (k : Pair). Cancels h x₁ x₂ (record { pair = k; answer = y .answer })) (sym i) e }
 
   removes : (k : ℕ) (p′ : Pair) (d : Bool) → length (h .places .table) ≡ 128 → k ≡ onlyMatch (isDone (openingTest (endsOf h) x₁)) (isOne x₁) x₂ (h .places) → d ≡ ltb k 8 → T d
-      → p′ ≡ withPlaces (choose (isAmongFew k (h .places)) (withoutPlace k (h .places)) (h .places)) h → Answered (Cancels h x₁ x₂) p′ (pos 1)
+      → p′ ≡ withPlaces (choose (isAmongEight k (h .places)) (withoutPlace k (h .places)) (h .places)) h → Answered (Cancels h x₁ x₂) p′ (pos 1)
   unfolding answerWord recordCount
   removes k p′ true l e f t g = record { answer = Done (Count 1); word = refl; kept = one-steps h x₁ x₂ k p′ l e (sym f) g }
   removes k p′ false l e f t g = absurd t
 
-  module _ (C : Calls 𝓤 H) (Λ : Loops 𝓤 H) (fm : FmC 𝓤 H (W .laws) C) (known-only-match : Triple 𝓤 (C #only-match) (only-match-contract 𝓤 H A at-mem run)) (known-is-place : Triple 𝓤 (C #is-place) (is-place-contract 𝓤 H A at-mem run)) (known-without-place : Triple 𝓤 (C #without-place) (without-place-contract 𝓤 H A at-mem run)) (known-cancels : Triple 𝓤 (C #cancels) (cancels-contract 𝓤 H A at-mem run)) (known-pair : Triple 𝓤 (C #pair) (pair-contract 𝓤 H A at-mem run)) (known-word : Triple 𝓤 (C #word) (word-contract 𝓤 H A at-mem run)) where
+  module _ (C : Calls 𝓤 H) (Λ : Loops 𝓤 H) (fm : FmC 𝓤 H (W .laws) C) (known-only-match : Triple 𝓤 (C #only-match) (only-match-contract 𝓤 H A at-mem run)) (known-is-found : Triple 𝓤 (C #is-found) (is-found-contract 𝓤 H A at-mem run)) (known-without-place : Triple 𝓤 (C #without-place) (without-place-contract 𝓤 H A at-mem run)) (known-cancels : Triple 𝓤 (C #cancels) (cancels-contract 𝓤 H A at-mem run)) (known-pair : Triple 𝓤 (C #pair) (pair-contract 𝓤 H A at-mem run)) (known-word : Triple 𝓤 (C #word) (word-contract 𝓤 H A at-mem run)) where
     walk : ent 𝓤 (onEntry 𝓤 H A f.signature bound (q, tt) x at) (WpFn 𝓤 H C Λ code.function (vptr b o ∷ vint w32 x₁ ∷ vint w64 x₂ ∷ []) Post)
     walk =
         qed W ((‵ (flft κ q) ⊛ ‵ ftrue) ∷ ‵ (owns (MutRef (named 0) κ T.the-row ∷ u32 ∷ u64 ∷ []) x at) ∷ []) ∵ split ! $ move ! (2 ∷ []) $ fsplit ! $ move ! (1 ∷ []) $ fsplit ! $ peeks ! u32 (Is u32) (shows 𝓤 H A u32) x₁ (vint w32 x₁ ∷ []) (λ g₁. move ! (1 ∷ []) $ fsplit ! $
@@ -231,7 +231,7 @@ module _ {M : Type 1} (𝓤 : URA M) (H : Heap 𝓤) (A : Atoms 𝓤) (W : Given
         assigns ! (of-opd ! (load ! (from ! (hop ! (look ! 26 refl) (stop !))) (look-raw ! 0 refl))) (from ! (stop !)) (fills ! 14 T.the-row (pair-lawful 𝓤 H A at-mem run W) h vh was refl refl) $
         tests ! fm (ask-only-match 𝓤 H A at-mem run W h x₁ x₂ vh was g₁ g₂) (uint-vals w64) (uint-tells w64) known-only-match (and-then ! (load ! (from ! (stop !)) (look ! 15 refl)) (and-then ! (load ! (from ! (stop !)) (look ! 25 refl)) (and-then ! (load ! (from ! (stop !)) (look ! 23 refl)) (no-more !)))) (λ y₄ e₄ i₄.
         land ! (from ! (stop !)) (init ! 20 refl (tt, record { fits = i₄ .1 })) $
-        tests ! fm (ask-is-place 𝓤 H A at-mem run W y₄ i₄) bool-vals bool-tells known-is-place (and-then ! (load ! (from ! (stop !)) (look ! 21 refl)) (no-more !)) (λ y₈ e₈ i₈.
+        tests ! fm (ask-is-found 𝓤 H A at-mem run W y₄ i₄) bool-vals bool-tells known-is-found (and-then ! (load ! (from ! (stop !)) (look ! 21 refl)) (no-more !)) (λ y₈ e₈ i₈.
         land ! (from ! (stop !)) (init ! 12 refl (bool-lawful 𝓤 H A W .typed y₈ _ i₈ .0)) $
         first ! $ branches ! (load ! (from ! (stop !)) (look ! 12 refl))
         (λ on₈. assigns ! (of-opd ! (load ! (from ! (hop ! (look ! 26 refl) (stop !))) (look-raw ! 0 refl))) (from ! (stop !)) (fills ! 6 T.the-row (pair-lawful 𝓤 H A at-mem run W) h vh was refl refl) $
@@ -262,7 +262,7 @@ module _ {M : Type 1} (𝓤 : URA M) (H : Heap 𝓤) (A : Atoms 𝓤) (W : Given
         owned ! i64 (Is i64) (sint-makes 𝓤 H A W w64) z₆ (v₆ ∷ []) i₆ $ keep ! (1 ∷ 2 ∷ 3 ∷ 4 ∷ 0 ∷ []) $ by ! (exits y₁₂ z₆ v₆ (answers y₅ y₁₂ z₆ e₅ e₁₂ e₆))))))))))))))))))))))))
 
 module _ {M : Type 1} (𝓤 : URA M) (H : Heap 𝓤) (A : Atoms 𝓤) (W : Given 𝓤 H A) (at-mem : Memory → SProp 𝓤) (run : Routine → Fun 𝓤) where
-  walks : (C : Calls 𝓤 H) (Λ : Loops 𝓤 H) → FmC 𝓤 H (W .laws) C → Triple 𝓤 (C #only-match) (only-match-contract 𝓤 H A at-mem run) → Triple 𝓤 (C #is-place) (is-place-contract 𝓤 H A at-mem run) → Triple 𝓤 (C #without-place) (without-place-contract 𝓤 H A at-mem run) → Triple 𝓤 (C #cancels) (cancels-contract 𝓤 H A at-mem run) → Triple 𝓤 (C #pair) (pair-contract 𝓤 H A at-mem run) → Triple 𝓤 (C #word) (word-contract 𝓤 H A at-mem run) → Walks 𝓤 H A f.ended stayed (WpFn 𝓤 H C Λ code.function) (f.clauses 𝓤 H A at-mem run)
+  walks : (C : Calls 𝓤 H) (Λ : Loops 𝓤 H) → FmC 𝓤 H (W .laws) C → Triple 𝓤 (C #only-match) (only-match-contract 𝓤 H A at-mem run) → Triple 𝓤 (C #is-found) (is-found-contract 𝓤 H A at-mem run) → Triple 𝓤 (C #without-place) (without-place-contract 𝓤 H A at-mem run) → Triple 𝓤 (C #cancels) (cancels-contract 𝓤 H A at-mem run) → Triple 𝓤 (C #pair) (pair-contract 𝓤 H A at-mem run) → Triple 𝓤 (C #word) (word-contract 𝓤 H A at-mem run) → Walks 𝓤 H A f.ended stayed (WpFn 𝓤 H C Λ code.function) (f.clauses 𝓤 H A at-mem run)
   walks C Λ fm k₀ k₁ k₂ k₃ k₄ k₅ = walked 𝓤 H A f.ended stayed (f.clauses 𝓤 H A at-mem run) (WpFn 𝓤 H C Λ code.function) (λ κs. (ptr-vals, (uint-vals w32, (uint-vals w64, tt)))) (λ κs. (mut-tells (named 0) (κs .0) T.the-row, (uint-tells w32, (uint-tells w64, tt))))
       (λ κs qs bounds a _ are. via 𝓤 _ (fst∗ 𝓤 _ (emp 𝓤)) (walk 𝓤 H A W at-mem run (κs .0) (qs .0) (a .0 .ptr .0) (a .0 .ptr .1) (a .0 .name) (a .0 .now) (a .1 .0) (a .1 .1 .0) C Λ fm k₀ k₁ k₂ k₃ k₄ k₅))
 
@@ -270,7 +270,7 @@ module _ {M : Type 1} (𝓤 : URA M) (H : Heap 𝓤) (A : Atoms 𝓤) (W : Given
   goes = (goes-ref 𝓤 H A W 1 0 tt (plain (λ _. T.the-row)), (goes-dropped 𝓤 H A W 1 (plain (λ _. u32)) yes (λ κs x f. refl), (goes-dropped 𝓤 H A W 1 (plain (λ _. u64)) yes (λ κs x f. refl), tt)))
 
 meets : {M : Type 1} (𝓤 : URA M) (H : Heap 𝓤) (A : Atoms 𝓤) (W : Given 𝓤 H A) (at-mem : Memory → SProp 𝓤) (run : Routine → Fun 𝓤) (𝓣 : Tables 𝓤 H)
-    → Triple 𝓤 (𝓣 .C #only-match) (only-match-contract 𝓤 H A at-mem run) → Triple 𝓤 (𝓣 .C #is-place) (is-place-contract 𝓤 H A at-mem run) → Triple 𝓤 (𝓣 .C #without-place) (without-place-contract 𝓤 H A at-mem run) → Triple 𝓤 (𝓣 .C #cancels) (cancels-contract 𝓤 H A at-mem run) → Triple 𝓤 (𝓣 .C #pair) (pair-contract 𝓤 H A at-mem run) → Triple 𝓤 (𝓣 .C #word) (word-contract 𝓤 H A at-mem run) → Meets 𝓤 H A f.signature (WpFn 𝓤 H (𝓣 .C) (𝓣 .Λ) code.function) (f.spec 𝓤 H A at-mem run)
+    → Triple 𝓤 (𝓣 .C #only-match) (only-match-contract 𝓤 H A at-mem run) → Triple 𝓤 (𝓣 .C #is-found) (is-found-contract 𝓤 H A at-mem run) → Triple 𝓤 (𝓣 .C #without-place) (without-place-contract 𝓤 H A at-mem run) → Triple 𝓤 (𝓣 .C #cancels) (cancels-contract 𝓤 H A at-mem run) → Triple 𝓤 (𝓣 .C #pair) (pair-contract 𝓤 H A at-mem run) → Triple 𝓤 (𝓣 .C #word) (word-contract 𝓤 H A at-mem run) → Meets 𝓤 H A f.signature (WpFn 𝓤 H (𝓣 .C) (𝓣 .Λ) code.function) (f.spec 𝓤 H A at-mem run)
 meets 𝓤 H A W at-mem run 𝓣 k₀ k₁ k₂ k₃ k₄ k₅ = walk-meets 𝓤 H A f.ended stayed W (goes 𝓤 H A W at-mem run) (f.clauses 𝓤 H A at-mem run) (WpFn 𝓤 H (𝓣 .C) (𝓣 .Λ) code.function) (WpFn-mono 𝓤 H (W .laws) 𝓣 code.function)
     (walks 𝓤 H A W at-mem run (𝓣 .C) (𝓣 .Λ) (fmOf 𝓤 H (W .laws) 𝓣) k₀ k₁ k₂ k₃ k₄ k₅)
 
@@ -281,7 +281,7 @@ murgwethan-cancel-spec 𝓤 H 𝓜 𝓖 𝓡 =
     (tables 𝓤 H 𝓜 𝓡 code.env .C) (tables 𝓤 H 𝓜 𝓡 code.env .Λ) #own code.function (code.unfolded 𝓤 H 𝓜 𝓡)
     (meets 𝓤 H (𝓖 .A) (givenOf 𝓤 H 𝓜 𝓖) (𝓜 .mem) (𝓡 .run) (tablesOf 𝓤 H 𝓜 (tables 𝓤 H 𝓜 𝓡 code.env))
     (cited 𝓤 H (only-match-contract 𝓤 H (𝓖 .A) (𝓜 .mem) (𝓡 .run)) 𝓜 𝓡 code.env #only-match only-match-def.routine code.calls-socket·only-match (only-match-thm.met 𝓤 H 𝓜 𝓖 𝓡))
-    (cited 𝓤 H (is-place-contract 𝓤 H (𝓖 .A) (𝓜 .mem) (𝓡 .run)) 𝓜 𝓡 code.env #is-place is-place-def.routine code.calls-socket·is-place (is-place-thm.met 𝓤 H 𝓜 𝓖 𝓡))
+    (cited 𝓤 H (is-found-contract 𝓤 H (𝓖 .A) (𝓜 .mem) (𝓡 .run)) 𝓜 𝓡 code.env #is-found is-found-def.routine code.calls-socket·is-found (is-found-thm.met 𝓤 H 𝓜 𝓖 𝓡))
     (cited 𝓤 H (without-place-contract 𝓤 H (𝓖 .A) (𝓜 .mem) (𝓡 .run)) 𝓜 𝓡 code.env #without-place without-place-def.routine code.calls-socket·without-place (without-place-thm.met 𝓤 H 𝓜 𝓖 𝓡))
     (cited 𝓤 H (cancels-contract 𝓤 H (𝓖 .A) (𝓜 .mem) (𝓡 .run)) 𝓜 𝓡 code.env #cancels cancels-def.routine code.calls-socket·cancelled (cancels-thm.met 𝓤 H 𝓜 𝓖 𝓡))
     (cited 𝓤 H (pair-contract 𝓤 H (𝓖 .A) (𝓜 .mem) (𝓡 .run)) 𝓜 𝓡 code.env #pair pair-def.routine code.calls-host·values·step-pair (pair-thm.met 𝓤 H 𝓜 𝓖 𝓡))

@@ -40,7 +40,7 @@ use Rattle.endpoint.proofs.answer.word as word
 use Rattle.socket.proofs.is_unused as is-unused
 use Rattle.socket.proofs.appends_few as appends-few
 use Rattle.socket.proofs.registered_first as registered-first
-use Rattle.socket.proofs.registered_few as registered-few
+use Rattle.socket.proofs.registered_last as registered-last
 use Rattle.socket.proofs.registered as registered
 
 module _ {M : Type 1} (𝓤 : URA M) (H : Heap 𝓤) (A : Atoms 𝓤) (at-mem : Memory → SProp 𝓤) (run : Routine → Fun 𝓤) where
@@ -68,11 +68,11 @@ module _ {M : Type 1} (𝓤 : URA M) (H : Heap 𝓤) (A : Atoms 𝓤) (at-mem : 
   abbrev pub to-registered-first : Pair → Answer → ℕ → ℕ → ℕ → ℕ → Val → registered-first-contract .Ghost
   to-registered-first a₁ a₂ a₃ a₄ a₅ a₆ v₁ = ((tt, tt, tt, (a₁, (a₂, (a₃, (a₄, (a₅, (a₆, tt)))))), (v₁ ∷ [], ((EL.vals N.the-type N′.the-laws) a₂, (vint w32 a₃ ∷ [], (vint w64 a₄ ∷ [], (vint w32 a₅ ∷ [], (vint w8 a₆ ∷ [], tt))))))), tt)
 
-  abbrev pub registered-few-contract : Contract 𝓤
-  registered-few-contract = tripleOf 𝓤 H A registered-few.signature (registered-few.spec 𝓤 H A at-mem run)
+  abbrev pub registered-last-contract : Contract 𝓤
+  registered-last-contract = tripleOf 𝓤 H A registered-last.signature (registered-last.spec 𝓤 H A at-mem run)
 
-  abbrev pub to-registered-few : Pair → Answer → ℕ → ℕ → ℕ → Val → registered-few-contract .Ghost
-  to-registered-few a₁ a₂ a₃ a₄ a₅ v₁ = ((tt, tt, tt, (a₁, (a₂, (a₃, (a₄, (a₅, tt))))), (v₁ ∷ [], ((EL.vals N.the-type N′.the-laws) a₂, (vint w32 a₃ ∷ [], (vint w64 a₄ ∷ [], (vint w32 a₅ ∷ [], tt)))))), tt)
+  abbrev pub to-registered-last : Pair → Answer → ℕ → ℕ → ℕ → Val → registered-last-contract .Ghost
+  to-registered-last a₁ a₂ a₃ a₄ a₅ v₁ = ((tt, tt, tt, (a₁, (a₂, (a₃, (a₄, (a₅, tt))))), (v₁ ∷ [], ((EL.vals N.the-type N′.the-laws) a₂, (vint w32 a₃ ∷ [], (vint w64 a₄ ∷ [], (vint w32 a₅ ∷ [], tt)))))), tt)
 
   abbrev pub registered-contract : Contract 𝓤
   registered-contract = tripleOf 𝓤 H A registered.signature (registered.spec 𝓤 H A at-mem run)
@@ -117,14 +117,14 @@ module _ {M : Type 1} (𝓤 : URA M) (H : Heap 𝓤) (A : Atoms 𝓤) (at-mem : 
     abbrev pub ask-registered-first : (a₁ : Pair) (a₂ : Answer) (a₃ : ℕ) (a₄ : ℕ) (a₅ : ℕ) (a₆ : ℕ) (v₁ : Val) → Is T.the-row a₁ (v₁ ∷ []) → Is N.the-row a₂ ((EL.vals N.the-type N′.the-laws) a₂) → Is u32 a₃ (vint w32 a₃ ∷ []) → Is u64 a₄ (vint w64 a₄ ∷ []) → Is u32 a₅ (vint w32 a₅ ∷ []) → Is u8 a₆ (vint w8 a₆ ∷ []) → Asked 𝓤 H A
     ask-registered-first a₁ a₂ a₃ a₄ a₅ a₆ v₁ i₁ i₂ i₃ i₄ i₅ i₆ = record { contract = registered-first-contract; ghost = to-registered-first a₁ a₂ a₃ a₄ a₅ a₆ v₁; row = T.the-row; says = λ (y : Pair). y ≡ choose (unused (a₁ .places)) (registeredPair (isDone a₂) (isOne a₃) a₄ a₅ a₆ a₁) a₁; needs = goes-registered-first a₁ a₂ a₃ a₄ a₅ a₆ v₁ i₁ i₂ i₃ i₄ i₅ i₆; gives = gives-registered-first a₁ a₂ a₃ a₄ a₅ a₆ v₁ }
 
-    pub goes-registered-few : (a₁ : Pair) (a₂ : Answer) (a₃ : ℕ) (a₄ : ℕ) (a₅ : ℕ) (v₁ : Val) → Is T.the-row a₁ (v₁ ∷ []) → Is N.the-row a₂ ((EL.vals N.the-type N′.the-laws) a₂) → Is u32 a₃ (vint w32 a₃ ∷ []) → Is u64 a₄ (vint w64 a₄ ∷ []) → Is u32 a₅ (vint w32 a₅ ∷ []) → ent 𝓤 (sem 𝓤 H A ftrue) (registered-few-contract .pre (to-registered-few a₁ a₂ a₃ a₄ a₅ v₁))
-    goes-registered-few a₁ a₂ a₃ a₄ a₅ v₁ i₁ i₂ i₃ i₄ i₅ = qed W (‵ ftrue ∷ []) ∵ owned ! u32 (Is u32) (uint-makes 𝓤 H A W w32) a₅ (vint w32 a₅ ∷ []) i₅ $ join ! $ owned ! u64 (Is u64) (uint-makes 𝓤 H A W w64) a₄ (vint w64 a₄ ∷ []) i₄ $ join ! $ owned ! u32 (Is u32) (uint-makes 𝓤 H A W w32) a₃ (vint w32 a₃ ∷ []) i₃ $ join ! $ owned ! N.the-row (Is N.the-row) ((EL.makes N.the-type N′.the-plain) 𝓤 H A) a₂ ((EL.vals N.the-type N′.the-laws) a₂) i₂ $ join ! $ owned ! T.the-row (Is T.the-row) ((LL.makes T.the-type T′.the-plain) 𝓤 H A) a₁ (v₁ ∷ []) i₁ $ join ! $ nothing ! $ join ! $ frame ! $ done !
+    pub goes-registered-last : (a₁ : Pair) (a₂ : Answer) (a₃ : ℕ) (a₄ : ℕ) (a₅ : ℕ) (v₁ : Val) → Is T.the-row a₁ (v₁ ∷ []) → Is N.the-row a₂ ((EL.vals N.the-type N′.the-laws) a₂) → Is u32 a₃ (vint w32 a₃ ∷ []) → Is u64 a₄ (vint w64 a₄ ∷ []) → Is u32 a₅ (vint w32 a₅ ∷ []) → ent 𝓤 (sem 𝓤 H A ftrue) (registered-last-contract .pre (to-registered-last a₁ a₂ a₃ a₄ a₅ v₁))
+    goes-registered-last a₁ a₂ a₃ a₄ a₅ v₁ i₁ i₂ i₃ i₄ i₅ = qed W (‵ ftrue ∷ []) ∵ owned ! u32 (Is u32) (uint-makes 𝓤 H A W w32) a₅ (vint w32 a₅ ∷ []) i₅ $ join ! $ owned ! u64 (Is u64) (uint-makes 𝓤 H A W w64) a₄ (vint w64 a₄ ∷ []) i₄ $ join ! $ owned ! u32 (Is u32) (uint-makes 𝓤 H A W w32) a₃ (vint w32 a₃ ∷ []) i₃ $ join ! $ owned ! N.the-row (Is N.the-row) ((EL.makes N.the-type N′.the-plain) 𝓤 H A) a₂ ((EL.vals N.the-type N′.the-laws) a₂) i₂ $ join ! $ owned ! T.the-row (Is T.the-row) ((LL.makes T.the-type T′.the-plain) 𝓤 H A) a₁ (v₁ ∷ []) i₁ $ join ! $ nothing ! $ join ! $ frame ! $ done !
 
-    pub gives-registered-few : (a₁ : Pair) (a₂ : Answer) (a₃ : ℕ) (a₄ : ℕ) (a₅ : ℕ) (v₁ : Val) (v : Val) → ent 𝓤 (registered-few-contract .post (to-registered-few a₁ a₂ a₃ a₄ a₅ v₁) v) (mean 𝓤 H A (later (some (λ (y : Pair). ‵ (T.the-row .own y (v ∷ [])) ⊛ raw (fact 𝓤 (y ≡ appendedPair (isDone a₂) (isOne a₃) a₄ a₅ a₁))))))
-    gives-registered-few a₁ a₂ a₃ a₄ a₅ v₁ = told W T.the-row (λ y. ensured 𝓤 H A registered-few.ended (registered-few.clauses 𝓤 H A at-mem run) tt (a₁, (a₂, (a₃, (a₄, (a₅, tt))))) tt y) (λ y. y ≡ appendedPair (isDone a₂) (isOne a₃) a₄ a₅ a₁) (λ y. exE 𝓤 _ (λ ws. snd∗ 𝓤 (sem 𝓤 H A (lasts registered-few.ended tt (a₁, (a₂, (a₃, (a₄, (a₅, tt))))) ws)) (fact 𝓤 (y ≡ appendedPair (isDone a₂) (isOne a₃) a₄ a₅ a₁))))
+    pub gives-registered-last : (a₁ : Pair) (a₂ : Answer) (a₃ : ℕ) (a₄ : ℕ) (a₅ : ℕ) (v₁ : Val) (v : Val) → ent 𝓤 (registered-last-contract .post (to-registered-last a₁ a₂ a₃ a₄ a₅ v₁) v) (mean 𝓤 H A (later (some (λ (y : Pair). ‵ (T.the-row .own y (v ∷ [])) ⊛ raw (fact 𝓤 (y ≡ appendedPair (isDone a₂) (isOne a₃) a₄ a₅ a₁))))))
+    gives-registered-last a₁ a₂ a₃ a₄ a₅ v₁ = told W T.the-row (λ y. ensured 𝓤 H A registered-last.ended (registered-last.clauses 𝓤 H A at-mem run) tt (a₁, (a₂, (a₃, (a₄, (a₅, tt))))) tt y) (λ y. y ≡ appendedPair (isDone a₂) (isOne a₃) a₄ a₅ a₁) (λ y. exE 𝓤 _ (λ ws. snd∗ 𝓤 (sem 𝓤 H A (lasts registered-last.ended tt (a₁, (a₂, (a₃, (a₄, (a₅, tt))))) ws)) (fact 𝓤 (y ≡ appendedPair (isDone a₂) (isOne a₃) a₄ a₅ a₁))))
 
-    abbrev pub ask-registered-few : (a₁ : Pair) (a₂ : Answer) (a₃ : ℕ) (a₄ : ℕ) (a₅ : ℕ) (v₁ : Val) → Is T.the-row a₁ (v₁ ∷ []) → Is N.the-row a₂ ((EL.vals N.the-type N′.the-laws) a₂) → Is u32 a₃ (vint w32 a₃ ∷ []) → Is u64 a₄ (vint w64 a₄ ∷ []) → Is u32 a₅ (vint w32 a₅ ∷ []) → Asked 𝓤 H A
-    ask-registered-few a₁ a₂ a₃ a₄ a₅ v₁ i₁ i₂ i₃ i₄ i₅ = record { contract = registered-few-contract; ghost = to-registered-few a₁ a₂ a₃ a₄ a₅ v₁; row = T.the-row; says = λ (y : Pair). y ≡ appendedPair (isDone a₂) (isOne a₃) a₄ a₅ a₁; needs = goes-registered-few a₁ a₂ a₃ a₄ a₅ v₁ i₁ i₂ i₃ i₄ i₅; gives = gives-registered-few a₁ a₂ a₃ a₄ a₅ v₁ }
+    abbrev pub ask-registered-last : (a₁ : Pair) (a₂ : Answer) (a₃ : ℕ) (a₄ : ℕ) (a₅ : ℕ) (v₁ : Val) → Is T.the-row a₁ (v₁ ∷ []) → Is N.the-row a₂ ((EL.vals N.the-type N′.the-laws) a₂) → Is u32 a₃ (vint w32 a₃ ∷ []) → Is u64 a₄ (vint w64 a₄ ∷ []) → Is u32 a₅ (vint w32 a₅ ∷ []) → Asked 𝓤 H A
+    ask-registered-last a₁ a₂ a₃ a₄ a₅ v₁ i₁ i₂ i₃ i₄ i₅ = record { contract = registered-last-contract; ghost = to-registered-last a₁ a₂ a₃ a₄ a₅ v₁; row = T.the-row; says = λ (y : Pair). y ≡ appendedPair (isDone a₂) (isOne a₃) a₄ a₅ a₁; needs = goes-registered-last a₁ a₂ a₃ a₄ a₅ v₁ i₁ i₂ i₃ i₄ i₅; gives = gives-registered-last a₁ a₂ a₃ a₄ a₅ v₁ }
 
     pub goes-registered : (a₁ : Pair) (a₂ : Answer) (a₃ : ℕ) (a₄ : ℕ) (a₅ : ℕ) (a₆ : ℕ) (v₁ : Val) → Is T.the-row a₁ (v₁ ∷ []) → Is N.the-row a₂ ((EL.vals N.the-type N′.the-laws) a₂) → Is u32 a₃ (vint w32 a₃ ∷ []) → Is u64 a₄ (vint w64 a₄ ∷ []) → Is u32 a₅ (vint w32 a₅ ∷ []) → Is u8 a₆ (vint w8 a₆ ∷ []) → ent 𝓤 (sem 𝓤 H A ftrue) (registered-contract .pre (to-registered a₁ a₂ a₃ a₄ a₅ a₆ v₁))
     goes-registered a₁ a₂ a₃ a₄ a₅ a₆ v₁ i₁ i₂ i₃ i₄ i₅ i₆ = qed W (‵ ftrue ∷ []) ∵ owned ! u8 (Is u8) (uint-makes 𝓤 H A W w8) a₆ (vint w8 a₆ ∷ []) i₆ $ join ! $ owned ! u32 (Is u32) (uint-makes 𝓤 H A W w32) a₅ (vint w32 a₅ ∷ []) i₅ $ join ! $ owned ! u64 (Is u64) (uint-makes 𝓤 H A W w64) a₄ (vint w64 a₄ ∷ []) i₄ $ join ! $ owned ! u32 (Is u32) (uint-makes 𝓤 H A W w32) a₃ (vint w32 a₃ ∷ []) i₃ $ join ! $ owned ! N.the-row (Is N.the-row) ((EL.makes N.the-type N′.the-plain) 𝓤 H A) a₂ ((EL.vals N.the-type N′.the-laws) a₂) i₂ $ join ! $ owned ! T.the-row (Is T.the-row) ((LL.makes T.the-type T′.the-plain) 𝓤 H A) a₁ (v₁ ∷ []) i₁ $ join ! $ nothing ! $ join ! $ frame ! $ done !

@@ -1,4 +1,4 @@
--- A cancel that matches one place of a table: the place is taken out. Assumes nothing.
+-- A cancel that matches one place of a table: the place is taken out; and a wait behind the others is what registering gives. Assumes nothing.
 use Prim.Native.Nat.{ℕ, suc, _+_, _-_, _≤_, _<_}
 use mathlib.Core.Path.{_≡_, refl, sym, ap, _∙_}
 use mathlib.Core.Bool.{Bool, true, false, not}
@@ -12,7 +12,7 @@ use Rattle.definition.specs.Status.{pick, _and_}
 use Rattle.definition.specs.declared.Place.{Place}
 use Rattle.definition.specs.declared.Places.{Places}
 use Rattle.definition.specs.Port.{filter, free, used, packetsOf, waitsOf, unusedOf, tableOf, waitOf, done, appendedOf, registeredOf, registerOf, matches, unmatched, matching, cancelledOf}
-use Rattle.port.specs.few.Few.{indexOf, onlyMatch, removedAt, isAmongFew, withoutPlace}
+use Rattle.port.specs.few.Few.{indexOf, onlyMatch, removedAt, isAmongEight, withoutPlace}
 use Rattle.endpoint.proofs.answer.Chains.{both}
 use Rattle.definition.specs.declared.Next.{Next}
 use Rattle.definition.specs.Signal.{meets}
@@ -84,7 +84,9 @@ module _ (one : Bool) (key : ℕ) (t : Places) (h : used t ≤ length (t .table)
         ∙ sym (append-assoc a b c)
         ∙ ap (λ (l : List Place). l ++ c) (sym left)
         ∙ append-assoc (filter (λ p. not (f p)) (packetsOf t)) (filter (λ p. not (f p)) (waitsOf t)) c
-        ∙ ap (λ (n : ℕ). filter (λ p. not (f p)) (packetsOf t) ++ (filter (λ p. not (f p)) (waitsOf t) ++ (replicate n free ++ drop (used t) (t .table)))) (sym e)
+        ∙ ap
+        (λ (n : ℕ). filter (λ p. not (f p)) (packetsOf t) ++ (filter (λ p. not (f p)) (waitsOf t) ++ (replicate n free ++ drop (used t) (t .table))))
+        (sym e)
 
     pub one-cancelled : withoutPlace at t ≡ cancelledOf one key t
     unfolding withoutPlace cancelledOf tableOf unmatched pick
@@ -122,10 +124,11 @@ module _ (one : Bool) (key : ℕ) (t : Places) (h : used t ≤ length (t .table)
 pub record OnlyOne (asked one : Bool) (key : ℕ) (t : Places) (k : ℕ) : Type 0 where
   pub done : asked ≡ true
   pub count : matching one key t ≡ 1
-  pub left : pick (isAmongFew k t) (withoutPlace k t) t ≡ cancelledOf one key t
+  pub left : pick (isAmongEight k t) (withoutPlace k t) t ≡ cancelledOf one key t
 
-pub only-one : (asked one : Bool) (key : ℕ) (t : Places) (k : ℕ) → length (t .table) ≡ 128 → k ≡ onlyMatch asked one key t → ltb k 8 ≡ true → OnlyOne asked one key t k
-unfolding onlyMatch pick isAmongFew
+pub only-one : (asked one : Bool) (key : ℕ) (t : Places) (k : ℕ) → length (t .table) ≡ 128 → k ≡ onlyMatch asked one key t → ltb k 8 ≡ true
+    → OnlyOne asked one key t k
+unfolding onlyMatch pick isAmongEight
 only-one asked one key t k l e b = by (asked and (leb (used t) 8 and eqb (matching one key t) 1)) refl
   where
     by : (y : Bool) → (asked and (leb (used t) 8 and eqb (matching one key t) 1)) ≡ y → OnlyOne asked one key t k

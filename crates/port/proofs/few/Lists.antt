@@ -12,8 +12,12 @@ use lib.Seq.{slice, length-slice, length-take-le, take-suc, take-at, drop-at, dr
 use borrow.Author.Tests.{ltb-true, ltb-false, leb-true, leb-false, eqb-true, eqb-false, lt-ltb, le-ltb, lt-leb, ne-eqb}
 use Rattle.definition.specs.Status.{pick, _and_}
 use Rattle.definition.specs.Port.{filter}
-use Rattle.port.specs.few.Few.{indexOf, removedAt, elementWithout}
+use Rattle.port.specs.few.Few.{indexOf, removedAt}
 use Rattle.port.proofs.places.Lists.{either, filter-append, filter-all, filter-empty}
+
+-- what stands at i once the element at k is taken out of those up to `last`, by what stood there and behind it
+unfoldable pub elementWithout : {A : Type 0} → (i k last : ℕ) (z here next : A) → A
+elementWithout i k last z here next = pick (eqb i last) z (pick (leb k i and ltb i last) next here)
 
 module _ {A : Type 0} where
   -- ---- a list whose first elements are those of another
@@ -106,7 +110,15 @@ module _ {A : Type 0} where
     unfolding removedAt
     removed-size =
         length-append (take k tab) (slice (suc k) (suc last) tab ++ (z ∷ drop (suc last) tab))
-        ∙ omega (arith, len-front, len-moved, length-append (slice (suc k) (suc last) tab) (z ∷ drop (suc last) tab), ap length (take-append-drop (suc last) tab), length-append (take (suc last) tab) (drop (suc last) tab), length-take-le (suc last) tab (omega arith))
+        ∙ omega (
+          arith,
+          len-front,
+          len-moved,
+          length-append (slice (suc k) (suc last) tab) (z ∷ drop (suc last) tab),
+          ap length (take-append-drop (suc last) tab),
+          length-append (take (suc last) tab) (drop (suc last) tab),
+          length-take-le (suc last) tab (omega arith),
+        )
 
     pub removed-rest : drop (suc last) (removedAt k last z tab) ≡ drop (suc last) tab
     unfolding removedAt
@@ -140,7 +152,8 @@ module _ {A : Type 0} where
     unfolding pick
     taken-at i h = by (ltb last 8) refl
       where
-        by : (b : Bool) → ltb last 8 ≡ b → elementWithout i k last z (getD tab i d) (getD tab (i + 1) d) ≡ getD (pick (ltb last 8) (removedAt k last z tab) tab) i d
+        by : (b : Bool) → ltb last 8 ≡ b
+            → elementWithout i k last z (getD tab i d) (getD tab (i + 1) d) ≡ getD (pick (ltb last 8) (removedAt k last z tab) tab) i d
         by true b = let low = ltb-true last 8 b in rw b (removed-at tab z d k last (on b) (omega (arith, low)) i)
         by false b = rw b (stays i k last z (getD tab i d) (getD tab (i + 1) d) h (ltb-false last 8 b) (off b))
 

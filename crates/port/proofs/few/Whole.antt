@@ -14,7 +14,7 @@ use Rattle.definition.specs.Status.{pick, _and_}
 use Rattle.definition.specs.declared.Place.{Place}
 use Rattle.definition.specs.declared.Places.{Places}
 use Rattle.definition.specs.Port.{free, used, appendedOf}
-use Rattle.port.specs.few.Few.{fewUsed, removedAt, isAmongFew, withoutPlace}
+use Rattle.port.specs.few.Few.{atMostSevenUsed, removedAt, isAmongEight, withoutPlace}
 use Rattle.port.proofs.places.Size.{same-places}
 use Rattle.port.proofs.waits.Insertion.{placed-as}
 
@@ -33,18 +33,21 @@ put-behind-used t x h =
     (set-split tab u x h ∙ sym (append-assoc (take u tab) (x ∷ []) (drop (suc u) tab)) ∙ ap (λ (l : List Place). (take u tab ++ (x ∷ [])) ++ l) rest)
     ∙ placed-as t x false u 0 refl refl h
 
-pub appended-few : (asked : Bool) (t : Places) (x : Place) (room : Bool) (u at more : ℕ) (w : Places) → length (t .table) ≡ 128 → room ≡ (asked and leb (used t) 7)
-    → u ≡ pick (leb (used t) 7) (used t) 0 → at ≡ pick room u 8 → more ≡ pick room 1 0
+pub appended-few : (asked : Bool) (t : Places) (x : Place) (room : Bool) (u at more : ℕ) (w : Places) → length (t .table) ≡ 128
+    → room ≡ (asked and leb (used t) 7) → u ≡ pick (leb (used t) 7) (used t) 0 → at ≡ pick room u 8 → more ≡ pick room 1 0
     → w ≡ record { packets = t .packets; waits = t .waits; table = pick (ltb at 8) (set (t .table) at x) (t .table) }
-    → _≡_ {A = Places} (record { packets = w .packets; waits = t .waits + more; table = w .table }) (pick (asked and fewUsed t) (appendedOf x t) t)
-unfolding pick _and_ fewUsed
+    → _≡_ {A = Places} (record { packets = w .packets; waits = t .waits + more; table = w .table }) (pick (asked and atMostSevenUsed t) (appendedOf x t) t)
+unfolding pick _and_ atMostSevenUsed
 appended-few asked t x room u at more w l r e f g h = rw (h, g, f, e, r) (by asked (leb (used t) 7) refl)
   where
     by : (a b : Bool) → leb (used t) 7 ≡ b
         → _≡_ {A = Places} (record {
           packets = t .packets;
           waits = t .waits + pick (a and leb (used t) 7) 1 0;
-          table = pick (ltb (pick (a and leb (used t) 7) (pick (leb (used t) 7) (used t) 0) 8) 8) (set (t .table) (pick (a and leb (used t) 7) (pick (leb (used t) 7) (used t) 0) 8) x) (t .table);
+          table =
+              pick (ltb (pick (a and leb (used t) 7) (pick (leb (used t) 7) (used t) 0) 8) 8)
+              (set (t .table) (pick (a and leb (used t) 7) (pick (leb (used t) 7) (used t) 0) 8) x)
+              (t .table);
         })
         (pick (a and leb (used t) 7) (appendedOf x t) t)
     by true true b =
@@ -66,7 +69,9 @@ pub taken-needs : (k u ks ls : ℕ) → u ≤ 8 → ks ≡ pick (ltb k u) k 8 �
 unfolding pick
 taken-needs k u ks ls few e f = rw (e, f) (by (ltb k u) refl)
   where
-    by : (b : Bool) → ltb k u ≡ b → (ltb (pick (ltb k u) (u - 1) 8) 8 ≡ true → pick (ltb k u) k 8 ≤ pick (ltb k u) (u - 1) 8) × (ltb (pick (ltb k u) (u - 1) 8) 8 ≡ false → 8 ≤ pick (ltb k u) k 8)
+    by : (b : Bool) → ltb k u ≡ b
+        → (ltb (pick (ltb k u) (u - 1) 8) 8 ≡ true → pick (ltb k u) k 8 ≤ pick (ltb k u) (u - 1) 8)
+        × (ltb (pick (ltb k u) (u - 1) 8) 8 ≡ false → 8 ≤ pick (ltb k u) k 8)
     by true b =
         let h = ltb-true k u b in
         rw b (λ _. omega (arith, h), λ (z : ltb (u - 1) 8 ≡ false). absurd (omega (arith, h, few, ltb-false (u - 1) 8 z)))
@@ -77,8 +82,8 @@ pub removed-few : (t : Places) (k u ks ls : ℕ) (w : Places) (b₁ b₂ : Bool)
     → w ≡ record { packets = t .packets; waits = t .waits; table = pick (ltb ls 8) (removedAt ks ls free (t .table)) (t .table) }
     → b₁ ≡ (ltb k u and ltb k (t .packets)) → np ≡ pick b₁ (t .packets - 1) (t .packets)
     → b₂ ≡ (ltb k u and leb (t .packets) k) → nw ≡ pick b₂ (t .waits - 1) (t .waits)
-    → _≡_ {A = Places} (record { packets = np; waits = nw; table = w .table }) (pick (isAmongFew k t) (withoutPlace k t) t)
-unfolding pick _and_ isAmongFew withoutPlace
+    → _≡_ {A = Places} (record { packets = np; waits = nw; table = w .table }) (pick (isAmongEight k t) (withoutPlace k t) t)
+unfolding pick _and_ isAmongEight withoutPlace
 removed-few t k u ks ls w b₁ b₂ np nw eu ek el ew e₁ ep e₂ en = rw (ew, ek, el, ep, e₁, en, e₂, ← eu) (by (ltb k u) refl)
   where
     some : ltb k u ≡ true → (u ≡ used t) × (used t ≤ 8)

@@ -10,8 +10,8 @@ use Rattle.definition.specs.declared.Places.{Places}
 use Rattle.definition.specs.Port.{free, used, matches, matching}
 
 -- whether at most 7 places are used, so that one more is among the first 8
-unfoldable pub fewUsed : Places → Bool
-fewUsed t = leb (used t) 7
+unfoldable pub atMostSevenUsed : Places → Bool
+atMostSevenUsed t = leb (used t) 7
 
 -- where the first element that passes stands; where none does, their number
 unfoldable pub indexOf : {A : Type 0} → (A → Bool) → List A → ℕ
@@ -27,13 +27,9 @@ onlyMatch asked one key t =
 unfoldable pub removedAt : {A : Type 0} → (k last : ℕ) → A → List A → List A
 removedAt k last z tab = take k tab ++ (slice (suc k) (suc last) tab ++ (z ∷ drop (suc last) tab))
 
--- what then stands at i, by what stood there and behind it
-unfoldable pub elementWithout : {A : Type 0} → (i k last : ℕ) (z here next : A) → A
-elementWithout i k last z here next = pick (eqb i last) z (pick (leb k i and ltb i last) next here)
-
 -- whether the place at k is used, and at most 8 are
-unfoldable pub isAmongFew : (k : ℕ) → Places → Bool
-isAmongFew k t = ltb k (pick (leb (used t) 8) (used t) 0)
+unfoldable pub isAmongEight : (k : ℕ) → Places → Bool
+isAmongEight k t = ltb k (pick (leb (used t) 8) (used t) 0)
 
 -- the table without that place: a packet less, or a wait
 unfoldable pub withoutPlace : (k : ℕ) → Places → Places

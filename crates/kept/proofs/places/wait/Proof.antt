@@ -46,7 +46,7 @@ use Rattle.definition.proofs.Answer as N
 use Rattle.definition.proofs.Answer.Laws as N′
 use Rattle.kept.proofs.steps.Steps.{asks, tests, opened, put-back, fills, overwrites, frees-cell, standing}
 use Rattle.kept.proofs.pair.Callees.{pair-one, pair-lawful}
-use Rattle.kept.proofs.places.Waiting.{word-contract, ask-word, is-unused-contract, ask-is-unused, appends-few-contract, ask-appends-few, registered-first-contract, ask-registered-first, registered-few-contract, ask-registered-few, registered-contract, ask-registered}
+use Rattle.kept.proofs.places.Waiting.{word-contract, ask-word, is-unused-contract, ask-is-unused, appends-few-contract, ask-appends-few, registered-first-contract, ask-registered-first, registered-last-contract, ask-registered-last, registered-contract, ask-registered}
 use Rattle.definition.specs.Pair.{isOne, own}
 use Rattle.socket.specs.Deferred.{registeredPair}
 use Rattle.kept.proofs.places.Stored.{waited-on, few-waited-on}
@@ -66,10 +66,10 @@ use Rattle.socket.proofs.registered_first as registered-first
 use Rattle.socket.proofs.registered_first.Symbol as registered-first-def
 use Rattle.socket.proofs.registered_first.Symbol.{name as #registered-first}
 use Rattle.socket.proofs.registered_first.Met as registered-first-thm
-use Rattle.socket.proofs.registered_few as registered-few
-use Rattle.socket.proofs.registered_few.Symbol as registered-few-def
-use Rattle.socket.proofs.registered_few.Symbol.{name as #registered-few}
-use Rattle.socket.proofs.registered_few.Met as registered-few-thm
+use Rattle.socket.proofs.registered_last as registered-last
+use Rattle.socket.proofs.registered_last.Symbol as registered-last-def
+use Rattle.socket.proofs.registered_last.Symbol.{name as #registered-last}
+use Rattle.socket.proofs.registered_last.Met as registered-last-thm
 use Rattle.socket.proofs.registered as registered
 use Rattle.socket.proofs.registered.Symbol as registered-def
 use Rattle.socket.proofs.registered.Symbol.{name as #registered}
@@ -102,7 +102,7 @@ module _ {M : Type 1} (𝓤 : URA M) (H : Heap 𝓤) (A : Atoms 𝓤) (W : Given
       suffices ! _ (ends-at 𝓤 H A f.ended stayed (f.clauses 𝓤 H A at-mem run) W ((bound, (q, tt), tt, x, at), tt) v z (p′, (tt, (tt, (tt, (tt, (tt, tt)))))) (tt, (tt, (tt, (tt, (tt, (tt, tt))))))) $
       says ! ens $ move ! (2 ∷ 3 ∷ []) $ join ! $ frame ! $ feqI ! (List Val) (vptr b o ∷ []) (vptr b o ∷ []) refl $ fjoin3 ! $ nothing ! $ nothing ! $ fjoin ! $ nothing ! $ fjoin ! $ nothing ! $ fjoin ! $ nothing ! $ fjoin ! $ nothing ! $ fjoin ! $ move ! (1 ∷ 0 ∷ []) $ fjoin ! $ done !
 
-  module _ (C : Calls 𝓤 H) (Λ : Loops 𝓤 H) (fm : FmC 𝓤 H (W .laws) C) (known-word : Triple 𝓤 (C #word) (word-contract 𝓤 H A at-mem run)) (known-is-unused : Triple 𝓤 (C #is-unused) (is-unused-contract 𝓤 H A at-mem run)) (known-appends-few : Triple 𝓤 (C #appends-few) (appends-few-contract 𝓤 H A at-mem run)) (known-registered-first : Triple 𝓤 (C #registered-first) (registered-first-contract 𝓤 H A at-mem run)) (known-registered-few : Triple 𝓤 (C #registered-few) (registered-few-contract 𝓤 H A at-mem run)) (known-registered : Triple 𝓤 (C #registered) (registered-contract 𝓤 H A at-mem run)) where
+  module _ (C : Calls 𝓤 H) (Λ : Loops 𝓤 H) (fm : FmC 𝓤 H (W .laws) C) (known-word : Triple 𝓤 (C #word) (word-contract 𝓤 H A at-mem run)) (known-is-unused : Triple 𝓤 (C #is-unused) (is-unused-contract 𝓤 H A at-mem run)) (known-appends-few : Triple 𝓤 (C #appends-few) (appends-few-contract 𝓤 H A at-mem run)) (known-registered-first : Triple 𝓤 (C #registered-first) (registered-first-contract 𝓤 H A at-mem run)) (known-registered-last : Triple 𝓤 (C #registered-last) (registered-last-contract 𝓤 H A at-mem run)) (known-registered : Triple 𝓤 (C #registered) (registered-contract 𝓤 H A at-mem run)) where
     walk : ent 𝓤 (onEntry 𝓤 H A f.signature bound (q, tt) x at) (WpFn 𝓤 H C Λ code.function (vptr b o ∷ (only (EL.vals N.the-type N′.the-laws a)) ∷ vint w32 x₂ ∷ vint w64 x₃ ∷ vint w32 x₄ ∷ vint w8 x₅ ∷ []) Post)
     walk =
         qed W ((‵ (flft κ q) ⊛ ‵ ftrue) ∷ ‵ (owns (MutRef (named 0) κ T.the-row ∷ N.the-row ∷ u32 ∷ u64 ∷ u32 ∷ u8 ∷ []) x at) ∷ []) ∵ split ! $ move ! (2 ∷ []) $ fsplit ! $ move ! (1 ∷ []) $ fsplit ! $
@@ -133,7 +133,7 @@ module _ {M : Type 1} (𝓤 : URA M) (H : Heap 𝓤) (A : Atoms 𝓤) (W : Given
         land ! (from ! (stop !)) (init ! 15 refl (bool-lawful 𝓤 H A W .typed y₁₂ _ i₁₂ .0)) $
         branches ! (load ! (from ! (stop !)) (look ! 15 refl))
         (λ on₁₂. assigns ! (of-opd ! (load ! (from ! (hop ! (look ! 37 refl) (stop !))) (look-raw ! 0 refl))) (from ! (stop !)) (fills ! 9 T.the-row (pair-lawful 𝓤 H A at-mem run W) h vh was refl refl) $
-        asks ! fm (ask-registered-few 𝓤 H A at-mem run W h a x₂ x₃ x₄ vh was g₁ g₂ g₃ g₄) known-registered-few (and-then ! (load ! (from ! (stop !)) (look ! 10 refl)) (and-then ! (load ! (from ! (stop !)) (look ! 36 refl)) (and-then ! (load ! (from ! (stop !)) (look ! 34 refl)) (and-then ! (load ! (from ! (stop !)) (look ! 32 refl)) (and-then ! (load ! (from ! (stop !)) (look ! 30 refl)) (no-more !)))))) (λ v₁₄ y₁₄ e₁₄ s₁₄.
+        asks ! fm (ask-registered-last 𝓤 H A at-mem run W h a x₂ x₃ x₄ vh was g₁ g₂ g₃ g₄) known-registered-last (and-then ! (load ! (from ! (stop !)) (look ! 10 refl)) (and-then ! (load ! (from ! (stop !)) (look ! 36 refl)) (and-then ! (load ! (from ! (stop !)) (look ! 34 refl)) (and-then ! (load ! (from ! (stop !)) (look ! 32 refl)) (and-then ! (load ! (from ! (stop !)) (look ! 30 refl)) (no-more !)))))) (λ v₁₄ y₁₄ e₁₄ s₁₄.
         land ! (from ! (stop !)) (fills ! 11 T.the-row (pair-lawful 𝓤 H A at-mem run W) y₁₄ v₁₄ s₁₄ refl refl) $
         assigns-last ! (of-opd ! (load ! (from ! (stop !)) (look ! 11 refl))) (from ! (hop ! (look ! 37 refl) (stop !))) (overwrites ! 0 T.the-row (pair-lawful 𝓤 H A at-mem run W) y₁₄ v₁₄ s₁₄ refl refl) $
         exec ! C Λ (standing code.Mir.locals (l₀ ∷ l₁ ∷ l₂ ∷ l₃ ∷ l₄ ∷ l₅ ∷ l₆ ∷ l₇ ∷ l₈ ∷ l₉ ∷ l₁₀ ∷ l₁₁ ∷ l₁₂ ∷ l₁₃ ∷ l₁₄ ∷ l₁₅ ∷ l₁₆ ∷ l₁₇ ∷ [])) code.Mir.t-5 (atRet (standing code.Mir.locals (l₀ ∷ l₁ ∷ l₂ ∷ l₃ ∷ l₄ ∷ l₅ ∷ l₆ ∷ l₇ ∷ l₈ ∷ l₉ ∷ l₁₀ ∷ l₁₁ ∷ l₁₂ ∷ l₁₃ ∷ l₁₄ ∷ l₁₅ ∷ l₁₆ ∷ l₁₇ ∷ [])) Post) $
@@ -152,7 +152,7 @@ module _ {M : Type 1} (𝓤 : URA M) (H : Heap 𝓤) (A : Atoms 𝓤) (W : Given
         frees-cell ! $ frees-cell ! $ frees-cell ! $ frees-cell ! $ frees-cell ! $ frees-cell ! $ frees-cell ! $ frees-cell ! $ frees-cell ! $ frees-cell ! $ free1 ! $ free1 ! $ frees-cell ! $ frees-cell ! $ free1 ! $ free1 ! $ frees-cell ! $ frees-cell ! $ free0 ! $ by ! (exits y₁₆ y₇ v₇ (e₇, e₁₆))))))))))))))))))))))))))))))))
 
 module _ {M : Type 1} (𝓤 : URA M) (H : Heap 𝓤) (A : Atoms 𝓤) (W : Given 𝓤 H A) (at-mem : Memory → SProp 𝓤) (run : Routine → Fun 𝓤) where
-  walks : (C : Calls 𝓤 H) (Λ : Loops 𝓤 H) → FmC 𝓤 H (W .laws) C → Triple 𝓤 (C #word) (word-contract 𝓤 H A at-mem run) → Triple 𝓤 (C #is-unused) (is-unused-contract 𝓤 H A at-mem run) → Triple 𝓤 (C #appends-few) (appends-few-contract 𝓤 H A at-mem run) → Triple 𝓤 (C #registered-first) (registered-first-contract 𝓤 H A at-mem run) → Triple 𝓤 (C #registered-few) (registered-few-contract 𝓤 H A at-mem run) → Triple 𝓤 (C #registered) (registered-contract 𝓤 H A at-mem run) → Walks 𝓤 H A f.ended stayed (WpFn 𝓤 H C Λ code.function) (f.clauses 𝓤 H A at-mem run)
+  walks : (C : Calls 𝓤 H) (Λ : Loops 𝓤 H) → FmC 𝓤 H (W .laws) C → Triple 𝓤 (C #word) (word-contract 𝓤 H A at-mem run) → Triple 𝓤 (C #is-unused) (is-unused-contract 𝓤 H A at-mem run) → Triple 𝓤 (C #appends-few) (appends-few-contract 𝓤 H A at-mem run) → Triple 𝓤 (C #registered-first) (registered-first-contract 𝓤 H A at-mem run) → Triple 𝓤 (C #registered-last) (registered-last-contract 𝓤 H A at-mem run) → Triple 𝓤 (C #registered) (registered-contract 𝓤 H A at-mem run) → Walks 𝓤 H A f.ended stayed (WpFn 𝓤 H C Λ code.function) (f.clauses 𝓤 H A at-mem run)
   walks C Λ fm k₀ k₁ k₂ k₃ k₄ k₅ = walked 𝓤 H A f.ended stayed (f.clauses 𝓤 H A at-mem run) (WpFn 𝓤 H C Λ code.function) (λ κs. (ptr-vals, ((EL.vals N.the-type N′.the-laws), (uint-vals w32, (uint-vals w64, (uint-vals w32, (uint-vals w8, tt))))))) (λ κs. (mut-tells (named 0) (κs .0) T.the-row, (EL.tells N.the-type N′.the-laws, (uint-tells w32, (uint-tells w64, (uint-tells w32, (uint-tells w8, tt)))))))
       (λ κs qs bounds a _ are. via 𝓤 _ (fst∗ 𝓤 _ (emp 𝓤)) (walk 𝓤 H A W at-mem run (κs .0) (qs .0) (a .0 .ptr .0) (a .0 .ptr .1) (a .0 .name) (a .0 .now) (a .1 .0) (a .1 .1 .0) (a .1 .1 .1 .0) (a .1 .1 .1 .1 .0) (a .1 .1 .1 .1 .1 .0) C Λ fm k₀ k₁ k₂ k₃ k₄ k₅))
 
@@ -160,7 +160,7 @@ module _ {M : Type 1} (𝓤 : URA M) (H : Heap 𝓤) (A : Atoms 𝓤) (W : Given
   goes = (goes-ref 𝓤 H A W 1 0 tt (plain (λ _. T.the-row)), (goes-dropped 𝓤 H A W 1 (plain (λ _. N.the-row)) yes (λ κs x f. refl), (goes-dropped 𝓤 H A W 1 (plain (λ _. u32)) yes (λ κs x f. refl), (goes-dropped 𝓤 H A W 1 (plain (λ _. u64)) yes (λ κs x f. refl), (goes-dropped 𝓤 H A W 1 (plain (λ _. u32)) yes (λ κs x f. refl), (goes-dropped 𝓤 H A W 1 (plain (λ _. u8)) yes (λ κs x f. refl), tt))))))
 
 meets : {M : Type 1} (𝓤 : URA M) (H : Heap 𝓤) (A : Atoms 𝓤) (W : Given 𝓤 H A) (at-mem : Memory → SProp 𝓤) (run : Routine → Fun 𝓤) (𝓣 : Tables 𝓤 H)
-    → Triple 𝓤 (𝓣 .C #word) (word-contract 𝓤 H A at-mem run) → Triple 𝓤 (𝓣 .C #is-unused) (is-unused-contract 𝓤 H A at-mem run) → Triple 𝓤 (𝓣 .C #appends-few) (appends-few-contract 𝓤 H A at-mem run) → Triple 𝓤 (𝓣 .C #registered-first) (registered-first-contract 𝓤 H A at-mem run) → Triple 𝓤 (𝓣 .C #registered-few) (registered-few-contract 𝓤 H A at-mem run) → Triple 𝓤 (𝓣 .C #registered) (registered-contract 𝓤 H A at-mem run) → Meets 𝓤 H A f.signature (WpFn 𝓤 H (𝓣 .C) (𝓣 .Λ) code.function) (f.spec 𝓤 H A at-mem run)
+    → Triple 𝓤 (𝓣 .C #word) (word-contract 𝓤 H A at-mem run) → Triple 𝓤 (𝓣 .C #is-unused) (is-unused-contract 𝓤 H A at-mem run) → Triple 𝓤 (𝓣 .C #appends-few) (appends-few-contract 𝓤 H A at-mem run) → Triple 𝓤 (𝓣 .C #registered-first) (registered-first-contract 𝓤 H A at-mem run) → Triple 𝓤 (𝓣 .C #registered-last) (registered-last-contract 𝓤 H A at-mem run) → Triple 𝓤 (𝓣 .C #registered) (registered-contract 𝓤 H A at-mem run) → Meets 𝓤 H A f.signature (WpFn 𝓤 H (𝓣 .C) (𝓣 .Λ) code.function) (f.spec 𝓤 H A at-mem run)
 meets 𝓤 H A W at-mem run 𝓣 k₀ k₁ k₂ k₃ k₄ k₅ = walk-meets 𝓤 H A f.ended stayed W (goes 𝓤 H A W at-mem run) (f.clauses 𝓤 H A at-mem run) (WpFn 𝓤 H (𝓣 .C) (𝓣 .Λ) code.function) (WpFn-mono 𝓤 H (W .laws) 𝓣 code.function)
     (walks 𝓤 H A W at-mem run (𝓣 .C) (𝓣 .Λ) (fmOf 𝓤 H (W .laws) 𝓣) k₀ k₁ k₂ k₃ k₄ k₅)
 
@@ -174,5 +174,5 @@ wait-spec 𝓤 H 𝓜 𝓖 𝓡 =
     (cited 𝓤 H (is-unused-contract 𝓤 H (𝓖 .A) (𝓜 .mem) (𝓡 .run)) 𝓜 𝓡 code.env #is-unused is-unused-def.routine code.calls-socket·is-unused (is-unused-thm.met 𝓤 H 𝓜 𝓖 𝓡))
     (cited 𝓤 H (appends-few-contract 𝓤 H (𝓖 .A) (𝓜 .mem) (𝓡 .run)) 𝓜 𝓡 code.env #appends-few appends-few-def.routine code.calls-socket·appends-few (appends-few-thm.met 𝓤 H 𝓜 𝓖 𝓡))
     (cited 𝓤 H (registered-first-contract 𝓤 H (𝓖 .A) (𝓜 .mem) (𝓡 .run)) 𝓜 𝓡 code.env #registered-first registered-first-def.routine code.calls-socket·registered-first (registered-first-thm.met 𝓤 H 𝓜 𝓖 𝓡))
-    (cited 𝓤 H (registered-few-contract 𝓤 H (𝓖 .A) (𝓜 .mem) (𝓡 .run)) 𝓜 𝓡 code.env #registered-few registered-few-def.routine code.calls-socket·registered-few (registered-few-thm.met 𝓤 H 𝓜 𝓖 𝓡))
+    (cited 𝓤 H (registered-last-contract 𝓤 H (𝓖 .A) (𝓜 .mem) (𝓡 .run)) 𝓜 𝓡 code.env #registered-last registered-last-def.routine code.calls-socket·registered-last (registered-last-thm.met 𝓤 H 𝓜 𝓖 𝓡))
     (cited 𝓤 H (registered-contract 𝓤 H (𝓖 .A) (𝓜 .mem) (𝓡 .run)) 𝓜 𝓡 code.env #registered registered-def.routine code.calls-socket·registered (registered-thm.met 𝓤 H 𝓜 𝓖 𝓡)))

@@ -5,7 +5,7 @@ use native.Mathlib.Omega.{arith}
 use Rattle.definition.specs.Status.{pick, _and_}
 use Rattle.definition.specs.declared.Place.{Place}
 use Rattle.definition.specs.Port.{waitOf, appendedOf}
-use Rattle.port.specs.few.Few.{fewUsed}
+use Rattle.port.specs.few.Few.{atMostSevenUsed}
 use Rattle.port.proofs.places.Size.{table-128}
 use Rattle.port.proofs.few.Whole.{appended-few, room-fits}
 use borrow.Author.Needs.{needs}
@@ -48,11 +48,14 @@ returns c =
     let t = s .args .t in
     let n = c .before .before .before .before .before .before .end-number in
     let x : Place = record { key = s .args .key; mask = s .args .mask; observed = 0; end = n .result } in
-    appended-few (s .args .asked) t x (c .before .before .before .before .both .result) (c .before .before .before .used-within .result) (c .before .before .count-if .result)
+    appended-few (s .args .asked) t x (c .before .before .before .before .both .result) (c .before .before .before .used-within .result)
+    (c .before .before .count-if .result)
     (c .count-if2 .result) (c .before .with-place .result) (table-128 t _ (s .good .0))
     (rw (c .before .before .before .before .before .uses-at-most .ensures) at (c .before .before .before .before .both .ensures))
     (c .before .before .before .used-within .ensures) (c .before .before .count-if .ensures) (c .count-if2 .ensures) (c .before .with-place .ensures)
-    ∙ ap (λ (e : ℕ). pick (s .args .asked and fewUsed t) (appendedOf (record { key = s .args .key; mask = s .args .mask; observed = 0; end = e }) t) t) (n .ensures)
+    ∙ ap
+    (λ (e : ℕ). pick (s .args .asked and atMostSevenUsed t) (appendedOf (record { key = s .args .key; mask = s .args .mask; observed = 0; end = e }) t) t)
+    (n .ensures)
 
 pub appended-spec : {M : Type 1} → statement M
 appended-spec =

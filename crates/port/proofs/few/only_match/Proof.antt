@@ -63,7 +63,13 @@ loop-again c =
       rw (c .before .count-if .ensures, c .count-if2 .ensures)
           (found-turn f (t .table) u (omega (arith, o .inv .1 .1, l)) (o .i - 1) (o .n) (o .k) free (c .before .before .is-used-match .result)
           (c .before .before .is-used-match .ensures) (subst (λ (j : ℕ). Found f (t .table) u j (o .n) (o .k)) (sym e) (o .inv .0))),
-      ((omega (arith, some, o .inv .1 .0 .0), rw (c .before .count-if .ensures) (counted-most (c .before .before .is-used-match .result) (o .n) (o .i) some (o .inv .1 .0 .1))), o .inv .1 .1),
+      (
+        (
+          omega (arith, some, o .inv .1 .0 .0),
+          rw (c .before .count-if .ensures) (counted-most (c .before .before .is-used-match .result) (o .n) (o .i) some (o .inv .1 .0 .1)),
+        ),
+        o .inv .1 .1,
+      ),
     )
 
 both-requires : tie.Need-both-requires Inv-loop μ-loop

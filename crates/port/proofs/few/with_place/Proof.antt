@@ -13,7 +13,9 @@ use Rattle.port.proofs.few.with_place.Statement.{statement}
 use Rattle.port.proofs.few.with_place.Tie as tie
 
 abbrev Inv-loop : tie.InvT-loop
-Inv-loop at p t out₀ i₀ out i = (out .table ≡ take i (pick (ltb at 8) (set (t .table) at p) (t .table)) ++ drop i (t .table)) × (((out .packets ≡ t .packets) × (out .waits ≡ t .waits)) × (i ≤ 8))
+Inv-loop at p t out₀ i₀ out i =
+    (out .table ≡ take i (pick (ltb at 8) (set (t .table) at p) (t .table)) ++ drop i (t .table))
+    × (((out .packets ≡ t .packets) × (out .waits ≡ t .waits)) × (i ≤ 8))
 
 abbrev μ-loop : tie.MeasureT-loop
 μ-loop at p t out₀ i₀ out i = 8 - i

@@ -1,112 +1,76 @@
-use Prim.Native.Nat.{_+_, _-_, _≤_, _<_}
-use mathlib.Core.Path.{_≡_, refl, _∙_}
-use mathlib.Core.List.{_++_}
+use Prim.Native.Nat.{_+_}
+use Rattle.port.proofs.few.Searches.{at-most-eight}
+use Rattle.port.proofs.few.Whole.{taken-needs, removed-few}
 use borrow.Author.Needs.{needs}
-use native.Mathlib.Omega.{arith}
-use lib.Dec.{ltb}
-use lib.ListN.{length, take, drop}
-use Rattle.definition.specs.Status.{pick}
-use Rattle.definition.specs.Port.{free}
-use Rattle.port.specs.few.Few.{removedAt}
-use Rattle.port.proofs.places.Size.{table-128, same-places}
-use Rattle.port.proofs.few.Lists.{written-step, written-all, chosen-element, taken-at, taken-size, taken-rest}
 use Rattle.port.proofs.few.without_place.Statement.{statement}
 use Rattle.port.proofs.few.without_place.Tie as tie
 
-abbrev Inv-loop : tie.InvT-loop
-Inv-loop k last t out₀ i₀ out i = (out .table ≡ take i (pick (ltb last 8) (removedAt k last free (t .table)) (t .table)) ++ drop i (t .table)) × (((out .packets ≡ t .packets) × (out .waits ≡ t .waits)) × (i ≤ 8))
+used-within-requires : tie.Need-used-within-requires
+used-within-requires c κs = search needs
 
-abbrev μ-loop : tie.MeasureT-loop
-μ-loop k last t out₀ i₀ out i = 8 - i
+count-if-requires : tie.Need-count-if-requires
+count-if-requires c κs = search needs
 
-loop-holds : tie.Need-loop-holds Inv-loop μ-loop
-loop-holds c = (refl, ((refl, refl), omega arith))
+less-one-requires : tie.Need-less-one-requires
+less-one-requires c κs = search needs
 
-mul-here : tie.Need-mul-here Inv-loop μ-loop
-mul-here c = search needs
+count-if-requires-2 : tie.Need-count-if-requires-2
+count-if-requires-2 c κs = search needs
 
-element-copy-out-here : tie.Need-element-copy-out-here Inv-loop μ-loop
-element-copy-out-here c = search needs
+removed-at-requires : tie.Need-removed-at-requires
+removed-at-requires c κs =
+    let u = c .before .before .before .used-within in
+    let s = c .before .before .before .before in
+    let t = s .args .t in
+    taken-needs (s .args .k) (u .result) (c .before .before .count-if .result) (c .count-if2 .result) (rw (u .ensures) (at-most-eight (t .packets + t .waits)))
+    (c .before .before .count-if .ensures) (rw (c .before .less-one .ensures) at (c .count-if2 .ensures))
 
-add-next : tie.Need-add-next Inv-loop μ-loop
-add-next c = search needs
+both-requires : tie.Need-both-requires
+both-requires c κs = search needs
 
-mul-next : tie.Need-mul-next Inv-loop μ-loop
-mul-next c = search needs
+less-one-requires-2 : tie.Need-less-one-requires-2
+less-one-requires-2 c κs = search needs
 
-element-copy-out-next : tie.Need-element-copy-out-next Inv-loop μ-loop
-element-copy-out-next c = search needs
+count-if-requires-3 : tie.Need-count-if-requires-3
+count-if-requires-3 c κs = search needs
 
-is-within-requires : tie.Need-is-within-requires Inv-loop μ-loop
-is-within-requires c κs = search needs
+both-requires-2 : tie.Need-both-requires-2
+both-requires-2 c κs = search needs
 
-place-if-requires : tie.Need-place-if-requires Inv-loop μ-loop
-place-if-requires c κs = search needs
+less-one-requires-3 : tie.Need-less-one-requires-3
+less-one-requires-3 c κs = search needs
 
-place-if-requires-2 : tie.Need-place-if-requires-2 Inv-loop μ-loop
-place-if-requires-2 c κs = search needs
+count-if-requires-4 : tie.Need-count-if-requires-4
+count-if-requires-4 c κs = search needs
 
-mul-q : tie.Need-mul-q Inv-loop μ-loop
-mul-q c = search needs
-
-element-set-from-q : tie.Need-element-set-from-q Inv-loop μ-loop
-element-set-from-q c = search needs
-
-add-i : tie.Need-add-i Inv-loop μ-loop
-add-i c = search needs
-
-loop-less : tie.Need-loop-less Inv-loop μ-loop
-loop-less c = search needs
-
-loop-again : tie.Need-loop-again Inv-loop μ-loop
-loop-again c =
-    let s = c .before .before .before .before .before .before .before in
-    let t = s .args .t1 in
-    let k = s .args .k in
-    let last = s .args .last in
-    let o = c .before .before .before .before .before .before .loop in
-    let below : o .i < 8 = c .before .before .before .before .before .loop-test .taken in
-    let l : length (t .table) ≡ 128 = table-128 t _ (s .good .0) in
-    let to = pick (ltb last 8) (removedAt k last free (t .table)) (t .table) in
-    let size : length to ≡ length (t .table) = taken-size (t .table) free free k last (s .pre .0) (s .pre .1) (omega (arith, l)) in
-    let v = c .place-if2 .ensures
-    ∙ chosen-element (o .i) k last free _ _ (c .before .place-if .result) (c .before .before .is-within .result) (c .before .place-if .ensures) (c .before .before .is-within .ensures)
-    ∙ taken-at (t .table) free free k last (s .pre .0) (s .pre .1) (omega (arith, l)) (o .i) below in (
-      rw (v, o .inv .0) (written-step to (t .table) (o .i) free (omega (arith, below, size, l)) (omega (arith, below, l))),
-      (o .inv .1 .0, omega (arith, below)),
-    )
-
-returns : tie.Need-returns Inv-loop μ-loop
+returns : tie.Need-returns
 returns c =
-    let s = c .before .before in
-    let t = s .args .t1 in
-    let k = s .args .k in
-    let last = s .args .last in
-    let o = c .before .loop in
-    let l : length (t .table) ≡ 128 = table-128 t _ (s .good .0) in
-    let to = pick (ltb last 8) (removedAt k last free (t .table)) (t .table) in
-    let all : o .i ≡ 8 = omega (arith, o .inv .1 .1, c .loop-test .left) in
-    same-places (o .inv .1 .0 .0) (o .inv .1 .0 .1)
-    (o .inv .0 ∙ rw all (written-all to (t .table) 8 (taken-rest (t .table) free free k last (s .pre .0) (s .pre .1) (omega (arith, l)))))
+    let b = c .before .before in
+    let d = b .before .before .before in
+    let w = d .before in
+    let e = w .before in
+    let g = e .before .before in
+    let u = g .before in
+    let t = u .before .args .t in
+    removed-few t (u .before .args .k) (u .used-within .result) (g .count-if .result) (e .count-if2 .result) (w .removed-at .result) (d .both .result)
+    (b .both2 .result) (b .before .count-if3 .result) (c .count-if4 .result) (u .used-within .ensures) (g .count-if .ensures)
+    (rw (e .before .less-one .ensures) at (e .count-if2 .ensures))
+    (w .removed-at .ensures) (d .both .ensures) (rw (b .before .before .less-one2 .ensures) at (b .before .count-if3 .ensures)) (b .both2 .ensures)
+    (rw (c .before .less-one3 .ensures) at (c .count-if4 .ensures))
 
 pub without-place-spec : {M : Type 1} → statement M
 without-place-spec =
     tie.close
     (tie.spec
-    Inv-loop
-    μ-loop
-    loop-holds
-    mul-here
-    element-copy-out-here
-    add-next
-    mul-next
-    element-copy-out-next
-    is-within-requires
-    place-if-requires
-    place-if-requires-2
-    mul-q
-    element-set-from-q
-    add-i
-    loop-less
-    loop-again
+    used-within-requires
+    count-if-requires
+    less-one-requires
+    count-if-requires-2
+    removed-at-requires
+    both-requires
+    less-one-requires-2
+    count-if-requires-3
+    both-requires-2
+    less-one-requires-3
+    count-if-requires-4
     returns)

@@ -15,7 +15,8 @@ only-match-requires c κs = tt
 
 returns : tie.Need-returns
 returns c =
-    rw (c .before .is-done .ensures, c .before .before .before .opening-test .ensures, c .before .before .before .before .ends-of .ensures) at (c .only-match .ensures)
+    rw (c .before .is-done .ensures, c .before .before .before .opening-test .ensures, c .before .before .before .before .ends-of .ensures)
+    at (c .only-match .ensures)
 
 pub only-match-spec : {M : Type 1} → statement M
 only-match-spec = tie.close (tie.spec ends-of-requires opening-test-requires is-done-requires only-match-requires returns)

@@ -7,11 +7,11 @@ use Rattle.socket.proofs.deferred.visit_only.Tie as tie
 visited-alone-requires : tie.Need-visited-alone-requires
 visited-alone-requires c κs = search needs
 
-with-first-place-requires : tie.Need-with-first-place-requires
-with-first-place-requires c κs = search needs
+with-first-places-requires : tie.Need-with-first-places-requires
+with-first-places-requires c κs = search needs
 
 returns : tie.Need-returns
-returns c = (rw (c .before .visited-alone .ensures) at (c .with-first-place .ensures)) ∙ only-all _ _
+returns c = (rw (c .before .visited-alone .ensures) at (c .with-first-places .ensures)) ∙ only-all _ _
 
 pub visit-only-spec : {M : Type 1} → statement M
-visit-only-spec = tie.close (tie.spec visited-alone-requires with-first-place-requires returns)
+visit-only-spec = tie.close (tie.spec visited-alone-requires with-first-places-requires returns)

@@ -14,16 +14,16 @@ is-done-requires c κs = search needs
 first-registered-requires : tie.Need-first-registered-requires
 first-registered-requires c κs = search needs
 
-with-first-place-requires : tie.Need-with-first-place-requires
-with-first-place-requires c κs = search needs
+with-first-places-requires : tie.Need-with-first-places-requires
+with-first-places-requires c κs = search needs
 
 returns : tie.Need-returns
 unfolding registeredPair
 returns c =
-    (rw (c .before .first-registered .ensures, c .before .before .is-done .ensures, c .before .before .before .before .own .ensures) at (c .with-first-place .ensures))
+    (rw (c .before .first-registered .ensures, c .before .before .is-done .ensures, c .before .before .before .before .own .ensures) at (c .with-first-places .ensures))
     ∙ first-only _ _ _ _
 
 pub registered-first-spec : {M : Type 1} → statement M
 registered-first-spec =
     tie.close
-    (tie.spec own-requires is-done-requires first-registered-requires with-first-place-requires returns)
+    (tie.spec own-requires is-done-requires first-registered-requires with-first-places-requires returns)

@@ -11,12 +11,12 @@ is-done-requires c κs = search needs
 only-taken-requires : tie.Need-only-taken-requires
 only-taken-requires c κs = search needs
 
-with-first-place-requires : tie.Need-with-first-place-requires
-with-first-place-requires c κs = search needs
+with-first-places-requires : tie.Need-with-first-places-requires
+with-first-places-requires c κs = search needs
 
 returns : tie.Need-returns
 unfolding takenPair
-returns c = (rw (c .before .only-taken .ensures, c .before .before .is-done .ensures) at (c .with-first-place .ensures)) ∙ first-only _ _ _ _
+returns c = (rw (c .before .only-taken .ensures, c .before .before .is-done .ensures) at (c .with-first-places .ensures)) ∙ first-only _ _ _ _
 
 pub taken-only-spec : {M : Type 1} → statement M
-taken-only-spec = tie.close (tie.spec is-done-requires only-taken-requires with-first-place-requires returns)
+taken-only-spec = tie.close (tie.spec is-done-requires only-taken-requires with-first-places-requires returns)
