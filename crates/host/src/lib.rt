@@ -138,8 +138,9 @@ pub extern "C" fn murgwethan_cancel(p: &mut Pair, handle: u32, key: u64) -> i64
         1
     } else {
         let r = socket::cancelled(*p, handle, key);
+        let next = crate::values::step_pair(r);
+        *p = next;
         let word = crate::values::step_word(r);
-        *p = crate::values::step_pair(r);
         word
     }
 }

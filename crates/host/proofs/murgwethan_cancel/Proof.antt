@@ -17,7 +17,7 @@ use contract.Monad.{Fun, fact}
 use contract.Running.{givenOf, tables, tablesOf}
 use contract.Lifetimes.{Lfts}
 use types.Kit.{Given, ‵, raw, _⊛_, ⋆, some, later, mean, _$_, _∵_, !, qed, by, move, keep, drop, split, join, fsplit, fsplit3, fjoin, fjoin3, feqI, suffices, frame, done, atRet}
-use types.Run.{look, look-raw, init, stop, hop, from, load, of-opd, and-then, no-more, land, assigns, returns, enter, alloc1, alloc0, params1, pass1, pass0, free0, lit, store, first, branches, assigns-last, exec, free1}
+use types.Run.{look, look-raw, init, stop, hop, from, load, of-opd, and-then, no-more, land, assigns, returns, enter, alloc1, alloc0, params1, pass1, pass0, free0, lit, first, branches, assigns-last, exec, free1}
 use types.SemTy.{Body}
 use sound.WpLaws.{FmC, fmOf, WpFn-mono}
 use denote.RattleType.{owns}
@@ -225,41 +225,41 @@ module _ {M : Type 1} (𝓤 : URA M) (H : Heap 𝓤) (A : Atoms 𝓤) (W : Given
         qed W ((‵ (flft κ q) ⊛ ‵ ftrue) ∷ ‵ (owns (MutRef (named 0) κ T.the-row ∷ u32 ∷ u64 ∷ []) x at) ∷ []) ∵ split ! $ move ! (2 ∷ []) $ fsplit ! $ move ! (1 ∷ []) $ fsplit ! $ peeks ! u32 (Is u32) (shows 𝓤 H A u32) x₁ (vint w32 x₁ ∷ []) (λ g₁. move ! (1 ∷ []) $ fsplit ! $
         peeks ! u64 (Is u64) (shows 𝓤 H A u64) x₂ (vint w64 x₂ ∷ []) (λ g₂. move ! (3 ∷ []) $ fsplit3 ! $ drop ! $
         enter ! C Λ code.function (vptr b o ∷ vint w32 x₁ ∷ vint w64 x₂ ∷ []) _ $
-        alloc1 ! (λ l₀. alloc1 ! (λ l₁. alloc1 ! (λ l₂. alloc1 ! (λ l₃. alloc1 ! (λ l₄. alloc1 ! (λ l₅. alloc1 ! (λ l₆. alloc1 ! (λ l₇. alloc1 ! (λ l₈. alloc1 ! (λ l₉. alloc1 ! (λ l₁₀. alloc1 ! (λ l₁₁. alloc1 ! (λ l₁₂. alloc0 ! $ params1 ! $
-        pass1 ! (init ! 22 refl (tt, tt)) $ pass1 ! (init ! 20 refl (tt, record { fits = g₁ .1 })) $ pass1 ! (init ! 18 refl (tt, record { fits = g₂ .1 })) $ pass0 ! $
-        move ! (26 ∷ 27 ∷ 31 ∷ []) $ opened ! tt T.the-row pair-one h b o (λ vh was.
-        assigns ! (of-opd ! (load ! (from ! (hop ! (look ! 26 refl) (stop !))) (look-raw ! 0 refl))) (from ! (stop !)) (fills ! 14 T.the-row (pair-lawful 𝓤 H A at-mem run W) h vh was refl refl) $
-        tests ! fm (ask-only-match 𝓤 H A at-mem run W h x₁ x₂ vh was g₁ g₂) (uint-vals w64) (uint-tells w64) known-only-match (and-then ! (load ! (from ! (stop !)) (look ! 15 refl)) (and-then ! (load ! (from ! (stop !)) (look ! 25 refl)) (and-then ! (load ! (from ! (stop !)) (look ! 23 refl)) (no-more !)))) (λ y₄ e₄ i₄.
-        land ! (from ! (stop !)) (init ! 20 refl (tt, record { fits = i₄ .1 })) $
-        tests ! fm (ask-is-found 𝓤 H A at-mem run W y₄ i₄) bool-vals bool-tells known-is-found (and-then ! (load ! (from ! (stop !)) (look ! 21 refl)) (no-more !)) (λ y₈ e₈ i₈.
-        land ! (from ! (stop !)) (init ! 12 refl (bool-lawful 𝓤 H A W .typed y₈ _ i₈ .0)) $
+        alloc1 ! (λ l₀. alloc1 ! (λ l₁. alloc1 ! (λ l₂. alloc1 ! (λ l₃. alloc1 ! (λ l₄. alloc1 ! (λ l₅. alloc1 ! (λ l₆. alloc1 ! (λ l₇. alloc1 ! (λ l₈. alloc1 ! (λ l₉. alloc1 ! (λ l₁₀. alloc1 ! (λ l₁₁. alloc1 ! (λ l₁₂. alloc1 ! (λ l₁₃. alloc0 ! $ params1 ! $
+        pass1 ! (init ! 24 refl (tt, tt)) $ pass1 ! (init ! 22 refl (tt, record { fits = g₁ .1 })) $ pass1 ! (init ! 20 refl (tt, record { fits = g₂ .1 })) $ pass0 ! $
+        move ! (28 ∷ 29 ∷ 33 ∷ []) $ opened ! tt T.the-row pair-one h b o (λ vh was.
+        assigns ! (of-opd ! (load ! (from ! (hop ! (look ! 28 refl) (stop !))) (look-raw ! 0 refl))) (from ! (stop !)) (fills ! 14 T.the-row (pair-lawful 𝓤 H A at-mem run W) h vh was refl refl) $
+        tests ! fm (ask-only-match 𝓤 H A at-mem run W h x₁ x₂ vh was g₁ g₂) (uint-vals w64) (uint-tells w64) known-only-match (and-then ! (load ! (from ! (stop !)) (look ! 15 refl)) (and-then ! (load ! (from ! (stop !)) (look ! 27 refl)) (and-then ! (load ! (from ! (stop !)) (look ! 25 refl)) (no-more !)))) (λ y₄ e₄ i₄.
+        land ! (from ! (stop !)) (init ! 22 refl (tt, record { fits = i₄ .1 })) $
+        tests ! fm (ask-is-found 𝓤 H A at-mem run W y₄ i₄) bool-vals bool-tells known-is-found (and-then ! (load ! (from ! (stop !)) (look ! 23 refl)) (no-more !)) (λ y₉ e₉ i₉.
+        land ! (from ! (stop !)) (init ! 12 refl (bool-lawful 𝓤 H A W .typed y₉ _ i₉ .0)) $
         first ! $ branches ! (load ! (from ! (stop !)) (look ! 12 refl))
-        (λ on₈. assigns ! (of-opd ! (load ! (from ! (hop ! (look ! 26 refl) (stop !))) (look-raw ! 0 refl))) (from ! (stop !)) (fills ! 6 T.the-row (pair-lawful 𝓤 H A at-mem run W) h vh was refl refl) $
-        asks ! fm (ask-without-place 𝓤 H A at-mem run W h y₄ vh was i₄) known-without-place (and-then ! (load ! (from ! (stop !)) (look ! 7 refl)) (and-then ! (load ! (from ! (stop !)) (look ! 21 refl)) (no-more !))) (λ v₁₀ y₁₀ e₁₀ s₁₀.
-        land ! (from ! (stop !)) (fills ! 8 T.the-row (pair-lawful 𝓤 H A at-mem run W) y₁₀ v₁₀ s₁₀ refl refl) $
-        assigns ! (of-opd ! (load ! (from ! (stop !)) (look ! 8 refl))) (from ! (hop ! (look ! 26 refl) (stop !))) (overwrites ! 0 T.the-row (pair-lawful 𝓤 H A at-mem run W) y₁₀ v₁₀ s₁₀ refl refl) $
+        (λ on₉. assigns ! (of-opd ! (load ! (from ! (hop ! (look ! 28 refl) (stop !))) (look-raw ! 0 refl))) (from ! (stop !)) (fills ! 6 T.the-row (pair-lawful 𝓤 H A at-mem run W) h vh was refl refl) $
+        asks ! fm (ask-without-place 𝓤 H A at-mem run W h y₄ vh was i₄) known-without-place (and-then ! (load ! (from ! (stop !)) (look ! 7 refl)) (and-then ! (load ! (from ! (stop !)) (look ! 23 refl)) (no-more !))) (λ v₁₁ y₁₁ e₁₁ s₁₁.
+        land ! (from ! (stop !)) (fills ! 8 T.the-row (pair-lawful 𝓤 H A at-mem run W) y₁₁ v₁₁ s₁₁ refl refl) $
+        assigns ! (of-opd ! (load ! (from ! (stop !)) (look ! 8 refl))) (from ! (hop ! (look ! 28 refl) (stop !))) (overwrites ! 0 T.the-row (pair-lawful 𝓤 H A at-mem run W) y₁₁ v₁₁ s₁₁ refl refl) $
         assigns-last ! (of-opd ! (lit ! tt)) (from ! (stop !)) (init ! 10 refl (tt, record { fits = omega arith })) $
-        exec ! C Λ (standing code.Mir.locals (l₀ ∷ l₁ ∷ l₂ ∷ l₃ ∷ l₄ ∷ l₅ ∷ l₆ ∷ l₇ ∷ l₈ ∷ l₉ ∷ l₁₀ ∷ l₁₁ ∷ l₁₂ ∷ [])) code.Mir.t-5 (atRet (standing code.Mir.locals (l₀ ∷ l₁ ∷ l₂ ∷ l₃ ∷ l₄ ∷ l₅ ∷ l₆ ∷ l₇ ∷ l₈ ∷ l₉ ∷ l₁₀ ∷ l₁₁ ∷ l₁₂ ∷ [])) Post) $
-        assigns ! (of-opd ! (load ! (from ! (stop !)) (look ! 10 refl))) (from ! (stop !)) (init ! 28 refl (tt, record { fits = omega arith })) $
-        put-back ! tt T.the-row (LL.makes T.the-type T′.the-plain 𝓤 H A) y₁₀ v₁₀ s₁₀ b o $
-        returns ! (look ! 27 refl) $ keep ! (27 ∷ 28 ∷ 25 ∷ 26 ∷ 23 ∷ 24 ∷ 21 ∷ 22 ∷ 19 ∷ 20 ∷ 17 ∷ 18 ∷ 15 ∷ 16 ∷ 13 ∷ 14 ∷ 11 ∷ 12 ∷ 9 ∷ 10 ∷ 7 ∷ 8 ∷ 5 ∷ 6 ∷ 3 ∷ 4 ∷ 0 ∷ 1 ∷ 2 ∷ 32 ∷ []) $
-        frees-cell ! $ frees-cell ! $ frees-cell ! $ frees-cell ! $ frees-cell ! $ free1 ! $ free1 ! $ frees-cell ! $ frees-cell ! $ frees-cell ! $ frees-cell ! $ frees-cell ! $ free1 ! $ free0 ! $
-        owned ! i64 (Is i64) (sint-makes 𝓤 H A W w64) (pos 1) ((vint w64 1) ∷ []) (refl, omega arith) $ keep ! (1 ∷ 2 ∷ 3 ∷ 4 ∷ 0 ∷ []) $ by ! (exits y₁₀ (pos 1) (vint w64 1) (removes y₄ y₁₀ y₈ (places-128 h _ was) e₄ e₈ on₈ e₁₀))))
-        (λ off₈. assigns ! (of-opd ! (load ! (from ! (hop ! (look ! 26 refl) (stop !))) (look-raw ! 0 refl))) (from ! (stop !)) (fills ! 4 T.the-row (pair-lawful 𝓤 H A at-mem run W) h vh was refl refl) $
-        asks ! fm (ask-cancels 𝓤 H A at-mem run W h x₁ x₂ vh was g₁ g₂) known-cancels (and-then ! (load ! (from ! (stop !)) (look ! 5 refl)) (and-then ! (load ! (from ! (stop !)) (look ! 25 refl)) (and-then ! (load ! (from ! (stop !)) (look ! 23 refl)) (no-more !)))) (λ v₅ y₅ e₅ s₅.
-        land ! (from ! (stop !)) (fills ! 18 S.the-row (step-lawful 𝓤 H A at-mem run W) y₅ v₅ s₅ refl refl) $
-        asks ! fm (ask-word 𝓤 H A at-mem run W y₅ v₅ s₅) known-word (and-then ! (load ! (from ! (stop !)) (look ! 19 refl)) (no-more !)) (λ v₆ z₆ e₆ i₆.
-        land ! (from ! (stop !)) (init ! 16 refl (sint-lawful 𝓤 H A W w64 .typed z₆ _ i₆ .0)) $
-        asks ! fm (ask-pair 𝓤 H A at-mem run W y₅ v₅ s₅) known-pair (and-then ! (load ! (from ! (stop !)) (look ! 19 refl)) (no-more !)) (λ v₁₂ y₁₂ e₁₂ s₁₂.
-        land ! (from ! (stop !)) (store ! 4 refl (pair-lawful 𝓤 H A at-mem run W .typed y₁₂ (v₁₂ ∷ []) s₁₂ .0)) $
-        assigns ! (of-opd ! (load ! (from ! (stop !)) (look ! 4 refl))) (from ! (hop ! (look ! 26 refl) (stop !))) (overwrites ! 0 T.the-row (pair-lawful 𝓤 H A at-mem run W) y₁₂ v₁₂ s₁₂ refl refl) $
-        assigns-last ! (of-opd ! (load ! (from ! (stop !)) (look ! 16 refl))) (from ! (stop !)) (init ! 10 refl (sint-lawful 𝓤 H A W w64 .typed z₆ _ i₆ .0)) $
-        exec ! C Λ (standing code.Mir.locals (l₀ ∷ l₁ ∷ l₂ ∷ l₃ ∷ l₄ ∷ l₅ ∷ l₆ ∷ l₇ ∷ l₈ ∷ l₉ ∷ l₁₀ ∷ l₁₁ ∷ l₁₂ ∷ [])) code.Mir.t-5 (atRet (standing code.Mir.locals (l₀ ∷ l₁ ∷ l₂ ∷ l₃ ∷ l₄ ∷ l₅ ∷ l₆ ∷ l₇ ∷ l₈ ∷ l₉ ∷ l₁₀ ∷ l₁₁ ∷ l₁₂ ∷ [])) Post) $
-        assigns ! (of-opd ! (load ! (from ! (stop !)) (look ! 10 refl))) (from ! (stop !)) (init ! 28 refl (sint-lawful 𝓤 H A W w64 .typed z₆ _ i₆ .0)) $
-        put-back ! tt T.the-row (LL.makes T.the-type T′.the-plain 𝓤 H A) y₁₂ v₁₂ s₁₂ b o $
-        returns ! (look ! 27 refl) $ keep ! (27 ∷ 28 ∷ 25 ∷ 26 ∷ 23 ∷ 24 ∷ 21 ∷ 22 ∷ 19 ∷ 20 ∷ 17 ∷ 18 ∷ 15 ∷ 16 ∷ 13 ∷ 14 ∷ 11 ∷ 12 ∷ 9 ∷ 10 ∷ 7 ∷ 8 ∷ 5 ∷ 6 ∷ 3 ∷ 4 ∷ 0 ∷ 1 ∷ 2 ∷ 32 ∷ []) $
-        frees-cell ! $ frees-cell ! $ frees-cell ! $ frees-cell ! $ frees-cell ! $ frees-cell ! $ frees-cell ! $ frees-cell ! $ frees-cell ! $ frees-cell ! $ free1 ! $ free1 ! $ frees-cell ! $ free0 ! $
-        owned ! i64 (Is i64) (sint-makes 𝓤 H A W w64) z₆ (v₆ ∷ []) i₆ $ keep ! (1 ∷ 2 ∷ 3 ∷ 4 ∷ 0 ∷ []) $ by ! (exits y₁₂ z₆ v₆ (answers y₅ y₁₂ z₆ e₅ e₁₂ e₆))))))))))))))))))))))))
+        exec ! C Λ (standing code.Mir.locals (l₀ ∷ l₁ ∷ l₂ ∷ l₃ ∷ l₄ ∷ l₅ ∷ l₆ ∷ l₇ ∷ l₈ ∷ l₉ ∷ l₁₀ ∷ l₁₁ ∷ l₁₂ ∷ l₁₃ ∷ [])) code.Mir.t-5 (atRet (standing code.Mir.locals (l₀ ∷ l₁ ∷ l₂ ∷ l₃ ∷ l₄ ∷ l₅ ∷ l₆ ∷ l₇ ∷ l₈ ∷ l₉ ∷ l₁₀ ∷ l₁₁ ∷ l₁₂ ∷ l₁₃ ∷ [])) Post) $
+        assigns ! (of-opd ! (load ! (from ! (stop !)) (look ! 10 refl))) (from ! (stop !)) (init ! 30 refl (tt, record { fits = omega arith })) $
+        put-back ! tt T.the-row (LL.makes T.the-type T′.the-plain 𝓤 H A) y₁₁ v₁₁ s₁₁ b o $
+        returns ! (look ! 29 refl) $ keep ! (29 ∷ 30 ∷ 27 ∷ 28 ∷ 25 ∷ 26 ∷ 23 ∷ 24 ∷ 21 ∷ 22 ∷ 19 ∷ 20 ∷ 17 ∷ 18 ∷ 15 ∷ 16 ∷ 13 ∷ 14 ∷ 11 ∷ 12 ∷ 9 ∷ 10 ∷ 7 ∷ 8 ∷ 5 ∷ 6 ∷ 3 ∷ 4 ∷ 0 ∷ 1 ∷ 2 ∷ 34 ∷ []) $
+        frees-cell ! $ frees-cell ! $ frees-cell ! $ frees-cell ! $ frees-cell ! $ free1 ! $ free1 ! $ free1 ! $ frees-cell ! $ frees-cell ! $ frees-cell ! $ frees-cell ! $ frees-cell ! $ free1 ! $ free0 ! $
+        owned ! i64 (Is i64) (sint-makes 𝓤 H A W w64) (pos 1) ((vint w64 1) ∷ []) (refl, omega arith) $ keep ! (1 ∷ 2 ∷ 3 ∷ 4 ∷ 0 ∷ []) $ by ! (exits y₁₁ (pos 1) (vint w64 1) (removes y₄ y₁₁ y₉ (places-128 h _ was) e₄ e₉ on₉ e₁₁))))
+        (λ off₉. assigns ! (of-opd ! (load ! (from ! (hop ! (look ! 28 refl) (stop !))) (look-raw ! 0 refl))) (from ! (stop !)) (fills ! 4 T.the-row (pair-lawful 𝓤 H A at-mem run W) h vh was refl refl) $
+        asks ! fm (ask-cancels 𝓤 H A at-mem run W h x₁ x₂ vh was g₁ g₂) known-cancels (and-then ! (load ! (from ! (stop !)) (look ! 5 refl)) (and-then ! (load ! (from ! (stop !)) (look ! 27 refl)) (and-then ! (load ! (from ! (stop !)) (look ! 25 refl)) (no-more !)))) (λ v₅ y₅ e₅ s₅.
+        land ! (from ! (stop !)) (fills ! 20 S.the-row (step-lawful 𝓤 H A at-mem run W) y₅ v₅ s₅ refl refl) $
+        asks ! fm (ask-pair 𝓤 H A at-mem run W y₅ v₅ s₅) known-pair (and-then ! (load ! (from ! (stop !)) (look ! 21 refl)) (no-more !)) (λ v₆ y₆ e₆ s₆.
+        land ! (from ! (stop !)) (fills ! 18 T.the-row (pair-lawful 𝓤 H A at-mem run W) y₆ v₆ s₆ refl refl) $
+        assigns ! (of-opd ! (load ! (from ! (stop !)) (look ! 18 refl))) (from ! (hop ! (look ! 28 refl) (stop !))) (overwrites ! 0 T.the-row (pair-lawful 𝓤 H A at-mem run W) y₆ v₆ s₆ refl refl) $
+        asks ! fm (ask-word 𝓤 H A at-mem run W y₅ v₅ s₅) known-word (and-then ! (load ! (from ! (stop !)) (look ! 21 refl)) (no-more !)) (λ v₇ z₇ e₇ i₇.
+        land ! (from ! (stop !)) (init ! 16 refl (sint-lawful 𝓤 H A W w64 .typed z₇ _ i₇ .0)) $
+        assigns-last ! (of-opd ! (load ! (from ! (stop !)) (look ! 16 refl))) (from ! (stop !)) (init ! 10 refl (sint-lawful 𝓤 H A W w64 .typed z₇ _ i₇ .0)) $
+        exec ! C Λ (standing code.Mir.locals (l₀ ∷ l₁ ∷ l₂ ∷ l₃ ∷ l₄ ∷ l₅ ∷ l₆ ∷ l₇ ∷ l₈ ∷ l₉ ∷ l₁₀ ∷ l₁₁ ∷ l₁₂ ∷ l₁₃ ∷ [])) code.Mir.t-5 (atRet (standing code.Mir.locals (l₀ ∷ l₁ ∷ l₂ ∷ l₃ ∷ l₄ ∷ l₅ ∷ l₆ ∷ l₇ ∷ l₈ ∷ l₉ ∷ l₁₀ ∷ l₁₁ ∷ l₁₂ ∷ l₁₃ ∷ [])) Post) $
+        assigns ! (of-opd ! (load ! (from ! (stop !)) (look ! 10 refl))) (from ! (stop !)) (init ! 30 refl (sint-lawful 𝓤 H A W w64 .typed z₇ _ i₇ .0)) $
+        put-back ! tt T.the-row (LL.makes T.the-type T′.the-plain 𝓤 H A) y₆ v₆ s₆ b o $
+        returns ! (look ! 29 refl) $ keep ! (29 ∷ 30 ∷ 27 ∷ 28 ∷ 25 ∷ 26 ∷ 23 ∷ 24 ∷ 21 ∷ 22 ∷ 19 ∷ 20 ∷ 17 ∷ 18 ∷ 15 ∷ 16 ∷ 13 ∷ 14 ∷ 11 ∷ 12 ∷ 9 ∷ 10 ∷ 7 ∷ 8 ∷ 5 ∷ 6 ∷ 3 ∷ 4 ∷ 0 ∷ 1 ∷ 2 ∷ 34 ∷ []) $
+        frees-cell ! $ frees-cell ! $ frees-cell ! $ frees-cell ! $ frees-cell ! $ frees-cell ! $ frees-cell ! $ frees-cell ! $ frees-cell ! $ frees-cell ! $ frees-cell ! $ free1 ! $ free1 ! $ frees-cell ! $ free0 ! $
+        owned ! i64 (Is i64) (sint-makes 𝓤 H A W w64) z₇ (v₇ ∷ []) i₇ $ keep ! (1 ∷ 2 ∷ 3 ∷ 4 ∷ 0 ∷ []) $ by ! (exits y₆ z₇ v₇ (answers y₅ y₆ z₇ e₅ e₆ e₇)))))))))))))))))))))))))
 
 module _ {M : Type 1} (𝓤 : URA M) (H : Heap 𝓤) (A : Atoms 𝓤) (W : Given 𝓤 H A) (at-mem : Memory → SProp 𝓤) (run : Routine → Fun 𝓤) where
   walks : (C : Calls 𝓤 H) (Λ : Loops 𝓤 H) → FmC 𝓤 H (W .laws) C → Triple 𝓤 (C #only-match) (only-match-contract 𝓤 H A at-mem run) → Triple 𝓤 (C #is-found) (is-found-contract 𝓤 H A at-mem run) → Triple 𝓤 (C #without-place) (without-place-contract 𝓤 H A at-mem run) → Triple 𝓤 (C #cancels) (cancels-contract 𝓤 H A at-mem run) → Triple 𝓤 (C #pair) (pair-contract 𝓤 H A at-mem run) → Triple 𝓤 (C #word) (word-contract 𝓤 H A at-mem run) → Walks 𝓤 H A f.ended stayed (WpFn 𝓤 H C Λ code.function) (f.clauses 𝓤 H A at-mem run)
