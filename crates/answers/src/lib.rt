@@ -1,4 +1,6 @@
 // What each call answers, over both ends of a pair: the tests that come first, the sizes of a write and a read, then a module for each call.
+#![tactic(auto)]
+
 pub mod control_calls;
 pub mod create;
 pub mod read;

@@ -8,7 +8,7 @@ use definition_script::ScriptState;
 
 // Where a script stands that is read into a buffer: the state, how many bytes came before the buffer, how many at its front are in use, and how many of
 // the output are written.
-#[derive(Drop)]
+#[derive(Clone, Copy)]
 pub struct Progress {
     pub state: ScriptState,
     pub offset: u64,

@@ -1,4 +1,6 @@
 // The calls that move no byte, over both ends: shutdown and close, disposition, both thresholds.
+#![tactic(auto)]
+
 pub mod disposition;
 pub mod ends;
 pub mod threshold;

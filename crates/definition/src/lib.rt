@@ -1,8 +1,9 @@
 // Every record and enum of the pair and its calls. There is no function here: what the calls do is defined in specs/, one file for each
 // paragraph or call of documents 01 and 02 (i), and the functions of the other crates are proved to do it.
+#![tactic(auto)]
 
 // Why a call is refused. `status_number` gives each its number.
-#[derive(Drop)]
+#[derive(Clone, Copy)]
 pub enum Status {
     Internal,
     NoResources,
@@ -18,7 +19,7 @@ pub enum Status {
 
 // What a socket says of its queue and its peer's. The peer's numbers are 0 if it is closed.
 #[repr(C)]
-#[derive(Drop)]
+#[derive(Clone, Copy)]
 pub struct SocketInfo {
     pub options: u32,
     pub rx_buf_max: u64,
@@ -30,7 +31,7 @@ pub struct SocketInfo {
 
 // The read and the write threshold of an end; 0 is none.
 #[repr(C)]
-#[derive(Drop)]
+#[derive(Clone, Copy)]
 pub struct Thresholds {
     pub read: u64,
     pub write: u64,
@@ -38,7 +39,7 @@ pub struct Thresholds {
 
 // What a wait leaves once its mask has met the word: the trigger is the mask.
 #[repr(C)]
-#[derive(Drop)]
+#[derive(Clone, Copy)]
 pub struct PortPacket {
     pub key: u64,
     pub trigger: u32,
@@ -48,7 +49,7 @@ pub struct PortPacket {
 }
 
 // The record of a done call; `Empty` for a call that has none.
-#[derive(Drop)]
+#[derive(Clone, Copy)]
 pub enum Record {
     Empty,
     Count(u32),
@@ -57,7 +58,7 @@ pub enum Record {
     Packet(PortPacket),
 }
 
-#[derive(Drop)]
+#[derive(Clone, Copy)]
 pub enum Answer {
     Done(Record),
     Refused(Status),
@@ -65,7 +66,7 @@ pub enum Answer {
 
 // A queue's place in a ring: where it starts and how many entries it has.
 #[repr(C)]
-#[derive(Drop)]
+#[derive(Clone, Copy)]
 pub struct Span {
     pub start: u32,
     pub count: u32,
@@ -73,7 +74,7 @@ pub struct Span {
 
 // The queued bytes in the ring, and on datagram pairs their lengths in the table.
 #[repr(C)]
-#[derive(Drop)]
+#[derive(Clone, Copy)]
 pub struct Queue {
     pub bytes: Span,
     pub lengths: Span,
@@ -81,7 +82,7 @@ pub struct Queue {
 
 // The order and the widths leave no gap, so that every byte of the record is one of a field, and a new end is stored where it stands.
 #[repr(C)]
-#[derive(Drop)]
+#[derive(Clone, Copy)]
 pub struct Endpoint {
     pub closed: bool,
     pub read_disabled: bool,
@@ -92,14 +93,14 @@ pub struct Endpoint {
 }
 
 // What an end shows: its signal word, or that it is closed.
-#[derive(Drop)]
+#[derive(Clone, Copy)]
 pub enum SignalWord {
     Closed,
     Word(u32),
 }
 
 // What a disposition does to one end's writing. The Rust has an `Option<bool>`.
-#[derive(Drop)]
+#[derive(Clone, Copy)]
 pub enum Disposition {
     Unchanged,
     Disable,
@@ -110,7 +111,7 @@ pub enum Disposition {
 // `end` is the number of the wait's end, 1 or 2, and 0 in a place that no wait has; its packet keeps it.
 // It is as wide as the key so that a place has no padding: a new table is then one fill with zeros.
 #[repr(C)]
-#[derive(Drop)]
+#[derive(Clone, Copy)]
 pub struct Place {
     pub key: u64,
     pub mask: u32,
@@ -120,7 +121,7 @@ pub struct Place {
 
 // The packets stand first, oldest first; behind them the waits, oldest first; the other places are unused.
 #[repr(C)]
-#[derive(Drop)]
+#[derive(Clone, Copy)]
 pub struct Places {
     pub packets: usize,
     pub waits: usize,
@@ -128,14 +129,14 @@ pub struct Places {
 }
 
 // The next table and the answer.
-#[derive(Drop)]
+#[derive(Clone, Copy)]
 pub struct Next {
     pub places: Places,
     pub answer: Answer,
 }
 
 // The next table, the next word and the answer.
-#[derive(Drop)]
+#[derive(Clone, Copy)]
 pub struct Change {
     pub places: Places,
     pub word: u32,
@@ -143,7 +144,7 @@ pub struct Change {
 }
 
 // What every answer but those of take and cancel is made of. It is small, so that it is passed on at little cost.
-#[derive(Drop)]
+#[derive(Clone, Copy)]
 pub struct Ends {
     pub datagram: bool,
     pub capacity: u32,
@@ -157,7 +158,7 @@ pub struct Ends {
 // The two spare fields, of one and of two bytes, stand where the record would have a gap, so that every byte of it is one of a field. Create sets
 // them to 0; no call looks at them, and every other call leaves them as they are.
 #[repr(C)]
-#[derive(Drop)]
+#[derive(Clone, Copy)]
 pub struct Pair {
     pub one: Endpoint,
     pub two: Endpoint,
@@ -169,7 +170,7 @@ pub struct Pair {
 }
 
 // The next pair, and the answer.
-#[derive(Drop)]
+#[derive(Clone, Copy)]
 pub struct Step {
     pub pair: Pair,
     pub answer: Answer,

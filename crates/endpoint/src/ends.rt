@@ -11,7 +11,7 @@ pub use change::{can_fire, keeps_word, kept_ends, no_visits, put_back, unchanged
 pub use choice::queue_if;
 
 // A change of an end's word, from `word`, whose waits are not visited yet.
-#[derive(Drop)]
+#[derive(Clone, Copy)]
 pub struct Pending {
     pub one: bool,
     pub word: u32,
@@ -20,7 +20,7 @@ pub struct Pending {
 }
 
 // Two changes, in their order.
-#[derive(Drop)]
+#[derive(Clone, Copy)]
 pub struct Visits {
     pub first: Pending,
     pub second: Pending,
@@ -35,7 +35,7 @@ pub const NO_VISIT: Pending = Pending {
 };
 
 // The caller's end and its peer after a call, and the changes of their words.
-#[derive(Drop)]
+#[derive(Clone, Copy)]
 pub struct Moved {
     pub own: Endpoint,
     pub peer: Endpoint,
@@ -44,7 +44,7 @@ pub struct Moved {
 
 // The two ends after a call, its answer, whether the waits are to be looked at, and the changes whose waits are then to be visited: those of
 // `visits`, then those of `more`, which only a disposition has. The waits are looked at where a wait can fire; by a close, where there are any.
-#[derive(Drop)]
+#[derive(Clone, Copy)]
 pub struct EndsOutcome {
     pub one: Endpoint,
     pub two: Endpoint,

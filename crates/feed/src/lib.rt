@@ -1,4 +1,6 @@
 // One block of a script is fed to the machine that it drives: the pair, memory, rings and tables.
+#![tactic(auto)]
+
 ghost use Rattle.std.specs.Prelude.{◌≡◌, true, length};
 ghost use Rattle.definition_script.specs.Call.{rings};
 ghost use Rattle.feed.specs.Feed.{is_ready, FeedDone};
@@ -9,7 +11,7 @@ pub mod state;
 mod turn;
 
 // After a block: the state, how many bytes of the input are done with, and how many of the output are written.
-#[derive(Drop)]
+#[derive(Clone, Copy)]
 pub struct Fed {
     pub state: ScriptState,
     pub taken: usize,

@@ -7,14 +7,14 @@ ghost use Rattle.feed.specs.Turn.{LIMIT, next_of, StepMay, StepDone, StopDone, T
 use definition_script::{Decoded, ScriptState};
 
 // After a step: the state, and the place in the output.
-#[derive(Drop)]
+#[derive(Clone, Copy)]
 pub struct Stepped {
     pub state: ScriptState,
     pub at: usize,
 }
 
 // After a move: the state, the place in the input, the place in the output, and whether another move may follow.
-#[derive(Drop)]
+#[derive(Clone, Copy)]
 pub struct Turned {
     pub state: ScriptState,
     pub from: usize,

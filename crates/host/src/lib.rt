@@ -1,5 +1,7 @@
 // The calls that a kernel links, over a pair that it keeps: each takes the pair behind a reference, leaves the next one there and
 // returns the answer's word, or the signal word of an end.
+#![tactic(auto)]
+
 ghost use Rattle.std.specs.Prelude.{◌≡◌};
 ghost use Rattle.definition.specs.Create.{Creates};
 ghost use Rattle.definition.specs.Write.{Writes};

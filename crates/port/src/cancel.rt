@@ -7,7 +7,7 @@ use crate::places::{FREE, both, count_if, end_number, is_sound};
 use definition::{Place, Places};
 
 // The table that a cancel leaves, and how many of its places were freed.
-#[derive(Drop)]
+#[derive(Clone, Copy)]
 pub struct Remaining {
     pub places: Places,
     pub removed: u32,

@@ -1,6 +1,8 @@
 // The table of 128 places: its counts, the waits that a change of a word fires, taking a packet, registering a wait, dropping those of an end,
 // cancelling by end and key, tables of which few places are used, and the visits of all changes of a call. After signal/port.rs and `signal_change` of
 // object/mod.rs.
+#![tactic(auto)]
+
 pub mod cancel;
 pub mod few;
 pub mod firing;

@@ -9,21 +9,21 @@ use definition::Ends;
 use report::tally::{Comparison, Tally};
 
 // Where a field ends: its length and its bytes.
-#[derive(Drop)]
+#[derive(Clone, Copy)]
 enum Field {
     Ends(usize),
     Cut,
 }
 
 // Where an entry's name ends, its script, and its listing; or the input does not hold all three.
-#[derive(Drop)]
+#[derive(Clone, Copy)]
 enum Found {
     Whole(usize, usize, usize),
     Cut,
 }
 
 // The tally, and where in the input the entries end that were run.
-#[derive(Drop)]
+#[derive(Clone, Copy)]
 pub struct Replayed {
     pub tally: Tally,
     pub at: usize,

@@ -3,6 +3,8 @@
 // fills the buffer; last how many agree. The stored scripts are this program's standard input. They were made in rust/differential, from the original, by
 //     cargo build --release --offline && target/release/sample FILE
 // For each script the input has its name, the script and the listing, each after a four-byte little-endian length.
+#![tactic(auto)]
+
 ghost use Rattle.std.specs.Prelude.{◌≤◌, ◌≡◌, length};
 ghost use Rattle.replay.specs.Replay.{first_name, ReplayMay, Replays};
 

@@ -4,7 +4,7 @@ ghost use Rattle.definition.specs.Status.{pick};
 ghost use Rattle.report.specs.tally.Count.{is_full, missed_entry, counted_of};
 
 // What came of an entry: its listing agrees, or first differs at a byte, or another line might not have fit behind it.
-#[derive(Drop)]
+#[derive(Clone, Copy)]
 pub enum Comparison {
     Agrees,
     DiffersAt(usize),
@@ -13,7 +13,7 @@ pub enum Comparison {
 
 // How many entries were run, how many agree, and the first that does not: its number from 0, where its name begins and ends in the input, and its
 // comparison.
-#[derive(Drop)]
+#[derive(Clone, Copy)]
 pub struct Tally {
     pub total: u64,
     pub agree: u64,

@@ -41,9 +41,9 @@ fn copy_block(dst: &mut [u8], src: &[u8])
     let n = src.len();
     let mut array = [0u8; BLOCK];
     let block: &mut [u8] = &mut array;
-    bytes::copy(src, &mut block[0..n]);
+    block[0..n].copy_from_slice(src);
     let filled: &[u8] = &block[..];
-    bytes::copy(&filled[0..n], dst);
+    dst[0..n].copy_from_slice(&filled[0..n]);
 }
 
 // Copies all of src to the start of dst, block by block.

@@ -1,4 +1,6 @@
 // The ring's copies as exported functions, so that their time can be measured from Rust.
+#![tactic(auto)]
+
 ghost use Rattle.std.specs.Prelude.{◌≡◌};
 ghost use Rattle.ring.specs.copy.Copies.{copied_in, copied_out};
 

@@ -1,6 +1,8 @@
 // The calls that a run is made of: a function here for create and for each case of `Does`, two for a read over user memory. Each makes the call, and
 // ensures that what the call gave is a step of `Does`. This shows that each case of `Does` asks for no more than its call ensures. No program calls
 // these functions.
+#![tactic(auto)]
+
 ghost use Rattle.std.specs.Prelude.{List, [], ℕ, take};
 ghost use Rattle.definition.specs.Status.{count_of};
 ghost use Rattle.definition.specs.Calls.{input, control, write, set_disposition, shutdown, plain_write, plain_read, plain_disposition, plain_shutdown, set_read_threshold, set_write_threshold, get_thresholds, get_info, wait, take_packet, cancel, close};

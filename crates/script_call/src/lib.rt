@@ -1,3 +1,5 @@
+#![tactic(auto)]
+
 pub mod call;
 pub mod delivered;
 pub mod fill;

@@ -1,6 +1,8 @@
 // A socket pair as a value: each operation is a method that takes the pair and hands the next one back. After `Socket` of ipc/socket.rs.
 //
 // A call is lent the rings and tables that it uses. It answers −1 for a record that is INTERNAL, so that nothing is demanded of a caller.
+#![tactic(auto)]
+
 use definition::{Answer, Pair};
 
 mod cancel;
@@ -28,13 +30,13 @@ pub use wait::{
 };
 
 // The pair with its methods. It holds its record as the original's `Socket` holds its `inner`.
-#[derive(Drop)]
+#[derive(Clone, Copy)]
 pub struct SocketPair {
     pub inner: Pair,
 }
 
 // What a method hands back: the next pair, and the answer.
-#[derive(Drop)]
+#[derive(Clone, Copy)]
 pub struct SocketStep {
     pub pair: SocketPair,
     pub answer: Answer,

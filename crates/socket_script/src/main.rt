@@ -1,4 +1,6 @@
 // A script from standard input; its listing to standard output. Both go in large blocks.
+#![tactic(auto)]
+
 ghost use Rattle.std.specs.Prelude.{◌≤◌, ◌≡◌, length, take};
 ghost use Rattle.definition_script.specs.Call.{written_at, rings};
 ghost use Rattle.definition_script.specs.Listing.{header, closing};

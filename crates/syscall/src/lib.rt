@@ -1,4 +1,6 @@
 // Calls over user memory: one slice that the caller lends, at a 64-bit base. After zircon-syscall's socket.rs.
+#![tactic(auto)]
+
 ghost use Rattle.definition.specs.Disposition.{UserDisposes};
 ghost use Rattle.definition.specs.Shutdown.{UserShuts};
 ghost use Rattle.definition.specs.Write.{UserWrites};

@@ -1,5 +1,7 @@
 // Numbers and bytes as text, put into a lent slice at a place. Each public writer gives the place behind its text; where the slice has no room
 // for the most that the writer could put, it puts nothing and gives its place back.
+#![tactic(auto)]
+
 ghost use Rattle.std.specs.Prelude.{◌+◌, ◌*◌, ◌≤◌, ◌<◌, ◌≡◌, [], ◌∷◌, length};
 ghost use Rattle.definition.specs.Status.{status_number};
 ghost use Rattle.definition_script.specs.Call.{written_at};

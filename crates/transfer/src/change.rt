@@ -7,7 +7,7 @@ use definition::{Answer, Queue};
 
 // What a write or a read changes: the queue that bytes went into or left, the bits that the caller's word loses, and those that its peer's word gains
 // if the peer is open. `moves` says whether it changes anything; `answer` is the call's.
-#[derive(Drop)]
+#[derive(Clone, Copy)]
 pub struct Transfer {
     pub queue: Queue,
     pub lost: u32,

@@ -1,4 +1,6 @@
 // What the calls over user memory answer: user memory and its ranges, the lookup of a handle with a right, write and read.
+#![tactic(auto)]
+
 pub mod lookup;
 pub mod memory;
 pub mod read;

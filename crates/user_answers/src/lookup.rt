@@ -18,7 +18,7 @@ pub const RIGHT_WRITE: u16 = 2;
 pub const RIGHT_MANAGE: u16 = 4;
 
 // Where the bytes and the count of a write or read lie: `count` bytes from an address on, in memory of `size` bytes.
-#[derive(Drop)]
+#[derive(Clone, Copy)]
 pub struct Buffer {
     pub base: u64,
     pub size: usize,

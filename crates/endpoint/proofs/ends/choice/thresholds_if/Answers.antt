@@ -1,0 +1,6 @@
+use borrow.Author.Rules.{rules}
+use Rattle.endpoint.proofs.ends.Fieldwise.{thresholds_chosen}
+use Rattle.endpoint.proofs.ends.choice.thresholds_if.Goals as goal
+
+pub returns : goal.returns
+returns c = rw (c.number_if.ensures, c.number_if-2.ensures) (thresholds_chosen _ _ _)
