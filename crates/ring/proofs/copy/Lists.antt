@@ -52,18 +52,13 @@ module _ {A : Type 0} where
         ∙ get_or-drop (at + n) l (i - length (take at l ++ take n xs)) d
         ∙ ap (λ (k : ℕ). get_or l k d) (let e : at + n + (i - length (take at l ++ take n xs)) ≡ i = omega (arith, head_length_lem) in e)
 
-  -- a copy through a list z that is long enough: xs is the part of z after the first copy, ps the part that the second copy reads, and ys
-  -- is l after it
-  pub copied_through : (z s l xs ps ys : List A) → length s ≤ length z
-      → xs ≡ take (length s) s ++ drop (length s) (take (length s - 0) (drop 0 z))
-      → ps ≡ take (length s - 0) (drop 0 (take 0 z ++ (xs ++ drop (length s - 0) (drop 0 z))))
-      → ys ≡ take (length ps) ps ++ drop (length ps) l
-      → ys ≡ paste l 0 s (length s)
-  copied_through z s l xs ps ys fits e f g =
-      let none : drop (length s) (take (length s) z) ≡ [] = drop_of_length-le (take (length s) z) {i = length s} (simp length-take (omega arith)) in
-      let first : xs ≡ s = e ∙ simp (sub-zero, none, take-length, append-nil) in
-      let second : ps ≡ s = f ∙ simp (first, sub-zero, take-append_seam) in
-      g ∙ simp (second, zero-add)
+  -- a copy through a list z that is long enough: xs is the part of z after the first copy, and ys the part of l after the second
+  pub copied_through : (z s l xs ys : List A) → length s ≤ length z → xs ≡ s
+      → ys ≡ take (length s - 0) (drop 0 (take 0 z ++ (xs ++ drop (length s - 0) (drop 0 z))))
+      → ys ++ drop (length s - 0) l ≡ paste l 0 s (length s)
+  copied_through z s l xs ys fits first f =
+      let second : ys ≡ s = f ∙ simp (first, sub-zero, take-append_seam) in
+      simp (second, sub-zero, take-length, zero-add)
 
   -- a part of a list past its first k entries, with what stands behind the part
   drop_part : (k n : ℕ) (l : List A) → k ≤ n → n ≤ length l → drop k (take n l) ++ drop n l ≡ drop k l
