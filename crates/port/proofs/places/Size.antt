@@ -13,7 +13,7 @@ use Rattle.definition.specs.contracts.Places as T
 use Rattle.definition.proofs.Places.TheLaws as T'
 
 pub table_128 : (t : Places) (vs : List Val) → Is T.the_row t vs → length t.table ≡ 128
-table_128 t vs g = sym (length-map t.table (P.the_field).into) ∙ (LL.owed T.the_type T'.the_laws t vs g).1.1.0.1.0.1
+table_128 t vs g = (LL.owed T.the_type T'.the_laws t vs g).1.1.0.1.0.1
 
 -- a table is its three fields
 pub same-places : {a a' b b' : ℕ} {l l' : List Place} → a ≡ a' → b ≡ b' → l ≡ l'

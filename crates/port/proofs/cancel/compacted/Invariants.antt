@@ -1,0 +1,22 @@
+use Prim.Native.Nat.{◌+◌, ◌-◌, ◌≤◌, ◌<◌}
+use mathlib.Core.Path.{◌≡◌, refl, sym, ap, ◌∙◌}
+use mathlib.Core.Bool.{not}
+use borrow.Author.Rules.{rules}
+use native.Mathlib.Omega.{arith}
+use lib.ListN.{length, take}
+use Rattle.definition.specs.Status.{pick}
+use Rattle.definition.specs.Port.{filter, free, used, cancelled_of, matching}
+use Rattle.port.proofs.places.Size.{table_128}
+use Rattle.port.proofs.waits.Compact.{Compacted, compact_start, compact_drop, compact_keep}
+use Rattle.port.proofs.cancel.Kept.{keeps, kept-packets, cancelled_as}
+use Rattle.port.proofs.cancel.compacted.Given as goal
+
+-- The places below i are visited: those kept stand together from the first on, and the places from n to i are free. Once the packets are visited, m of
+-- those kept are packets.
+abbrev pub invariant-loop-i : goal.invariant-loop-i
+invariant-loop-i l =
+    Compacted (keeps l.one l.key) free l.initial.out.table 0 l.used l.out.table l.n l.i
+    × (((l.packets < l.i → l.m ≡ length (filter (keeps l.one l.key) (take l.packets l.initial.out.table))) × (l.packets ≤ l.used)) × (l.used ≤ 128))
+
+abbrev pub decreases-loop-i : goal.decreases-loop-i
+decreases-loop-i l = l.used - l.i

@@ -1,0 +1,15 @@
+use Prim.Native.Nat.{ℕ, ◌+◌, ◌-◌, ◌≤◌, ◌<◌}
+use mathlib.Core.Path.{◌≡◌, sym, ◌∙◌, subst}
+use borrow.Author.Rules.{rules}
+use native.Mathlib.Omega.{arith}
+use lib.ListN.{length}
+use Rattle.definition.specs.Port.{free, matches}
+use Rattle.port.proofs.places.Size.{table_128}
+use Rattle.port.proofs.few.Searches.{Found, found-start, found_turn, found_all, at-most-eight, counted-most}
+use Rattle.port.proofs.few.only_match.Given as goal
+
+abbrev pub invariant-loop-i : goal.invariant-loop-i
+invariant-loop-i l = Found (matches l.one l.key) l.t.table l.used l.i l.n l.k × (((l.i ≤ 8) × (l.n + l.i ≤ 8)) × (l.used ≤ 8))
+
+abbrev pub decreases-loop-i : goal.decreases-loop-i
+decreases-loop-i l = l.i

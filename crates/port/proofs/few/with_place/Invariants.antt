@@ -1,0 +1,20 @@
+use Prim.Native.Nat.{◌+◌, ◌-◌, ◌≤◌, ◌<◌}
+use mathlib.Core.Path.{◌≡◌, refl, ◌∙◌}
+use mathlib.Core.List.{◌++◌}
+use borrow.Author.Rules.{rules}
+use native.Mathlib.Omega.{arith}
+use lib.Dec.{ltb}
+use lib.ListN.{length, take, drop, set}
+use Rattle.definition.specs.Status.{pick}
+use Rattle.definition.specs.Port.{free}
+use Rattle.port.proofs.places.Size.{table_128, same-places}
+use Rattle.port.proofs.few.Lists.{written_step, written_all, put-at, put-size, put_rest}
+use Rattle.port.proofs.few.with_place.Given as goal
+
+abbrev pub invariant-loop-i : goal.invariant-loop-i
+invariant-loop-i l =
+    (l.out.table ≡ take l.i (pick (ltb l.at 8) (set l.t.table l.at l.p) l.t.table) ++ drop l.i l.t.table)
+    × (((l.out.packets ≡ l.t.packets) × (l.out.waits ≡ l.t.waits)) × (l.i ≤ 8))
+
+abbrev pub decreases-loop-i : goal.decreases-loop-i
+decreases-loop-i l = 8 - l.i

@@ -1,0 +1,7 @@
+use Rattle.port.specs.visits.Visits.{visited}
+use borrow.Author.Rules.{rules}
+use Rattle.port.proofs.visits.visited_only.Goals as goal
+
+pub returns : goal.returns
+unfolding visited
+returns c = c.only_visited.ensures
