@@ -1,0 +1,16 @@
+use Rattle.endpoint.proofs.answer.Rules.{chain, via_not, via_not-not, then_stop, then_go}
+use Rattle.definition.specs.Threshold.{read_threshold_answer}
+use borrow.Author.Rules.{rules}
+use Rattle.answers.proofs.threshold.read_threshold_answer.Goals as goal
+
+pub returns-then-not-is_done : goal.returns-then-not-is_done
+unfolding read_threshold_answer
+returns-then-not-is_done c = then_stop _ _ _ c.opening_test-a.ensures (via_not c.is_done.ensures c.if-not-is_done.true-raw)
+
+pub returns-then-p-threshold : goal.returns-then-p-threshold
+unfolding read_threshold_answer
+returns-then-p-threshold c = then_go _ _ _ _ c.opening_test-a.ensures (via_not-not c.is_done.ensures c.if-not-is_done.false-raw) (search (chain, c.if-p-threshold.true) depth 6)
+
+pub returns : goal.returns
+unfolding read_threshold_answer
+returns c = then_go _ _ _ _ c.opening_test-a.ensures (via_not-not c.is_done.ensures c.if-not-is_done.false-raw) (search (chain, c.if-p-threshold.false) depth 6)

@@ -1,0 +1,13 @@
+use borrow.Author.Rules.{rules}
+use borrow.Author.Tests.{lt-ltb, le-ltb}
+use Rattle.definition.specs.Status.{pick}
+use Rattle.definition_script.specs.Line.{digit_of}
+use Rattle.text.proofs.digit.Goals as goal
+
+pub returns-then-d-lt10 : goal.returns-then-d-lt10
+unfolding pick digit_of
+returns-then-d-lt10 c = simp (lt-ltb _ _ c.if-d-lt10.true)
+
+pub returns-else-d-lt10 : goal.returns-else-d-lt10
+unfolding pick digit_of
+returns-else-d-lt10 c = simp (le-ltb _ _ c.if-d-lt10.false)

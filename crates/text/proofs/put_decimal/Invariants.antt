@@ -1,0 +1,13 @@
+use Prim.Native.Nat.{ℕ, ◌+◌, ◌-◌, ◌/◌, ◌≤◌}
+use borrow.Author.Rules.{rules}
+use lib.ListN.{length, set}
+use mathlib.Core.Path.{◌≡◌, sym, ap, ◌∙◌}
+use native.Mathlib.Omega.{arith}
+use Rattle.text.proofs.Spelling.{back, back_zero, back_step, back_is}
+use Rattle.text.proofs.put_decimal.Given as goal
+
+abbrev pub invariant-loop-i : goal.invariant-loop-i
+invariant-loop-i l = (l.i ≤ l.k) × (length l.out ≡ length l.initial.out) × (l.at + l.k ≤ length l.initial.out) × (back 10 l.at l.k l.n l.initial.out ≡ back 10 l.at l.i l.rest l.out)
+
+abbrev pub decreases-loop-i : goal.decreases-loop-i
+decreases-loop-i l = l.i

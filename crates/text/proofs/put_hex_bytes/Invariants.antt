@@ -1,0 +1,18 @@
+use Prim.Native.Nat.{ℕ, ◌+◌, ◌-◌, ◌*◌, ◌/◌, ◌≤◌}
+use borrow.Author.Rules.{rules}
+use lib.ListN.{length, take, get_or, set, length-set}
+use lib.Seq.{take-length}
+use mathlib.Core.List.{List}
+use mathlib.Core.Path.{◌≡◌, sym, ap, ◌∙◌}
+use native.Mathlib.Omega.{arith}
+use Rattle.text.proofs.Place.{place_none}
+use Rattle.text.proofs.Spelling.{hex_bytes-length, hex_bytes_turn}
+use Rattle.definition_script.specs.Line.{digit_of, hex_bytes_of}
+use Rattle.definition_script.specs.Call.{written_at}
+use Rattle.text.proofs.put_hex_bytes.Given as goal
+
+abbrev pub invariant-loop-i : goal.invariant-loop-i
+invariant-loop-i l = (l.i ≤ length l.src) × (length l.out ≡ length l.initial.out) × (l.at + 2 * length l.src ≤ length l.initial.out) × (l.to ≡ l.at + 2 * l.i) × (l.out ≡ written_at l.at (hex_bytes_of (take l.i l.src)) l.initial.out)
+
+abbrev pub decreases-loop-i : goal.decreases-loop-i
+decreases-loop-i l = length l.src - l.i
