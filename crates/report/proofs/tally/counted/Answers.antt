@@ -1,8 +1,5 @@
 -- `counted` meets its contract.
-use Prim.Native.Nat.{ℕ}
-use native.Mathlib.Omega.{arith}
-use mathlib.Core.Logic.{⊎_elim}
-use mathlib.Core.Path.{◌≡◌, refl}
+use mathlib.Core.Path.{refl}
 use Rattle.endpoint.proofs.answer.Rules.{pick-on, pick_off}
 use Rattle.report.proofs.tally.Counts.{full_total, full_agree, not_full, counted_agrees, missed-is}
 use borrow.Author.Rules.{rules}
@@ -25,4 +22,4 @@ pub returns-in-DiffersAt : goal.returns-in-DiffersAt
 returns-in-DiffersAt c =
     let a = c.args in
     pick_off _ _ _ _ _ (not_full a.t c.if-t-ge9223372036854775808.false c.if-t-ge9223372036854775808-2.false)
-    (missed-is a.t a.from a.to a.o (λ e. ⊎_elim (λ p. let z : ◌≡◌ {A = ℕ} 0 1 = rw e at p in omega arith) (λ p. let z : ◌≡◌ {A = ℕ} 0 2 = rw e at p in omega arith) c.in-DiffersAt.in-DiffersAt-own.keys2) c.missed.ensures)
+    (missed-is a.t a.from a.to a.o c.in-DiffersAt.not-Agrees c.missed.ensures)
