@@ -9,7 +9,7 @@ returns-then-t-eq1 c =
     let a = c.args in
     let t = a.t in
     let one = c.if-t-eq1.true in
-    let z = rings a.ring-one.now a.table-one.now a.ring-two.now a.table-two.now in
+    let z = rings a.ring_one.now a.table_one.now a.ring_two.now a.table_two.now in
     got _ _ _ _ z _ t _ (own_ring-one z t.handle one) (own_table-one z t.handle one)
     c.read_bytes.ensures
 
@@ -18,6 +18,6 @@ returns c =
     let a = c.args in
     let t = a.t in
     let one = c.if-t-eq1.false in
-    let z = rings a.ring-one.now a.table-one.now a.ring-two.now a.table-two.now in
+    let z = rings a.ring_one.now a.table_one.now a.ring_two.now a.table_two.now in
     got _ _ _ _ z _ t _ (own_ring-two z t.handle one) (own_table-two z t.handle one)
     c.read_bytes-2.ensures

@@ -9,7 +9,7 @@ returns-then-t-eq1 c =
     let a = c.args in
     let t = a.t in
     let one = c.if-t-eq1.true in
-    let z = rings a.ring-one.now a.table-one.now a.ring-two.now a.table-two.now in
+    let z = rings a.ring_one.now a.table_one.now a.ring_two.now a.table_two.now in
     wrote _ _ _ _ _ _ z _ _ t _ (peer_ring-one z t.handle one) (peer_table-one z t.handle one) (with_peer-one z t.handle _ _ one)
     c.write.ensures
 
@@ -18,6 +18,6 @@ returns c =
     let a = c.args in
     let t = a.t in
     let one = c.if-t-eq1.false in
-    let z = rings a.ring-one.now a.table-one.now a.ring-two.now a.table-two.now in
+    let z = rings a.ring_one.now a.table_one.now a.ring_two.now a.table_two.now in
     wrote _ _ _ _ _ _ z _ _ t _ (peer_ring-two z t.handle one) (peer_table-two z t.handle one) (with_peer-two z t.handle _ _ one)
     c.write-2.ensures

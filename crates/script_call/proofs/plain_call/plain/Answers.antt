@@ -1,7 +1,8 @@
 use borrow.Author.Rules.{rules}
 use borrow.Author.Tests.{lt-ltb, le-ltb}
+use Prim.Native.Nat.{◌≤◌, ◌<◌}
 use native.Mathlib.Omega.{arith}
-use Rattle.script_call.proofs.plain_call.Steps.{up, from_eleven, cancel-tag}
+use Rattle.script_call.proofs.plain_call.Steps.{cancel-tag}
 use Rattle.definition_script.specs.Call.{info_step, cancel_step, control_step}
 use Rattle.definition.specs.Status.{pick}
 use Rattle.script_call.proofs.plain_call.plain.Goals as goal
@@ -40,8 +41,14 @@ returns-in-10 c = rw c.in-10.is c.take.ensures
 
 pub returns-in-1-to-3 : goal.returns-in-1-to-3
 unfolding control_step pick
-returns-in-1-to-3 c = simp (le-ltb c.args.tag 1 (up c.args.tag 0 (omega arith) c.in_default-1.rest.0.0.0.0.0.0.0.1), lt-ltb _ _ c.in-1-to-3.if-tag-lt4-own.true) c.set_disposition.ensures
+returns-in-1-to-3 c =
+    let tag = c.args.tag in
+    let low : 1 ≤ tag = omega arith in
+    let high : tag < 4 = omega arith in
+    simp (le-ltb tag 1 low, lt-ltb tag 4 high) c.set_disposition.ensures
 
 pub returns-in-11-to-255 : goal.returns-in-11-to-255
 unfolding control_step pick cancel_step
-returns-in-11-to-255 c = cancel-tag _ _ c.args.tag _ _ (from_eleven c.args.tag c.in-11-to-255.if-tag-lt4-own.false c.in_default-1.rest.0.0.0.0.0.0.1 c.in_default-1.rest.0.0.0.0.0.1 c.in_default-1.rest.0.0.0.0.1 c.in_default-1.rest.0.0.0.1 c.in_default-1.rest.0.0.1 c.in_default-1.rest.0.1 c.in_default-1.rest.1) c.cancel.ensures
+returns-in-11-to-255 c =
+    let low : 11 ≤ c.args.tag = omega arith in
+    cancel-tag _ _ c.args.tag _ _ low c.cancel.ensures

@@ -1,7 +1,6 @@
 use borrow.Author.Tests.{lt-ltb, le-ltb}
-use Prim.Native.Nat.{ℕ, ◌+◌, ◌≤◌}
+use Prim.Native.Nat.{ℕ, ◌+◌, ◌≤◌, ◌<◌}
 use native.Mathlib.Omega.{arith}
-use Rattle.script_call.proofs.plain_call.Steps.{up}
 use Rattle.definition_script.specs.Record.{is_body}
 use Rattle.definition.specs.Status.{pick}
 use Rattle.script_call.proofs.record.is_body.Goals as goal
@@ -46,27 +45,29 @@ pub returns-in-1-to-2 : goal.returns-in-1-to-2
 unfolding pick is_body
 returns-in-1-to-2 c =
     let tag = c.args.tag in
-    simp (le-ltb tag 1 (up tag 0 (omega arith) c.in_default-1.rest.0.0.0.0.0.0.1), lt-ltb tag 3 c.in-1-to-2.if-tag-lt3-own.true)
+    let low : 1 ≤ tag = omega arith in
+    let high : tag < 3 = omega arith in
+    simp (le-ltb tag 1 low, lt-ltb tag 3 high)
 
 pub returns-in-5-to-6 : goal.returns-in-5-to-6
 unfolding pick is_body
 returns-in-5-to-6 c =
     let tag = c.args.tag in
-    let n = c.in_default-1.rest in
-    let low : 5 ≤ tag = up tag 4 (up tag 3 c.if-tag-lt3.false n.0.0.0.0.0.1) n.0.0.0.0.1 in
-    simp (le-ltb tag 1 (over 1 4 tag low), le-ltb tag 3 (over 3 2 tag low), le-ltb tag 4 (over 4 1 tag low), le-ltb tag 5 low, lt-ltb tag 7 c.in-5-to-6.if-tag-lt7-own.true)
+    let low : 5 ≤ tag = omega arith in
+    let high : tag < 7 = omega arith in
+    simp (le-ltb tag 1 (over 1 4 tag low), le-ltb tag 3 (over 3 2 tag low), le-ltb tag 4 (over 4 1 tag low), le-ltb tag 5 low, lt-ltb tag 7 high)
 
 pub returns-in-7-to-8 : goal.returns-in-7-to-8
 unfolding pick is_body
 returns-in-7-to-8 c =
     let tag = c.args.tag in
-    let low : 7 ≤ tag = c.if-tag-lt7.false in
-    simp (le-ltb tag 1 (over 1 6 tag low), le-ltb tag 3 (over 3 4 tag low), le-ltb tag 4 (over 4 3 tag low), le-ltb tag 5 (over 5 2 tag low), le-ltb tag 7 low, lt-ltb tag 9 c.in-7-to-8.if-tag-lt9-own.true)
+    let low : 7 ≤ tag = omega arith in
+    let high : tag < 9 = omega arith in
+    simp (le-ltb tag 1 (over 1 6 tag low), le-ltb tag 3 (over 3 4 tag low), le-ltb tag 4 (over 4 3 tag low), le-ltb tag 5 (over 5 2 tag low), le-ltb tag 7 low, lt-ltb tag 9 high)
 
 pub returns-in-13-to-255 : goal.returns-in-13-to-255
 unfolding pick is_body
 returns-in-13-to-255 c =
     let tag = c.args.tag in
-    let n = c.in_default-1.rest in
-    let low : 13 ≤ tag = up tag 12 (up tag 11 (up tag 10 (up tag 9 c.in-13-to-255.if-tag-lt9-own.false n.0.0.0.1) n.0.0.1) n.0.1) n.1 in
+    let low : 13 ≤ tag = omega arith in
     simp (le-ltb tag 1 (over 1 12 tag low), le-ltb tag 3 (over 3 10 tag low), le-ltb tag 4 (over 4 9 tag low), le-ltb tag 5 (over 5 8 tag low), le-ltb tag 7 (over 7 6 tag low), le-ltb tag 9 (over 9 4 tag low), le-ltb tag 10 (over 10 3 tag low), le-ltb tag 11 (over 11 2 tag low), le-ltb tag 12 (over 12 1 tag low), le-ltb tag 13 low)
