@@ -13,5 +13,5 @@ returns-then-is_ready c = c.feed_ready.ensures
 pub returns : goal.returns
 returns c =
     let a = c.args in
-    unready a.st a.offset a.input.now a.memory.now (rings a.ring-one.now a.table-one.now a.ring-two.now a.table-two.now) a.out.now
+    unready a.st a.offset a.input.now a.memory.now (rings a.ring_one.now a.table_one.now a.ring_two.now a.table_two.now) a.out.now
     (sym c.is_ready.ensures ∙ c.if-is_ready.false)

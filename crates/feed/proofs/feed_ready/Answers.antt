@@ -13,7 +13,7 @@ use Rattle.feed.proofs.feed_ready.Goals as goal
 pub loop-more-init : goal.loop-more-init
 loop-more-init c =
     let a = c.args in
-    (begins (machine a.st a.memory.now (rings a.ring-one.now a.table-one.now a.ring-two.now a.table-two.now)) a.offset a.input.now a.out.now, ready a.st a.offset (length a.input.now) (length a.memory.now) c.requires, refl, refl, refl, refl, refl, refl)
+    (begins (machine a.st a.memory.now (rings a.ring_one.now a.table_one.now a.ring_two.now a.table_two.now)) a.offset a.input.now a.out.now, ready a.st a.offset (length a.input.now) (length a.memory.now) c.requires, refl, refl, refl, refl, refl, refl)
 
 pub overflow_sub-out : goal.overflow_sub-out
 overflow_sub-out c = c.loop-more.invariant.0.fits
@@ -31,24 +31,24 @@ loop-more-smaller c =
     let a = c.args in
     let k = c.turn-t in
     subst (λ (b : Bool). left a.input.now k.result.from k.result.more < left a.input.now l.from b) (sym c.loop-more-test.true)
-    (falls (machine l.s l.memory (rings l.ring-one l.table-one l.ring-two l.table-two)) a.offset a.input.now l.from l.at k.new.1.1.1.1.0 (rings k.new.1.1.1.1.1.0 k.new.1.1.1.1.1.1.0 k.new.1.1.1.1.1.1.1.0 k.new.1.1.1.1.1.1.1.1.0) l.out k.new.1.1.1.1.1.1.1.1.1.0 k.result l.invariant.0.within k.ensures)
+    (falls (machine l.s l.memory (rings l.ring_one l.table_one l.ring_two l.table_two)) a.offset a.input.now l.from l.at k.new.memory (rings k.new.ring_one k.new.table_one k.new.ring_two k.new.table_two) l.out k.new.out k.result l.invariant.0.within k.ensures)
 
 pub loop-more-preserved : goal.loop-more-preserved
 loop-more-preserved c =
     let l = c.loop-more in
     let a = c.args in
     let k = c.turn-t in
-    let m = (machine l.s l.memory (rings l.ring-one l.table-one l.ring-two l.table-two)) in
-    let i = subst (λ (b : Bool). SoFar (machine a.st a.memory.now (rings a.ring-one.now a.table-one.now a.ring-two.now a.table-two.now)) a.offset a.input.now a.out.now m l.out l.from l.at b) c.loop-more-test.true l.invariant.0 in
+    let m = (machine l.s l.memory (rings l.ring_one l.table_one l.ring_two l.table_two)) in
+    let i = subst (λ (b : Bool). SoFar (machine a.st a.memory.now (rings a.ring_one.now a.table_one.now a.ring_two.now a.table_two.now)) a.offset a.input.now a.out.now m l.out l.from l.at b) c.loop-more-test.true l.invariant.0 in
     let room : l.at + LINE ≤ length l.out = omega (arith, leb-true 8254 (length l.out - l.at) c.if-out-at-ge8254.true-raw, i.fits) in (
-      next (machine a.st a.memory.now (rings a.ring-one.now a.table-one.now a.ring-two.now a.table-two.now)) m a.offset a.input.now a.out.now l.out l.from l.at i k.new.1.1.1.1.0 (rings k.new.1.1.1.1.1.0 k.new.1.1.1.1.1.1.0 k.new.1.1.1.1.1.1.1.0 k.new.1.1.1.1.1.1.1.1.0) k.new.1.1.1.1.1.1.1.1.1.0 k.result k.ensures room,
+      next (machine a.st a.memory.now (rings a.ring_one.now a.table_one.now a.ring_two.now a.table_two.now)) m a.offset a.input.now a.out.now l.out l.from l.at i k.new.memory (rings k.new.ring_one k.new.table_one k.new.ring_two k.new.table_two) k.new.out k.result k.ensures room,
       l.invariant.1,
-      k.auto.1.1.1.1.0 ∙ l.invariant.2,
-      k.auto.1.1.1.1.1.0 ∙ l.invariant.3,
-      k.auto.1.1.1.1.1.1.0 ∙ l.invariant.4,
-      k.auto.1.1.1.1.1.1.1.0 ∙ l.invariant.5,
-      k.auto.1.1.1.1.1.1.1.1.0 ∙ l.invariant.6,
-      k.auto.1.1.1.1.1.1.1.1.1.0 ∙ l.invariant.7,
+      k.auto.memory ∙ l.invariant.2,
+      k.auto.ring_one ∙ l.invariant.3,
+      k.auto.table_one ∙ l.invariant.4,
+      k.auto.ring_two ∙ l.invariant.5,
+      k.auto.table_two ∙ l.invariant.6,
+      k.auto.out ∙ l.invariant.7,
     )
 
 pub shape_of-memory-else-out-at-ge8254 : goal.shape_of-memory-else-out-at-ge8254
@@ -73,7 +73,7 @@ pub returns-else-out-at-ge8254 : goal.returns-else-out-at-ge8254
 returns-else-out-at-ge8254 c =
     let l = c.loop-more in
     let a = c.args in
-    done_full (machine a.st a.memory.now (rings a.ring-one.now a.table-one.now a.ring-two.now a.table-two.now)) a.offset a.input.now a.out.now l.s l.memory (rings l.ring-one l.table-one l.ring-two l.table-two) l.out l.from l.at l.more l.invariant.0
+    done_full (machine a.st a.memory.now (rings a.ring_one.now a.table_one.now a.ring_two.now a.table_two.now)) a.offset a.input.now a.out.now l.s l.memory (rings l.ring_one l.table_one l.ring_two l.table_two) l.out l.from l.at l.more l.invariant.0
     (omega (arith, leb-false 8254 (length l.out - l.at) c.if-out-at-ge8254.false-raw))
     c.requires
 
@@ -99,5 +99,5 @@ pub returns-after-loop-more : goal.returns-after-loop-more
 returns-after-loop-more c =
     let l = c.loop-more in
     let a = c.args in
-    done-stay (machine a.st a.memory.now (rings a.ring-one.now a.table-one.now a.ring-two.now a.table-two.now)) a.offset a.input.now a.out.now l.s l.memory (rings l.ring-one l.table-one l.ring-two l.table-two) l.out l.from l.at l.more l.invariant.0 c.loop-more-test.false
+    done-stay (machine a.st a.memory.now (rings a.ring_one.now a.table_one.now a.ring_two.now a.table_two.now)) a.offset a.input.now a.out.now l.s l.memory (rings l.ring_one l.table_one l.ring_two l.table_two) l.out l.from l.at l.more l.invariant.0 c.loop-more-test.false
     c.requires

@@ -10,9 +10,8 @@ returns-then-ended c = next_ended _ _ _ c.if-ended.true
 
 pub returns-then-is_misplaced : goal.returns-then-is_misplaced
 returns-then-is_misplaced c =
-    let g = c.tag-1.given in
-    next_misplaced c.args.number g.0.0 g.0.1.0 (sym c.is_misplaced.ensures ∙ c.if-is_misplaced.true)
-    ∙ next-from c.args.ended c.args.number c.args.from c.args.input.now c.decode.result (Whole g.0.0 g.0.1.0) c.if-ended.false c.requires c.decode.ensures g.1
+    next_misplaced c.args.number c.in-Whole.tag c.in-Whole.n (sym c.is_misplaced.ensures ∙ c.if-is_misplaced.true)
+    ∙ next-from c.args.ended c.args.number c.args.from c.args.input.now c.decode.result (Whole c.in-Whole.tag c.in-Whole.n) c.if-ended.false c.requires c.decode.ensures c.in-Whole.is
 
 pub returns-in-Cut : goal.returns-in-Cut
 unfolding placed
@@ -24,6 +23,5 @@ returns-in-Bad c = next-from c.args.ended c.args.number c.args.from c.args.input
 
 pub returns-else-is_misplaced : goal.returns-else-is_misplaced
 returns-else-is_misplaced c =
-    let g = c.tag-1.given in
-    next-placed c.args.number g.0.0 g.0.1.0 (sym c.is_misplaced.ensures ∙ c.if-is_misplaced.false)
-    ∙ next-from c.args.ended c.args.number c.args.from c.args.input.now c.decode.result (Whole g.0.0 g.0.1.0) c.if-ended.false c.requires c.decode.ensures g.1
+    next-placed c.args.number c.in-Whole.tag c.in-Whole.n (sym c.is_misplaced.ensures ∙ c.if-is_misplaced.false)
+    ∙ next-from c.args.ended c.args.number c.args.from c.args.input.now c.decode.result (Whole c.in-Whole.tag c.in-Whole.n) c.if-ended.false c.requires c.decode.ensures c.in-Whole.is

@@ -1,0 +1,13 @@
+use Prim.Native.Nat.{◌+◌, ◌-◌, ◌≤◌}
+use borrow.Author.Rules.{rules}
+use lib.ListN.{length, take, drop, get_or}
+use mathlib.Core.Path.{◌≡◌}
+use native.Mathlib.Omega.{arith}
+use Rattle.buffer.proofs.shift.Shifts.{shift_take, shift_drop, shift_all}
+use Rattle.buffer.proofs.shift.move_front.Given as goal
+
+abbrev pub invariant-loop-i : goal.invariant-loop-i
+invariant-loop-i l = (l.i ≤ l.n) × (length l.buffer ≡ length l.initial.buffer) × (l.from + l.n ≤ length l.initial.buffer) × (take l.i l.buffer ≡ take l.i (drop l.from l.initial.buffer)) × (drop l.i l.buffer ≡ drop l.i l.initial.buffer)
+
+abbrev pub decreases-loop-i : goal.decreases-loop-i
+decreases-loop-i l = l.n - l.i
