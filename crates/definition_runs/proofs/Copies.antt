@@ -25,7 +25,8 @@ use Rattle.endpoint.proofs.answer.Rules.{pick-on, pick_off}
 use Rattle.endpoint.proofs.answer.Chains.{then_both, then_is, refuse_passed, counted}
 use Rattle.answers.proofs.tests.Sound.{passed}
 use Rattle.ring.proofs.copy.Laws.{place-zero}
-use Rattle.ring.proofs.copy.Modulo.{place_modulo, place-next, front_modulo_lem, put_modulo_lem, put-behind, copied_in_lem, copied_out_lem}
+use Rattle.ring.proofs.copy.Modulo.{place_modulo, place-next, front_modulo_lem, put_modulo_lem, put-behind}
+use Rattle.ring.proofs.copy.Laws.{copied_in_lem, copied_out_lem}
 use Rattle.ring.proofs.copy.Modulo.{modulo_out, modulo_count, modulo_into, modulo_others, modulo_past, modulo_size}
 use Rattle.transfer.specs.write.WriteChange.{Feed}
 use Rattle.transfer.proofs.write.Moved.{write_feeds}

@@ -1,12 +1,9 @@
 // A ring of capacity C is the first C entries of a lent slice. A copy into it or out of it works on two parts: one from the ring's middle up
-// to its end, and one from its start. In each the place is a running value, so that no remainder is taken at a byte. What the copies ensure has
-// the remainder at every byte: byte k of a queue stands at the remainder of its start + k by C. 02 (ii).
+// to its end, and one from its start. In each the place is a running value, so that no remainder is taken at a byte.
 ghost use Rattle.std.specs.Prelude.{◌≡◌, ◌+◌, ◌-◌, ◌≤◌, ◌<◌, min, length};
 ghost use Rattle.std.proofs.Math.Seq.{paste};
 ghost use Rattle.ring.specs.copy.Copies.{ring_fits, copied_in, copied_out};
 ghost use Rattle.definition.specs.Ring.{put, front};
-ghost use Rattle.definition.specs.Ring;
-ghost use Rattle.ring.specs.copy.Copies;
 
 // The most bytes that one block copies.
 const BLOCK: usize = 4096;

@@ -10,11 +10,11 @@ use native.Mathlib.Numerals.{add-one}
 use lib.Dec.{ltb, leb, lit≤}
 use lib.ListN.{length, get_or, take, drop, set, length-append, length-take, length-drop, get_or-append}
 use lib.Seq.{paste, paste-zero, length-paste, get_or-take, get_or-drop, take-take, set_split}
-use borrow.Author.Tests.{ltb-true, leb-true}
-use Rattle.definition.specs.Status.{◌and◌}
+use borrow.Author.Tests.{lt-ltb, le-ltb, le-leb, ltb-true, leb-true}
+use Rattle.definition.specs.Status.{pick, ◌and◌}
 use Rattle.definition.specs.Ring.{position, front, put}
 use Rattle.ring.proofs.place.Laws.{place_low, place_high}
-use Rattle.ring.specs.copy.Copies.{ring_fits}
+use Rattle.ring.specs.copy.Copies.{ring_fits, copied_in, copied_out}
 use Rattle.ring.proofs.copy.Lists.{split, ext, get_or-right, take_part, paste-before, paste_in, paste-after}
 
 -- ---- places
@@ -234,7 +234,18 @@ drop-front C s q k ring h room low long =
     ∙ ap (λ (p : ℕ). get_or ring p d) (sym (place-place C s k i low (omega arith)))
     ∙ sym (front_at C (position C s k) (q - k) ring low' (omega arith) long i d l))
 
--- ---- what it says that entries fit
+-- ---- copies that fit
+
+pub copied_in_lem : {A : Type 0} (C at n : ℕ) (xs ring : List A) → at < C → n ≤ C → C ≤ length ring → n ≤ length xs → copied_in C at n xs ring ≡ put C at n xs ring
+unfolding copied_in ring_fits pick ◌and◌
+copied_in_lem C at n xs ring low room long has = simp (lt-ltb at C low, le-leb n C room, le-leb C (length ring) long, le-leb n (length xs) has)
+
+pub copied_out_lem : {A : Type 0} (C start n : ℕ) (ring dst : List A) → start < C → n ≤ C → C ≤ length ring → n ≤ length dst
+    → copied_out C start n ring dst ≡ paste dst 0 (front C start n ring) n
+unfolding copied_out ring_fits pick ◌and◌
+copied_out_lem C start n ring dst low room long has = simp (lt-ltb start C low, le-leb n C room, le-leb C (length ring) long, le-leb n (length dst) has)
+
+-- what it says that entries fit
 
 and_left : (a b : Bool) → (a and b) ≡ true → a ≡ true
 unfolding ◌and◌

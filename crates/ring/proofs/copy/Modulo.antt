@@ -7,10 +7,9 @@ use native.Mathlib.Omega.{arith}
 use native.Mathlib.Nat.{mod-eq_of_lt, mod_self, mod-add-mod, zero-add}
 use lib.ListN.{length, get_or, drop, set, length-append, length-drop, length-set, get_or-append}
 use lib.Seq.{paste, paste-zero, paste-suc, length-paste, take_all, take-suc, get_or-drop, get_or_at}
-use borrow.Author.Tests.{lt-ltb, le-leb, eq-eqb, ne_eqb}
-use Rattle.definition.specs.Status.{pick, ◌and◌}
+use borrow.Author.Tests.{eq-eqb, ne_eqb}
+use Rattle.definition.specs.Status.{pick}
 use Rattle.definition.specs.Ring.{position, front, put, front_modulo, put_modulo, next_position}
-use Rattle.ring.specs.copy.Copies.{ring_fits, copied_in, copied_out}
 use Rattle.ring.proofs.place.Laws.{place_low, place_high}
 use Rattle.ring.proofs.copy.Lists.{split}
 use Rattle.ring.proofs.copy.Laws.{place-lt, front-none, front_at, length_front, take-front, put-none, put_inside, put_outside, put-past}
@@ -174,26 +173,3 @@ put-behind C s q n xs ring low turn room long has =
     put_modulo_lem C (position C s q) n xs ring (place-lt C s q low turn) room long has
     ∙ ap (λ (a : ℕ). put_modulo C a n xs ring) (place_modulo C s q low turn)
     ∙ put-from C (s + q) n xs ring
-
--- ---- copies that fit
-
--- the ring after a copy in, and dst after a copy out, with the remainder at every entry
-pub in_modulo : (C at n : ℕ) (xs ring ring' : List ℕ) → at < C → n ≤ C → C ≤ length ring → n ≤ length xs → ring' ≡ put C at n xs ring
-    → ring' ≡ put_modulo C at n xs ring
-in_modulo C at n xs ring ring' low room long has e = e ∙ put_modulo_lem C at n xs ring low room long has
-
-pub out_modulo_lem : (C s n : ℕ) (ring dst dst' : List ℕ) → s < C → n ≤ C → C ≤ length ring → dst' ≡ paste dst 0 (front C s n ring) n
-    → dst' ≡ paste dst 0 (front_modulo C s n ring) n
-out_modulo_lem C s n ring dst dst' low room long e = e ∙ ap (λ (xs : List ℕ). paste dst 0 xs n) (front_modulo_lem C s n ring low room long)
-
-pub copied_in_lem : (C at n : ℕ) (xs ring : List ℕ) → at < C → n ≤ C → C ≤ length ring → n ≤ length xs → copied_in C at n xs ring ≡ put C at n xs ring
-unfolding copied_in ring_fits pick ◌and◌
-copied_in_lem C at n xs ring low room long has =
-    simp (lt-ltb at C low, le-leb n C room, le-leb C (length ring) long, le-leb n (length xs) has) (sym (put_modulo_lem C at n xs ring low room long has))
-
-pub copied_out_lem : (C start n : ℕ) (ring dst : List ℕ) → start < C → n ≤ C → C ≤ length ring → n ≤ length dst
-    → copied_out C start n ring dst ≡ paste dst 0 (front C start n ring) n
-unfolding copied_out ring_fits pick ◌and◌
-copied_out_lem C start n ring dst low room long has =
-    simp (lt-ltb start C low, le-leb n C room, le-leb C (length ring) long, le-leb n (length dst) has)
-    (sym (out_modulo_lem C start n ring dst (paste dst 0 (front C start n ring) n) low room long refl))

@@ -5,7 +5,6 @@ use borrow.Author.Tests.{le-leb, lt-leb}
 use Rattle.endpoint.proofs.answer.Rules.{pick-on, pick_off, and-on, and_off, via_not, via_not-not}
 use Rattle.ring.specs.copy.Copies.{copied_in}
 use Rattle.ring.proofs.copy.Laws.{fits_facts}
-use Rattle.ring.proofs.copy.Modulo.{in_modulo}
 use borrow.Author.Rules.{rules}
 use Rattle.ring.proofs.copy.copy_in.Goals as goal
 
@@ -33,4 +32,4 @@ returns c =
     let fit = via_not-not c.fits.ensures c.if-not-fits.false-raw in
     let f = fits_facts a.capacity a.at a.n (length a.ring.now) fit in
     pick-on _ _ _ _ _ (sym (and-on _ _ _ fit (sym (le-leb _ _ c.if-src-n.false))))
-    (in_modulo a.capacity a.at a.n a.src.now a.ring.now _ f.0 f.1 f.2 c.if-src-n.false c.put.ensures)
+    c.put.ensures

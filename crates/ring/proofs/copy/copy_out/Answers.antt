@@ -5,7 +5,6 @@ use borrow.Author.Tests.{le-leb, lt-leb}
 use Rattle.endpoint.proofs.answer.Rules.{pick-on, pick_off, and-on, and_off, via_not, via_not-not}
 use Rattle.ring.specs.copy.Copies.{copied_out}
 use Rattle.ring.proofs.copy.Laws.{fits_facts}
-use Rattle.ring.proofs.copy.Modulo.{out_modulo_lem}
 use borrow.Author.Rules.{rules}
 use Rattle.ring.proofs.copy.copy_out.Goals as goal
 
@@ -33,4 +32,4 @@ returns c =
     let fit = via_not-not c.fits.ensures c.if-not-fits.false-raw in
     let f = fits_facts a.capacity a.start a.n (length a.ring.now) fit in
     pick-on _ _ _ _ _ (sym (and-on _ _ _ fit (sym (le-leb _ _ c.if-dst-n.false))))
-    (out_modulo_lem a.capacity a.start a.n a.ring.now a.dst.now _ f.0 f.1 f.2 c.get.ensures)
+    c.get.ensures

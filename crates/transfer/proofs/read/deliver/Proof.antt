@@ -1,7 +1,7 @@
 use mathlib.Core.Path.{refl, ◌∙◌}
 use borrow.Author.Tests.{eq-eqb, ne_eqb}
 use Rattle.endpoint.proofs.answer.Rules.{pick-on, pick_off}
-use Rattle.ring.proofs.copy.Modulo.{copied_out_lem}
+use Rattle.ring.proofs.copy.Laws.{copied_out_lem}
 use borrow.Author.Rules.{rules}
 use Rattle.transfer.proofs.read.deliver.Statement.{statement}
 use Rattle.transfer.proofs.read.deliver.Tie as tie

@@ -4,8 +4,7 @@ use Prim.Native.Nat.{ℕ}
 use Rattle.definition.specs.Ring.{put}
 use native.Mathlib.Omega.{arith}
 use Rattle.endpoint.proofs.answer.Rules.{pick-on, pick_off}
-use Rattle.ring.proofs.copy.Laws.{place-lt}
-use Rattle.ring.proofs.copy.Modulo.{copied_in_lem}
+use Rattle.ring.proofs.copy.Laws.{copied_in_lem, place-lt}
 use borrow.Author.Rules.{rules}
 use Rattle.transfer.proofs.write.feed.Statement.{statement}
 use Rattle.transfer.proofs.write.feed.Tie as tie

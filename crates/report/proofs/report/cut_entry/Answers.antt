@@ -1,0 +1,14 @@
+-- `cut_entry` meets its contract.
+use borrow.Author.Rules.{rules}
+use Rattle.definition.specs.Status.{pick}
+use Rattle.report.specs.report.Report.{cut_text}
+use Rattle.text.proofs.Place.{nothing}
+use Rattle.report.proofs.report.cut_entry.Goals as goal
+
+pub returns-then-cut : goal.returns-then-cut
+unfolding cut_text pick
+returns-then-cut c = rw c.if-cut.true c.numbered.ensures
+
+pub returns : goal.returns
+unfolding cut_text pick
+returns c = rw c.if-cut.false (nothing _ c.args.at c.args.out.now)
