@@ -1,5 +1,6 @@
 -- `counted` meets its contract.
 use mathlib.Core.Path.{refl}
+use Rattle.std.proofs.Common.{inl, inr}
 use Rattle.endpoint.proofs.answer.Rules.{pick-on, pick_off}
 use Rattle.report.proofs.tally.Counts.{full_total, full_agree, not_full, counted_agrees, missed-is}
 use borrow.Author.Rules.{rules}
@@ -22,4 +23,4 @@ pub returns-in-DiffersAt : goal.returns-in-DiffersAt
 returns-in-DiffersAt c =
     let a = c.args in
     pick_off _ _ _ _ _ (not_full a.t c.if-t-ge9223372036854775808.false c.if-t-ge9223372036854775808-2.false)
-    (missed-is a.t a.from a.to a.o c.in-DiffersAt.not-Agrees c.missed.ensures)
+    (missed-is a.t a.from a.to a.o (λ e. elim c.in-DiffersAt.is [ inl p ↦ let q = p.1 in (cc) | inr p ↦ (cc) ]) c.missed.ensures)

@@ -1,0 +1,6 @@
+use Rattle.socket.proofs.Steps.{steps-same}
+use borrow.Author.Rules.{rules}
+use Rattle.socket.proofs.SocketPair.get_rx_tx_threshold.Goals as goal
+
+pub returns : goal.returns
+returns c = steps-same _ _ _ (rw c.ends_of.ensures at c.thresholds_answer.ensures)

@@ -1,0 +1,12 @@
+use Rattle.socket.proofs.Inner.{inner_128}
+use Rattle.socket.proofs.Settled.{read_whole}
+use borrow.Author.Rules.{rules}
+use Rattle.socket.proofs.SocketPair.read.Goals as goal
+
+pub returns : goal.returns
+returns c =
+    let a = c.args in
+    rw (c.stepped.ensures, c.settle.ensures, c.read_outcome-r.ensures)
+    (read_whole a.self.inner a.handle a.peek a.ring.now a.table.now a.buffer.now _ _ _
+    (inner_128 a.self _ c.well_formed.0) c.ends_of-e.ensures
+    c.read_transfer-t.ensures)

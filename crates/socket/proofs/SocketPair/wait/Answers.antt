@@ -1,0 +1,7 @@
+use Rattle.socket.proofs.Waits.{wait-steps}
+use borrow.Author.Rules.{rules}
+use Rattle.socket.proofs.SocketPair.wait.Goals as goal
+
+pub returns : goal.returns
+returns c =
+    wait-steps c.args.self.inner c.args.handle c.args.key c.args.mask c.args.edge _ _ (rw c.ends_of.ensures at c.wait_answer-a.ensures) c.registered.ensures

@@ -1,0 +1,12 @@
+use Rattle.socket.proofs.Cancels.{cancel-steps}
+use Rattle.socket.proofs.Visiting.{places_128}
+use Rattle.socket.proofs.cancel.cancelled.Goals as goal
+
+pub returns : goal.returns
+returns c =
+    cancel-steps c.args.p c.args.handle c.args.key _ _ c.cancelled-left.result _ _ (places_128 c.args.p _ c.well_formed.0)
+    (rw c.ends_of.ensures at c.opening_test-opened.ensures)
+    c.is_done.ensures
+    c.cancelled-left.ensures
+    c.with_places.ensures
+    c.cancel_answer.ensures

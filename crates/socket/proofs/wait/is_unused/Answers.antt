@@ -1,0 +1,7 @@
+use Rattle.port.specs.places.Table.{unused}
+use borrow.Author.Rules.{rules}
+use Rattle.socket.proofs.wait.is_unused.Goals as goal
+
+pub returns : goal.returns
+unfolding unused
+returns c = c.is_unused.ensures

@@ -1,0 +1,11 @@
+use mathlib.Core.Path.{◌≡◌, refl, sym, ap, ◌∙◌}
+use Rattle.socket.specs.Deferred.{registered_pair}
+use Rattle.socket.proofs.Waits.{first_only}
+use borrow.Author.Rules.{rules}
+use Rattle.socket.proofs.wait.registered_first.Goals as goal
+
+pub returns : goal.returns
+unfolding registered_pair
+returns c =
+    (rw (c.first_registered-next.ensures, c.is_done.ensures, c.own-e.ensures) at c.with_first_places.ensures)
+    ∙ first_only _ _ _ _

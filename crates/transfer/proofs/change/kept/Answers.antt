@@ -1,0 +1,7 @@
+use mathlib.Core.Path.{◌≡◌, refl, sym, ap, ◌∙◌}
+use Rattle.transfer.specs.change.Changes.{kept_transfer}
+use Rattle.transfer.proofs.change.kept.Goals as goal
+
+pub returns : goal.returns
+unfolding kept_transfer
+returns c = refl

@@ -1,0 +1,11 @@
+use mathlib.Core.Path.{◌≡◌, refl, sym, ap, ◌∙◌}
+use native.Mathlib.Omega.{arith}
+use Rattle.definition.specs.Read.{read_effect}
+use Rattle.transfer.specs.read.ReadChange.{drained_effect}
+use borrow.Author.Rules.{rules}
+use Rattle.transfer.proofs.read.drained.Goals as goal
+
+pub returns : goal.returns
+unfolding drained_effect read_effect
+returns c =
+    (refl, refl, rw (← c.lost_by_reader-lost.ensures, ← c.gained_by_writer-gained.ensures, ← c.drained_queue-queue.ensures) refl)

@@ -1,0 +1,20 @@
+use mathlib.Core.Path.{◌≡◌, refl, sym, ap, ◌∙◌}
+use Rattle.definition.specs.Status.{◌and◌}
+use mathlib.Core.Bool.{Bool, true, false}
+use Rattle.endpoint.proofs.answer.Rules.{via_not, via_not-not}
+use Rattle.transfer.proofs.write.Outcomes.{wrote-no_visit}
+use borrow.Author.Rules.{rules}
+use Rattle.transfer.proofs.write.is_write_without_visit.Goals as goal
+
+pub returns-then-not-t : goal.returns-then-not-t
+unfolding ◌and◌
+returns-then-not-t c =
+    let off : c.args.t.moves ≡ false = via_not refl c.if-not-t.true in
+    rw off refl
+
+pub returns : goal.returns
+returns c =
+    let a = c.args in
+    let on : a.t.moves ≡ true = via_not-not refl c.if-not-t.false in
+    wrote-no_visit a.p a.handle a.t _ _ _ _ on c.own.ensures c.peer.ensures
+    c.fed_visits.ensures c.can_fire.ensures
