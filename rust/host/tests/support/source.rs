@@ -22,7 +22,7 @@ pub struct Function {
     pub result: String,
 }
 
-/// The text of every source file below `crates/CRATE/src`: `definition` has the records, `host` the exported
+/// The text of every source file below `crates/CRATE/src`: `definition` has the records, `host_c` the exported
 /// functions.
 pub fn rattle_source(name: &str) -> String {
     let folder = Path::new(env!("CARGO_MANIFEST_DIR")).join("../../crates").join(name).join("src");
