@@ -1,0 +1,12 @@
+use Rattle.socket.proofs.Visiting.{places_128}
+use Rattle.syscall.proofs.Settled.{wrote-whole}
+use borrow.Author.Rules.{rules}
+use Rattle.syscall.proofs.write.Goals as goal
+
+pub returns : goal.returns
+returns c =
+    let a = c.args in
+    rw (c.settle.ensures, c.write_outcome.ensures)
+    (wrote-whole a.p a.handle a.base a.options a.address a.count a.count_at _ _ (places_128 a.p _ c.well_formed.0)
+    c.ends_of-e.ensures a.memory.now _
+    a.ring.now _ a.table.now _ c.write_transfer-t.ensures)
