@@ -1,6 +1,6 @@
 // A call whose waits are visited last. A caller that keeps the pair in place so passes the table of places on only where a wait can fire, and
 // the table is rebuilt only where one does.
-ghost use Rattle.std.specs.Prelude.{◌≡◌};
+ghost use Rattle.std.specs.Prelude.{◌≡◌, length};
 ghost use Rattle.definition.specs.Status.{pick};
 ghost use Rattle.port.specs.places.Table.{only_wait};
 ghost use Rattle.definition.specs.Pair.{is_one};
@@ -18,8 +18,10 @@ pub fn has_only_wait(p: Pair) -> bool
 }
 
 // Whether the waits are to be visited: where one fires, and where the only place used is a wait, which is as quickly visited as asked.
+// The second clause says of the pair what a caller that keeps it behind a reference cannot read off it.
 pub fn needs_visit(p: Pair, r: EndsOutcome) -> bool
-    ensures { result ≡ needs_visit r p.places }
+    ensures needed { result ≡ needs_visit r p.places }
+    ensures size { length p.places.table ≡ 128 }
 {
     if !r.fires {
         return false;

@@ -1,11 +1,11 @@
 -- What the stored pair is, by the way that the code went. Assumes nothing.
 use Prim.Native.Nat.{ℕ}
-use mathlib.Core.Path.{◌≡◌, sym, ap, ◌∙◌}
-use mathlib.Core.Bool.{Bool, not}
+use mathlib.Core.Path.{◌≡◌, refl, sym, ap, ◌∙◌}
+use mathlib.Core.Bool.{Bool, true, false, not}
 use lib.Dec.{T}
 use lib.ListN.{length}
 use Rattle.definition.specs.Status.{pick}
-use Rattle.endpoint.proofs.answer.Rules.{on-pick, off_pick}
+use Rattle.endpoint.proofs.answer.Rules.{on-pick, off_pick, pick-on, pick_off}
 use Rattle.port.specs.places.Table.{only_wait}
 use Rattle.endpoint.specs.declared.ends.EndsOutcome.{EndsOutcome}
 use Rattle.definition.specs.declared.Pair.{Pair}
@@ -16,18 +16,16 @@ use Rattle.socket.proofs.Closed.{closed_later}
 
 -- ---- the visit
 
-pub each-visited : (r : EndsOutcome) (p q : Pair) (n : Bool) → length p.places.table ≡ 128 → n ≡ needs_visit r p.places → T n → q ≡ visited_all r p
+pub each_visited : (r : EndsOutcome) (p q : Pair) → length p.places.table ≡ 128 → needs_visit r p.places ≡ true → q ≡ visited_all r p
     → q ≡ pick r.fires (visited_all r p) p
-each-visited r p q n l e t g = g ∙ on-pick (needs_visit r p.places) n (visited_all r p) p e t ∙ need r p l
+each_visited r p q l e g = g ∙ pick-on Pair (needs_visit r p.places) (visited_all r p) (visited_all r p) p e refl ∙ need r p l
 
-pub only_visited : (r : EndsOutcome) (p q : Pair) (n o : Bool) → length p.places.table ≡ 128 → n ≡ needs_visit r p.places → T n
-    → o ≡ only_wait p.places → T o → q ≡ pick (only_wait p.places) (visited_all r p) p → q ≡ pick r.fires (visited_all r p) p
-only_visited r p q n o l e t f u g =
-    each-visited r p q n l e t (g ∙ sym (on-pick (only_wait p.places) o (visited_all r p) p f u))
+pub only_visited : (r : EndsOutcome) (p q : Pair) → length p.places.table ≡ 128 → needs_visit r p.places ≡ true → only_wait p.places ≡ true
+    → q ≡ pick (only_wait p.places) (visited_all r p) p → q ≡ pick r.fires (visited_all r p) p
+only_visited r p q l e o g = each_visited r p q l e (g ∙ sym (pick-on Pair (only_wait p.places) (visited_all r p) (visited_all r p) p o refl))
 
-pub not-visited : (r : EndsOutcome) (p : Pair) (n : Bool) → length p.places.table ≡ 128 → n ≡ needs_visit r p.places → T (not n)
-    → p ≡ pick r.fires (visited_all r p) p
-not-visited r p n l e t = off_pick (needs_visit r p.places) n (visited_all r p) p e t ∙ need r p l
+pub not_visited : (r : EndsOutcome) (p : Pair) → length p.places.table ≡ 128 → needs_visit r p.places ≡ false → p ≡ pick r.fires (visited_all r p) p
+not_visited r p l e = pick_off Pair (needs_visit r p.places) p (visited_all r p) p e refl ∙ need r p l
 
 -- ---- an outcome
 

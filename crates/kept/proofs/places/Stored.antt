@@ -1,11 +1,11 @@
 -- What the stored pair is, by the way that the code went. Assumes nothing.
 use Prim.Native.Nat.{ℕ}
-use mathlib.Core.Path.{◌≡◌, sym, ap, ◌∙◌}
+use mathlib.Core.Path.{◌≡◌, refl, sym, ap, ◌∙◌}
 use mathlib.Core.Bool.{Bool, true, false, not}
 use lib.Dec.{T, eqb}
 use Rattle.definition.specs.declared.Answer.{Answer}
 use Rattle.definition.specs.Status.{pick, is_done}
-use Rattle.endpoint.proofs.answer.Rules.{on-pick, off_pick}
+use Rattle.endpoint.proofs.answer.Rules.{on-pick, off_pick, pick-on}
 use Rattle.port.specs.places.Table.{unused, only_packet}
 use Rattle.definition.specs.Pair.{is_one}
 use Rattle.socket.specs.Deferred.{registered_pair, appends_few, appended_pair}
@@ -34,10 +34,10 @@ created_steps p kind C r s ring1 table1 ring2 table2 a q e g =
 pub waited-on : (p q : Pair) (b : Bool) (n : Pair) → b ≡ unused p.places → T b → q ≡ pick (unused p.places) n p → q ≡ n
 waited-on p q b n e t g = g ∙ sym (on-pick (unused p.places) b n p e t)
 
-pub few_waited-on : (p q : Pair) (asked : Bool) (h key mask edge : ℕ) (b : Bool) → b ≡ appends_few (is_one h) mask edge p → T b
-    → q ≡ appended_pair asked (is_one h) key mask p → q ≡ registered_pair asked (is_one h) key mask edge p
-few_waited-on p q asked h key mask edge true e t g = g ∙ few_registered asked (is_one h) key mask edge p (sym e)
-few_waited-on p q asked h key mask edge false e t g = absurd t
+-- a choice whose test came out true
+pub pick_taken : {A : Type 0} {r b : Bool} {n q : A} (p : A) → r ≡ b → r ≡ true → q ≡ pick b n p → q ≡ n
+pick_taken {A} {r} {b} {n} {q} p e t g = g ∙ sym (pick-on A b n n p (sym e ∙ t) refl)
 
-pub taken-on : (p q : Pair) (b : Bool) (n : Pair) → b ≡ only_packet p.places → T b → q ≡ pick (only_packet p.places) n p → q ≡ n
-taken-on p q b n e t g = g ∙ sym (on-pick (only_packet p.places) b n p e t)
+pub few_waited_on : (p q : Pair) (asked : Bool) (h key mask edge : ℕ) → appends_few (is_one h) mask edge p ≡ true
+    → q ≡ appended_pair asked (is_one h) key mask p → q ≡ registered_pair asked (is_one h) key mask edge p
+few_waited_on p q asked h key mask edge e g = g ∙ few_registered asked (is_one h) key mask edge p e

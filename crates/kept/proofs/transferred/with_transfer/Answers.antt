@@ -1,0 +1,9 @@
+use mathlib.Core.Path.{◌≡◌, refl, sym, ap, ◌∙◌}
+use Rattle.socket.specs.Deferred.{with_ends}
+use Rattle.kept.specs.transferred.Transferred.{transferred_pair}
+use borrow.Author.Rules.{rules}
+use Rattle.kept.proofs.transferred.with_transfer.Goals as goal
+
+pub returns : goal.returns
+unfolding transferred_pair with_ends
+returns c = rw (← c.word_if.ensures, ← c.word_if-2.ensures, ← c.end_with-first.ensures, ← c.word_if-3.ensures, ← c.word_if-4.ensures, ← c.end_with-second.ensures) refl
