@@ -1,5 +1,5 @@
 // Cancel.
-ghost use Rattle.std.specs.Prelude.{◌≡◌, eqb, ltb};
+ghost use Rattle.std.specs.Prelude.{◌≡◌, eqb, ltb, length};
 ghost use Rattle.definition.specs.Status.{pick, is_done, refuse_if, ◌then◌};
 ghost use Rattle.definition.specs.declared.Answer.TheVariants.{Done};
 ghost use Rattle.definition.specs.declared.Record.TheVariants.{Count};
@@ -43,7 +43,8 @@ pub fn cancelled(p: Pair, handle: u32, key: u64) -> Step
 
 // Where the only place that a cancel matches stands; 8 if it does not pass its first tests, if more than 8 places are used, or if none or several match.
 pub fn only_match(p: Pair, handle: u32, key: u64) -> usize
-    ensures { result ≡ only_match (is_done (opening_test (ends_of p) handle)) (is_one handle) key p.places }
+    ensures size { length p.places.table ≡ 128 }
+    ensures place { result ≡ only_match (is_done (opening_test (ends_of p) handle)) (is_one handle) key p.places }
 {
     let opened = answers::tests::opening_test(parts::ends_of(p), handle);
     let places = p.places;

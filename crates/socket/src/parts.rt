@@ -1,5 +1,5 @@
 // The parts of a pair: its ends by the caller's handle, and its places. `one` names an end: true is end 1.
-ghost use Rattle.std.specs.Prelude.{◌≡◌};
+ghost use Rattle.std.specs.Prelude.{◌≡◌, length};
 ghost use Rattle.definition.specs.Pair.{own, ends_of, shown_by, with_places};
 ghost use Rattle.socket.specs.Step.{inner_step};
 
@@ -8,8 +8,10 @@ use answers::tests::is_handle;
 use definition::{Endpoint, Ends, Pair, Places, SignalWord, Step};
 
 // The pair without its table of places, of which every answer but those of take and cancel is made.
+// The second clause says of the pair what a caller that keeps it behind a reference cannot read off it.
 pub fn ends_of(p: Pair) -> Ends
-    ensures { result ≡ ends_of p }
+    ensures ends { result ≡ ends_of p }
+    ensures size { length p.places.table ≡ 128 }
 {
     let one = p.one;
     let two = p.two;

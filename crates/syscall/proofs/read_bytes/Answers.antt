@@ -8,5 +8,5 @@ returns c =
     let a = c.args in
     rw (c.settle.ensures, c.read_outcome.ensures)
     (bytes_whole a.p a.handle a.base a.options a.address a.count a.count_at _ _ (places_128 a.p _ c.well_formed.0)
-    c.ends_of-e.ensures a.ring.now a.table.now a.memory.now _
+    c.ends_of-e.ensures.ends a.ring.now a.table.now a.memory.now _
     c.read_bytes_transfer-t.ensures)

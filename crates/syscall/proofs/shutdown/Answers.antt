@@ -5,4 +5,4 @@ use Rattle.syscall.proofs.shutdown.Goals as goal
 pub returns : goal.returns
 returns c =
     rw c.settle.ensures
-    (shutdown-whole c.args.p c.args.handle _ _ (places_128 c.args.p _ c.well_formed.0) c.ends_of.ensures c.args.options c.shutdown_ends-r.ensures)
+    (shutdown-whole c.args.p c.args.handle _ _ (places_128 c.args.p _ c.well_formed.0) c.ends_of.ensures.ends c.args.options c.shutdown_ends-r.ensures)

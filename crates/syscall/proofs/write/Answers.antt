@@ -8,5 +8,5 @@ returns c =
     let a = c.args in
     rw (c.settle.ensures, c.write_outcome.ensures)
     (wrote-whole a.p a.handle a.base a.options a.address a.count a.count_at _ _ (places_128 a.p _ c.well_formed.0)
-    c.ends_of-e.ensures a.memory.now _
+    c.ends_of-e.ensures.ends a.memory.now _
     a.ring.now _ a.table.now _ c.write_transfer-t.ensures)

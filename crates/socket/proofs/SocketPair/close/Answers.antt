@@ -23,4 +23,4 @@ returns c =
       | else-r w ↦ pick_off _ _ _ _ _ w.if-r.false w.p-is
     ] in
     subst (Steps p (close_answer p h) (closed (is_one h) p)) (sym (c.stepped.ensures ∙ (c.settle.ensures ∙ ap (settled_step r) q)))
-    (close-whole p h _ r (inner_128 c.args.self _ c.well_formed.0) c.ends_of.ensures c.close_ends-r.ensures)
+    (close-whole p h _ r (inner_128 c.args.self _ c.well_formed.0) c.ends_of.ensures.ends c.close_ends-r.ensures)

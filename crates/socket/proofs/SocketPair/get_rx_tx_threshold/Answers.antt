@@ -3,4 +3,4 @@ use borrow.Author.Rules.{rules}
 use Rattle.socket.proofs.SocketPair.get_rx_tx_threshold.Goals as goal
 
 pub returns : goal.returns
-returns c = steps-same _ _ _ (rw c.ends_of.ensures at c.thresholds_answer.ensures)
+returns c = steps-same _ _ _ (rw c.ends_of.ensures.ends at c.thresholds_answer.ensures)

@@ -5,7 +5,7 @@ use Rattle.socket.proofs.cancel.cancelled.Goals as goal
 pub returns : goal.returns
 returns c =
     cancel-steps c.args.p c.args.handle c.args.key _ _ c.cancelled-left.result _ _ (places_128 c.args.p _ c.well_formed.0)
-    (rw c.ends_of.ensures at c.opening_test-opened.ensures)
+    (rw c.ends_of.ensures.ends at c.opening_test-opened.ensures)
     c.is_done.ensures
     c.cancelled-left.ensures
     c.with_places.ensures

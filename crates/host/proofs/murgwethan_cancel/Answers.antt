@@ -1,0 +1,23 @@
+use Rattle.endpoint.proofs.answer.Rules.{via}
+use Rattle.definition.specs.declared.Answer.TheVariants.{Done}
+use Rattle.definition.specs.declared.Record.TheVariants.{Count}
+use Rattle.definition.specs.declared.Answer.TheVariants.{Done}
+use Rattle.definition.specs.declared.Record.TheVariants.{Count}
+use Rattle.port.specs.few.Few.{without_place}
+use Rattle.socket.proofs.Cancels.{one-steps}
+use mathlib.Core.Path.{refl}
+use Rattle.definition.specs.Status.{answer_word, record_count}
+use mathlib.Core.Bool.{true}
+use mathlib.Core.Path.{◌≡◌}
+use Rattle.host.proofs.murgwethan_cancel.Goals as goal
+
+pub returns-then-is_found : goal.returns-then-is_found
+unfolding answer_word record_count
+returns-then-is_found c =
+    let a = c.args in
+    record {
+      answer = Done (Count 1);
+      word = refl;
+      kept = one-steps a.p.now a.handle a.key c.only_match-k.result _ c.only_match-k.ensures.size c.only_match-k.ensures.place
+          (via c.is_found.ensures c.if-is_found.true) c.without_place.ensures;
+    }

@@ -1,0 +1,32 @@
+use Rattle.definition.specs.Pair.{ends_of}
+use Rattle.definition.specs.Status.{answer_word}
+use Rattle.definition.specs.Write.{Writes}
+use Rattle.definition.specs.declared.Ends.{Ends}
+use Rattle.definition.specs.declared.Step.{Step}
+use Rattle.kept.proofs.pair.Stored.{settled_as}
+use Rattle.kept.proofs.transfers.Stored.{passed_on, wrote-answer}
+use Rattle.socket.proofs.Settled.{wrote-whole}
+use Rattle.transfer.specs.write.WriteChange.{wrote_by}
+use borrow.Author.Rules.{rules}
+use mathlib.Core.Path.{◌≡◌, ap, subst, sym, ◌∙◌}
+use mathlib.Core.Path.{◌≡◌, ◌∙◌, ap, sym, subst}
+use mir.Syntax.{w64}
+use mir.Val.{to_z, of_z}
+use Rattle.host.proofs.murgwethan_write.Goals as goal
+
+pub returns : goal.returns
+returns c =
+    let a = c.args in
+    let h = a.p.now in
+    let e = c.ends_of.result in
+    let t = c.write_transfer-t.result in
+    let r = wrote_by e a.handle t in
+    let word : to_z w64 (of_z w64 c.wrote.result) ≡ answer_word t.answer = search rules in
+    let ends = ap (λ (k : Ends). wrote_by k a.handle t) (sym c.ends_of.ensures.ends) in
+    record {
+      answer = r.answer;
+      word = word ∙ ap answer_word (wrote-answer e a.handle t);
+      kept = subst (λ (k : Step). Writes h a.handle a.bytes.now a.ring.now c.write_transfer-t.new.ring a.table.now c.write_transfer-t.new.table k)
+          (settled_as r h _ (passed_on r (wrote_by (ends_of h) a.handle t) h _ ends c.wrote.ensures.1))
+          (wrote-whole h a.handle a.bytes.now a.ring.now _ a.table.now _ e t c.ends_of.ensures.size c.ends_of.ensures.ends c.write_transfer-t.ensures);
+    }

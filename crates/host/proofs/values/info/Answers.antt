@@ -1,0 +1,6 @@
+use Rattle.host.proofs.values.Recorded.{recorded}
+use borrow.Author.Rules.{rules}
+use Rattle.host.proofs.values.info.Goals as goal
+
+pub returns : goal.returns
+returns c = recorded _ _ _ _ _ _ c.get_info-s.ensures c.put_info.ensures

@@ -1,0 +1,6 @@
+use Rattle.host.proofs.values.Recorded.{recorded}
+use borrow.Author.Rules.{rules}
+use Rattle.host.proofs.values.thresholds.Goals as goal
+
+pub returns : goal.returns
+returns c = recorded _ _ _ _ _ _ c.get_rx_tx_threshold-s.ensures c.put_thresholds.ensures

@@ -1,0 +1,7 @@
+use borrow.Author.Rules.{rules}
+use Rattle.definition_runs.specs.Run.{did_plain_read}
+use Rattle.run_steps.proofs.Lent.{rings, tables}
+use Rattle.run_steps.proofs.plain_read.Goals as goal
+
+pub returns : goal.returns
+returns c = λ base one two e. did_plain_read (rw (← rings e, ← tables e) at c.read.ensures)
