@@ -9,27 +9,45 @@ ghost use Rattle.std.specs.Prelude.{◌≤◌, ◌≡◌, length};
 ghost use Rattle.replay.specs.Replay.{first_name, ReplayMay, Replays};
 
 use report::tally::Tally;
+use std::io::{ErrorKind, Read};
 
 mod entry;
 
-const STDIN: i32 = 0;
-
-const STDOUT: i32 = 1;
-
-const STDERR: i32 = 2;
-
-// Tells on standard error that a write failed, if it did.
-fn tell_failed_write(done: bool) {
+// Tells on standard error that a write failed, if it did. Where standard error takes nothing either, nobody is left to tell.
+fn tell_failed_write(rt: &HostRuntime, done: bool) {
     if !done {
-        io::write_all(STDERR, b"replay: standard output cannot be written\n");
+        let _ = eprintln!(rt; "replay: standard output cannot be written");
     }
 }
 
+// Reads standard input until the buffer is full, the input ends or a read fails, and says how many bytes stand at the front of the buffer. A read that a
+// signal interrupts before a byte came has not failed, and is made again.
+fn read_full(rt: &HostRuntime, buffer: &mut [u8]) -> usize
+    ensures { result ≤ length buffer.new }
+{
+    let mut used = 0;
+    for _ in 0..u64::MAX {
+        if used == buffer.len() {
+            break;
+        }
+        match rt.stdin().read(&mut buffer[used..]) {
+            Ok(0) => break,
+            Ok(n) => used += n,
+            Err(e) => {
+                if e.kind() != ErrorKind::Interrupted {
+                    break;
+                }
+            }
+        }
+    }
+    used
+}
+
 // Writes the first bytes of the output.
-fn put(out: &[u8], n: usize)
+fn put(rt: &HostRuntime, out: &[u8], n: usize)
     requires { n ≤ length out.now }
 {
-    tell_failed_write(io::write_all(STDOUT, &out[0..n]));
+    tell_failed_write(rt, rt.write_all(&out[0..n]).is_ok());
 }
 
 // The name of the first entry that does not agree; empty where all agree.
@@ -43,7 +61,7 @@ fn first_name(s: &[u8], t: Tally) -> &[u8]
 }
 
 // Runs the entries in the bytes in use, and writes the report of what was found, which is put into the same buffer after the runs.
-fn replay(input: &[u8], used: usize, out: &mut [u8])
+fn replay(rt: &HostRuntime, input: &[u8], used: usize, out: &mut [u8])
     requires { ReplayMay input.now used out.old }
     ensures { Replays input.now used out.old out.new }
 {
@@ -51,7 +69,7 @@ fn replay(input: &[u8], used: usize, out: &mut [u8])
     let r = entry::replay_all(s, out);
     let t = r.tally;
     let n = report::report::report(out, t, first_name(s, t), r.at < used, used == input.len());
-    put(out, n);
+    put(rt, out, n);
 }
 
 // The contracts of the two give only the length, which lending the array needs. The output has 190 bytes more than the input's buffer, so that a report has room
@@ -68,11 +86,11 @@ fn output_buffer() -> [u8; 1048766]
     [0; 1048766]
 }
 
-fn main() {
+fn main(rt: HostRuntime) {
     let mut input_array = input_buffer();
     let mut out_array = output_buffer();
     let input: &mut [u8] = &mut input_array;
     let out: &mut [u8] = &mut out_array;
-    let used = io::read_full(STDIN, input);
-    replay(input, used, out);
+    let used = read_full(&rt, input);
+    replay(&rt, input, used, out);
 }

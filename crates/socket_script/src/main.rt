@@ -2,60 +2,68 @@
 #![tactic(auto)]
 
 ghost use Rattle.std.specs.Prelude.{◌≤◌, ◌≡◌, length, take};
+ghost use Rattle.std.specs.Io.{ReadsAtMost};
 ghost use Rattle.definition_script.specs.Call.{written_at, rings};
 ghost use Rattle.definition_script.specs.Listing.{header, closing};
 ghost use Rattle.buffer.specs.blocks.Drain.{ReadIn, DrainMay, held, Drained};
 ghost use Rattle.buffer.specs.blocks.BlocksRun.{RunMay, RunDone};
 
 use buffer::buffer::Progress;
+use std::io;
+use std::io::{ErrorKind, Read};
 
-const STDIN: i32 = 0;
-
-const STDOUT: i32 = 1;
-
-const STDERR: i32 = 2;
-
-// Tells on standard error that a read failed, if it did.
-fn tell_failed_read(got: isize) {
-    if got < 0 {
-        io::write_all(STDERR, b"socket_script: standard input cannot be read\n");
+// Tells on standard error that a read failed, if it did. Where standard error takes nothing either, nobody is left to tell.
+fn tell_failed_read(rt: &HostRuntime, got: &io::Result<usize>) {
+    if got.is_err() {
+        let _ = eprintln!(rt; "socket_script: standard input cannot be read");
     }
 }
 
 // Tells on standard error that a write failed, if it did.
-fn tell_failed_write(done: bool) {
+fn tell_failed_write(rt: &HostRuntime, done: bool) {
     if !done {
-        io::write_all(
-            STDERR,
-            b"socket_script: standard output cannot be written\n",
-        );
+        let _ = eprintln!(rt; "socket_script: standard output cannot be written");
     }
 }
 
+// One read from standard input. A read that a signal interrupts before a byte came has not failed, and is made again.
+fn read_some(rt: &HostRuntime, buffer: &mut [u8]) -> io::Result<usize>
+    ensures { ReadsAtMost result buffer.new }
+{
+    for _ in 0..u64::MAX {
+        match rt.stdin().read(buffer) {
+            Err(e) if e.kind() == ErrorKind::Interrupted => {}
+            got => return got,
+        }
+    }
+    rt.stdin().read(buffer)
+}
+
 // Reads behind the bytes that are in use, which stay as they were; 0 at the end of the input, and where a read fails, which ends the input.
-fn read_in(buffer: &mut [u8], used: usize) -> usize
+fn read_in(rt: &HostRuntime, buffer: &mut [u8], used: usize) -> usize
     requires { used ≤ length buffer.old }
     ensures { ReadIn used result buffer.old buffer.new }
 {
-    let got = libc::read(STDIN, &mut buffer[used..]);
-    tell_failed_read(got);
-    io::count(got, &buffer[used..])
+    let got = read_some(rt, &mut buffer[used..]);
+    tell_failed_read(rt, &got);
+    got.unwrap_or(0)
 }
 
 // Writes the first bytes of the output. The first write that fails is told and noted in `failed`; after it nothing is written and nothing is told.
-fn put(out: &[u8], n: usize, failed: &mut bool)
+fn put(rt: &HostRuntime, out: &[u8], n: usize, failed: &mut bool)
     requires { n ≤ length out.now }
 {
     if *failed {
         return;
     }
-    let done = io::write_all(STDOUT, &out[0..n]);
-    tell_failed_write(done);
+    let done = rt.write_all(&out[0..n]).is_ok();
+    tell_failed_write(rt, done);
     *failed = !done;
 }
 
 // Feeds the bytes in use until no move is left, and writes what comes out.
 fn drain(
+    rt: &HostRuntime,
     p: Progress,
     buffer: &mut [u8],
     memory: &mut [u8],
@@ -76,7 +84,7 @@ fn drain(
             q, buffer, memory, ring_one, table_one, ring_two, table_two, out,
         );
         let written = q.written;
-        put(out, written, failed);
+        put(rt, out, written, failed);
         if q.used == used {
             break;
         }
@@ -85,27 +93,28 @@ fn drain(
 }
 
 // The first line.
-fn begin(out: &mut [u8], failed: &mut bool)
+fn begin(rt: &HostRuntime, out: &mut [u8], failed: &mut bool)
     requires { 22 ≤ length out.old }
     ensures { out.new ≡ written_at 0 header out.old }
 {
     let n = listing::script::header(out);
-    put(out, n, failed);
+    put(rt, out, n, failed);
 }
 
 // The end of the input.
-fn finish(p: Progress, buffer: &[u8], out: &mut [u8], failed: &mut bool)
+fn finish(rt: &HostRuntime, p: Progress, buffer: &[u8], out: &mut [u8], failed: &mut bool)
     requires { (p.used ≤ length buffer.now) × (26 ≤ length out.old) }
     ensures { out.new ≡ written_at 0 (closing p.offset p.state.ended (take p.used buffer.now)) out.old }
 {
     let st = p.state;
     let used = p.used;
     let n = listing::script::finish(st, p.offset, &buffer[0..used], out);
-    put(out, n, failed);
+    put(rt, out, n, failed);
 }
 
 // The whole script, from the header to the end of the input.
 fn run(
+    rt: &HostRuntime,
     memory: &mut [u8],
     ring_one: &mut [u8],
     table_one: &mut [u32],
@@ -120,22 +129,22 @@ fn run(
 {
     let mut p = buffer::buffer::first();
     let mut reading = true;
-    begin(out, failed);
+    begin(rt, out, failed);
     while reading {
         let used = p.used;
-        let got = read_in(buffer, used);
+        let got = read_in(rt, buffer, used);
         if got == 0 {
             break;
         }
         p.used = used + got;
         p = drain(
-            p, buffer, memory, ring_one, table_one, ring_two, table_two, out, failed,
+            rt, p, buffer, memory, ring_one, table_one, ring_two, table_two, out, failed,
         );
         if !buffer::blocks::reads_on(p.state.ended, p.offset) {
             reading = false;
         }
     }
-    finish(p, buffer, out, failed);
+    finish(rt, p, buffer, out, failed);
 }
 
 // The contracts of the two give only the length, which lending the array needs.
@@ -151,7 +160,7 @@ fn output_space() -> [u8; 262144]
     [0; 262144]
 }
 
-fn main() {
+fn main(rt: HostRuntime) {
     let mut memory_array = [0u8; 4096];
     let mut ring_one_array = [0u8; 4096];
     let mut table_one_array = [0u32; 4096];
@@ -169,6 +178,6 @@ fn main() {
     let out: &mut [u8] = &mut out_array;
     let failed: &mut bool = &mut failed_before;
     run(
-        memory, ring_one, table_one, ring_two, table_two, buffer, out, failed,
+        &rt, memory, ring_one, table_one, ring_two, table_two, buffer, out, failed,
     );
 }
