@@ -72,6 +72,14 @@ fn functions_are_those_of_the_library() {
     assert_eq!(source::functions(EXPORTS, &["pub fn ", "pub safe fn "]), expected);
 }
 
+#[test]
+fn exports_have_the_contracts_of_the_calls() {
+    let calls = source::contracts(&source::rattle_source("host"), "pub fn murgwethan_");
+    assert!(calls.iter().all(|call| call.contains("->i64ensures{")), "a call without a contract");
+    let exported = source::contracts(&source::rattle_source("host_c"), "pub extern \"C\" fn murgwethan_");
+    assert_eq!(exported, calls);
+}
+
 /// The symbols that `nm` lists for the archive with these options.
 fn symbols(options: &[&str]) -> BTreeSet<String> {
     let archive = env!("MURGWETHAN_ARCHIVE");

@@ -78,6 +78,16 @@ fn function(text: &str) -> Function {
     }
 }
 
+/// What stands between these words and the body of each function that they begin, by name and without layout: the
+/// parameters, the result and the contract.
+pub fn contracts(text: &str, words: &str) -> Vec<String> {
+    let heads = text.split(words).skip(1).map(|rest| rest.split_once("\n{").expect("a body").0);
+    let mut list: Vec<String> =
+        heads.map(|head| head.split_whitespace().collect::<String>().replace(",)", ")")).collect();
+    list.sort();
+    list
+}
+
 /// A function of Rattle as C sees it: a slice passes as its pointer and its length.
 pub fn as_c_sees(function: &Function) -> Function {
     let parameters = function.parameters.iter().flat_map(|(name, kind)| match slice_of(kind) {
