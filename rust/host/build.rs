@@ -5,7 +5,7 @@ use std::path::{Path, PathBuf};
 
 /// Names the archive, where it is not the checkout's.
 const VARIABLE: &str = "MURGWETHAN_ARCHIVE";
-/// Where `rt staticlib host` writes it, seen from this folder.
+/// Where `rust/archive host` puts it, seen from this folder.
 const ARCHIVE: &str = "../../target/staticlib/libhost.a";
 
 fn main() {
@@ -22,7 +22,7 @@ fn main() {
     // Where nothing is linked (cargo check, cargo doc) there need be no archive.
     if !archive.exists() {
         println!(
-            "cargo:warning=no archive at {}: to link, run rt staticlib host, or set {VARIABLE} to one",
+            "cargo:warning=no archive at {}: to link, run rust/archive host, or set {VARIABLE} to one",
             archive.display()
         );
     }

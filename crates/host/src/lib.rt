@@ -20,8 +20,7 @@ pub mod records;
 pub mod values;
 
 // A new pair over the rings and tables of its two ends, of which it looks at the lengths. Where the call is refused, the record stays as it is.
-#[unsafe(no_mangle)]
-pub extern "C" fn murgwethan_create(
+pub fn murgwethan_create(
     p: &mut Pair,
     kind: u32,
     capacity: u32,
@@ -41,8 +40,7 @@ pub extern "C" fn murgwethan_create(
 }
 
 // Writes to the peer's queue. The ring and the table are the peer's.
-#[unsafe(no_mangle)]
-pub extern "C" fn murgwethan_write(
+pub fn murgwethan_write(
     p: &mut Pair,
     handle: u32,
     ring: &mut [u8],
@@ -56,8 +54,7 @@ pub extern "C" fn murgwethan_write(
 }
 
 // Reads the front of the own queue into the buffer. The ring and the table are the reader's. A peek leaves the bytes in the queue.
-#[unsafe(no_mangle)]
-pub extern "C" fn murgwethan_read(
+pub fn murgwethan_read(
     p: &mut Pair,
     handle: u32,
     peek: bool,
@@ -73,8 +70,7 @@ pub extern "C" fn murgwethan_read(
 
 // Disables or enables the writing of an end and of its peer: 0 leaves it as it is, 1 disables it, 2 enables it, a number above 2 is refused. No right is
 // asked.
-#[unsafe(no_mangle)]
-pub extern "C" fn murgwethan_set_disposition(
+pub fn murgwethan_set_disposition(
     p: &mut Pair,
     handle: u32,
     disposition: u32,
@@ -87,8 +83,7 @@ pub extern "C" fn murgwethan_set_disposition(
 }
 
 // Prevents reading or writing by the end of a handle; a peer that is open is shut by the opposite of each flag.
-#[unsafe(no_mangle)]
-pub extern "C" fn murgwethan_shutdown(p: &mut Pair, handle: u32, read: bool, write: bool) -> i64
+pub fn murgwethan_shutdown(p: &mut Pair, handle: u32, read: bool, write: bool) -> i64
     ensures { Answered (Shuts p.old handle read write) p.new result }
 {
     let r = control::ends::shutdown_ends(socket::ends_of(*p), handle, read, write);
@@ -96,8 +91,7 @@ pub extern "C" fn murgwethan_shutdown(p: &mut Pair, handle: u32, read: bool, wri
 }
 
 // Sets the number of bytes from which on an end's word shows that enough bytes are queued for a read; 0 turns it off.
-#[unsafe(no_mangle)]
-pub extern "C" fn murgwethan_set_read_threshold(p: &mut Pair, handle: u32, threshold: u64) -> i64
+pub fn murgwethan_set_read_threshold(p: &mut Pair, handle: u32, threshold: u64) -> i64
     ensures { Answered (SetsReadThreshold p.old handle threshold) p.new result }
 {
     let r = control::threshold::read_threshold_ends(socket::ends_of(*p), handle, threshold);
@@ -105,8 +99,7 @@ pub extern "C" fn murgwethan_set_read_threshold(p: &mut Pair, handle: u32, thres
 }
 
 // Sets the number of bytes from which on an end's word shows that there is enough room for a write; 0 turns it off.
-#[unsafe(no_mangle)]
-pub extern "C" fn murgwethan_set_write_threshold(p: &mut Pair, handle: u32, threshold: u64) -> i64
+pub fn murgwethan_set_write_threshold(p: &mut Pair, handle: u32, threshold: u64) -> i64
     ensures { Answered (SetsWriteThreshold p.old handle threshold) p.new result }
 {
     let r = control::threshold::write_threshold_ends(socket::ends_of(*p), handle, threshold);
@@ -114,8 +107,7 @@ pub extern "C" fn murgwethan_set_write_threshold(p: &mut Pair, handle: u32, thre
 }
 
 // Registers a wait of an end. It may fire now, by the word as it is; with edge 1 only a later change fires it.
-#[unsafe(no_mangle)]
-pub extern "C" fn murgwethan_wait(p: &mut Pair, handle: u32, key: u64, mask: u32, edge: u8) -> i64
+pub fn murgwethan_wait(p: &mut Pair, handle: u32, key: u64, mask: u32, edge: u8) -> i64
     ensures { Answered (Waits p.old handle key mask edge) p.new result }
 {
     let a = answers::control_calls::wait_answer(socket::ends_of(*p), handle, edge);
@@ -124,8 +116,7 @@ pub extern "C" fn murgwethan_wait(p: &mut Pair, handle: u32, key: u64, mask: u32
 
 // Removes the waits of an end that have this key, and the packets that such waits made, and returns how many these were. Where one place alone matches
 // and at most 8 are used, it is taken out where the table stands, and the word is 1; every other cancel makes the next pair by value.
-#[unsafe(no_mangle)]
-pub extern "C" fn murgwethan_cancel(p: &mut Pair, handle: u32, key: u64) -> i64
+pub fn murgwethan_cancel(p: &mut Pair, handle: u32, key: u64) -> i64
     ensures { Answered (Cancels p.old handle key) p.new result }
 {
     let k = socket::only_match(*p, handle, key);
@@ -142,8 +133,7 @@ pub extern "C" fn murgwethan_cancel(p: &mut Pair, handle: u32, key: u64) -> i64
 }
 
 // Closes the end of a handle: its queue and its waits vanish, packets stay, and an open peer is told by its word.
-#[unsafe(no_mangle)]
-pub extern "C" fn murgwethan_close(p: &mut Pair, handle: u32) -> i64
+pub fn murgwethan_close(p: &mut Pair, handle: u32) -> i64
     ensures { Answered (Closes p.old handle) p.new result }
 {
     let r = control::ends::close_ends(socket::ends_of(*p), handle);
@@ -151,8 +141,7 @@ pub extern "C" fn murgwethan_close(p: &mut Pair, handle: u32) -> i64
 }
 
 // The signal word of an end, after the tests of the record and of the handle. The pair stays as it is.
-#[unsafe(no_mangle)]
-pub extern "C" fn murgwethan_signal(p: &mut Pair, handle: u32) -> i64
+pub fn murgwethan_signal(p: &mut Pair, handle: u32) -> i64
     ensures { (result ≡ signal_number p.old handle) × (p.new ≡ p.old) }
 {
     crate::values::signal(*p, handle)

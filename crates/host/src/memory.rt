@@ -8,8 +8,7 @@ ghost use Rattle.definition_runs.specs.Exported.{Answered};
 use definition::Pair;
 
 // Writes the bytes of user memory to the peer's queue, and lands the count of those taken. The ring and the table are the peer's.
-#[unsafe(no_mangle)]
-pub extern "C" fn murgwethan_user_write(
+pub fn murgwethan_user_write(
     p: &mut Pair,
     handle: u32,
     options: u32,
@@ -39,8 +38,7 @@ pub extern "C" fn murgwethan_user_write(
 }
 
 // Reads the front of the own queue into user memory, then lands the count over the bytes. Option 8 is a peek.
-#[unsafe(no_mangle)]
-pub extern "C" fn murgwethan_user_read(
+pub fn murgwethan_user_read(
     p: &mut Pair,
     handle: u32,
     options: u32,
@@ -70,8 +68,7 @@ pub extern "C" fn murgwethan_user_read(
 }
 
 // Disables or enables the writing of an end and of its peer, by numbers from 0 to 2.
-#[unsafe(no_mangle)]
-pub extern "C" fn murgwethan_user_set_disposition(
+pub fn murgwethan_user_set_disposition(
     p: &mut Pair,
     handle: u32,
     disposition: u32,
@@ -85,8 +82,7 @@ pub extern "C" fn murgwethan_user_set_disposition(
 
 // Prevents reading or writing by the end of a handle: bit 0x1 of the options is write, 0x2 read, others are ignored. A peer that is open is shut by
 // the opposite of each.
-#[unsafe(no_mangle)]
-pub extern "C" fn murgwethan_user_shutdown(p: &mut Pair, handle: u32, options: u32) -> i64
+pub fn murgwethan_user_shutdown(p: &mut Pair, handle: u32, options: u32) -> i64
     ensures { Answered (UserShuts p.old handle options) p.new result }
 {
     let r = syscall::shutdown_ends(socket::ends_of(*p), handle, options);

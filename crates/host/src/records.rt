@@ -8,8 +8,7 @@ ghost use Rattle.definition_runs.specs.Exported.{Answered, threshold_numbers, in
 use definition::Pair;
 
 // The read and the write threshold of an end.
-#[unsafe(no_mangle)]
-pub extern "C" fn murgwethan_thresholds(p: &mut Pair, handle: u32, out: &mut [u64; 2]) -> i64
+pub fn murgwethan_thresholds(p: &mut Pair, handle: u32, out: &mut [u64; 2]) -> i64
     ensures { Answered (Recorded threshold_numbers (AsksThresholds p.old handle) out.old out.new) p.new result }
 {
     let a = crate::values::thresholds(*p, handle, out);
@@ -17,13 +16,7 @@ pub extern "C" fn murgwethan_thresholds(p: &mut Pair, handle: u32, out: &mut [u6
 }
 
 // Options, capacity, queued, available, the peer's capacity and queued. The table is the own one; only datagram pairs look at it.
-#[unsafe(no_mangle)]
-pub extern "C" fn murgwethan_info(
-    p: &mut Pair,
-    handle: u32,
-    table: &[u32],
-    out: &mut [u64; 6],
-) -> i64
+pub fn murgwethan_info(p: &mut Pair, handle: u32, table: &[u32], out: &mut [u64; 6]) -> i64
     ensures { Answered (Recorded info_numbers (AsksInfo p.old handle table.now) out.old out.new) p.new result }
 {
     let a = crate::values::info(*p, handle, table, out);
@@ -31,8 +24,7 @@ pub extern "C" fn murgwethan_info(
 }
 
 // Takes the oldest packet: its key, trigger, observed word, count and timestamp.
-#[unsafe(no_mangle)]
-pub extern "C" fn murgwethan_take(p: &mut Pair, out: &mut [u64; 5]) -> i64
+pub fn murgwethan_take(p: &mut Pair, out: &mut [u64; 5]) -> i64
     ensures { Answered (Recorded packet_numbers (Takes p.old) out.old out.new) p.new result }
 {
     let a = crate::values::take_answer(*p, out);

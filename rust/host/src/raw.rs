@@ -1,4 +1,4 @@
-//! The records and calls of the static library, as the crate `host` declares them.
+//! The records and calls of the static library, as the crate `host_c` declares them.
 //!
 //! A kernel that keeps a pair and its rings in a way of its own calls these; [`SocketPair`] is easier to
 //! use. All of them are safe with any record, handle, number and slice: the library demands nothing of

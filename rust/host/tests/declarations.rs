@@ -1,5 +1,5 @@
 //! The declarations in `src/raw.rs` and `src/raw/exports.rs` are those of the library: the records in
-//! Rattle's source, the functions that the crate `host` exports, and what the archive defines and needs. So
+//! Rattle's source, the functions that the crate `host_c` exports, and what the archive defines and needs. So
 //! are those in `include/murgwethan.h`, as a C compiler sees them.
 
 #[path = "support/header.rs"]
@@ -67,9 +67,17 @@ fn records_are_those_of_the_library() {
 
 #[test]
 fn functions_are_those_of_the_library() {
-    let exported = source::functions(&source::rattle_source("host"), &[EXPORTED]);
+    let exported = source::functions(&source::rattle_source("host_c"), &[EXPORTED]);
     let expected: Vec<_> = exported.iter().map(source::as_c_sees).collect();
     assert_eq!(source::functions(EXPORTS, &["pub fn ", "pub safe fn "]), expected);
+}
+
+#[test]
+fn exports_have_the_contracts_of_the_calls() {
+    let calls = source::contracts(&source::rattle_source("host"), "pub fn murgwethan_");
+    assert!(calls.iter().all(|call| call.contains("->i64ensures{")), "a call without a contract");
+    let exported = source::contracts(&source::rattle_source("host_c"), "pub extern \"C\" fn murgwethan_");
+    assert_eq!(exported, calls);
 }
 
 /// The symbols that `nm` lists for the archive with these options.
@@ -92,14 +100,14 @@ fn the_archive_needs_memory_functions_only() {
 
 #[test]
 fn the_archive_defines_the_exported_calls_only() {
-    let exported = source::functions(&source::rattle_source("host"), &[EXPORTED]);
+    let exported = source::functions(&source::rattle_source("host_c"), &[EXPORTED]);
     let names: BTreeSet<_> = exported.into_iter().map(|function| function.name).collect();
     assert_eq!(symbols(&["-g", "--defined-only"]), names);
 }
 
 #[test]
 fn the_header_declares_the_functions_of_the_library() {
-    let exported = source::functions(&source::rattle_source("host"), &[EXPORTED]);
+    let exported = source::functions(&source::rattle_source("host_c"), &[EXPORTED]);
     let expected: Vec<_> = exported.iter().map(source::as_c_sees).collect();
     assert_eq!(header::functions(), expected);
 }

@@ -9,7 +9,7 @@ use std::process::ExitCode;
 use std::time::Instant;
 
 /// Where `rt` links the program, from this package's folder.
-const PROGRAM: &str = "../../target/bin/socket_script";
+const PROGRAM: &str = "../../crates/socket_script/out/socket_script";
 
 fn main() -> ExitCode {
     let usage = format!(

@@ -22,7 +22,7 @@ pub struct Function {
     pub result: String,
 }
 
-/// The text of every source file below `crates/CRATE/src`: `definition` has the records, `host` the exported
+/// The text of every source file below `crates/CRATE/src`: `definition` has the records, `host_c` the exported
 /// functions.
 pub fn rattle_source(name: &str) -> String {
     let folder = Path::new(env!("CARGO_MANIFEST_DIR")).join("../../crates").join(name).join("src");
@@ -76,6 +76,16 @@ fn function(text: &str) -> Function {
         parameters: parameters.map(typed).collect(),
         result: result.to_string(),
     }
+}
+
+/// What stands between these words and the body of each function that they begin, by name and without layout: the
+/// parameters, the result and the contract.
+pub fn contracts(text: &str, words: &str) -> Vec<String> {
+    let heads = text.split(words).skip(1).map(|rest| rest.split_once("\n{").expect("a body").0);
+    let mut list: Vec<String> =
+        heads.map(|head| head.split_whitespace().collect::<String>().replace(",)", ")")).collect();
+    list.sort();
+    list
 }
 
 /// A function of Rattle as C sees it: a slice passes as its pointer and its length.
