@@ -51,6 +51,6 @@ pub returns-in-0 : goal.returns-in-0
 returns-in-0 c =
     let right = via_not-not c.is_body.ensures c.if-not-is_body.false-raw in
     elim c.in-0-1.branch [
-      in-0-1 w ↦ made right (plain_call _ _ _ c.args.tag _ _ (λ e. omega arith) (λ e. omega arith) (λ e. omega arith) c.plain.ensures)
+      | in-0-1 w ↦ made right (plain_call _ _ _ c.args.tag _ _ (λ e. omega arith) (λ e. omega arith) (λ e. omega arith) c.plain.ensures)
       | in_default-1 w ↦ made right (plain_call _ _ _ c.args.tag _ _ (λ e. omega arith) (λ e. omega arith) (λ e. omega arith) c.plain.ensures)
     ]

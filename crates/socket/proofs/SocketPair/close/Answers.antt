@@ -19,7 +19,7 @@ returns c =
     let r = c.close_ends-r.result in
     let q : c.if-r.p ≡ pick r.fires (without_waits (is_one h) p) p
     = elim c.if-r.branch [
-      then-r w ↦ pick-on _ _ _ _ _ w.if-r.true (w.p-is ∙ w.without_waits-p.ensures)
+      | then-r w ↦ pick-on _ _ _ _ _ w.if-r.true (w.p-is ∙ w.without_waits-p.ensures)
       | else-r w ↦ pick_off _ _ _ _ _ w.if-r.false w.p-is
     ] in
     subst (Steps p (close_answer p h) (closed (is_one h) p)) (sym (c.stepped.ensures ∙ (c.settle.ensures ∙ ap (settled_step r) q)))
