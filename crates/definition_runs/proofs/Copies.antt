@@ -17,7 +17,7 @@ use Rattle.definition.specs.declared.Queue.{Queue}
 use Rattle.definition.specs.Memory.{count_landed}
 use Rattle.definition.specs.Pair.{is_one, own, peer, ends_of}
 use Rattle.definition.specs.Read.{buffer_read, bytes_landed}
-use Rattle.definition.specs.Ring.{position, front, front_modulo, put_modulo}
+use Rattle.definition.specs.Ring.{front, front_modulo, put_modulo}
 use Rattle.definition.specs.Status.{pick, is_done, count_of, record_count}
 use Rattle.definition.specs.Tests.{lent_of}
 use Rattle.definition.specs.Write.{datagram_size, write_size, write_answer, user_write_answer, ring_fed, table_fed, ring_written, table_written}

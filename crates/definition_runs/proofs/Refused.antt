@@ -4,7 +4,6 @@ use mathlib.Core.Path.{◌≡◌, refl, sym, ap, ap₂, ◌∙◌}
 use mathlib.Core.Bool.{Bool, true, false}
 use mathlib.Core.List.{List, []}
 use Rattle.definition.specs.declared.Status.{Status}
-use Rattle.definition.specs.declared.Answer.{Answer}
 use Rattle.definition.specs.declared.Answer.TheVariants.{Refused}
 use Rattle.definition.specs.Status.{pick, ◌or◌, count_of, is_done}
 use Rattle.definition.specs.Write.{ring_written, table_written, pair_written}

@@ -1,6 +1,6 @@
 -- A run of the code: each call takes the pair and the slices as create or the last call left them, and gives what its function ensures.
 -- 01 "Two runs".
-use Rattle.std.specs.Prelude.{ℕ, ◌-◌, List, [], ◌∷◌, Bool, ◌≡◌, take, drop, eqb}
+use Rattle.std.specs.Prelude.{ℕ, ◌-◌, List, [], ◌∷◌, Bool, ◌≡◌, take, drop}
 use Rattle.definition.specs.declared.Step.{Step}
 use Rattle.definition.specs.Status.{count_of}
 use Rattle.definition.specs.Pair.{is_one}

@@ -7,7 +7,7 @@ use mathlib.Core.List.{List, ◌++◌, append_assoc, append-nil}
 use lib.ListN.{length, take, drop, length-drop, take-append-drop}
 use lib.Seq.{drop-drop, length-take-le}
 use borrow.Author.Tests.{leb-true}
-use Rattle.definition.specs.Status.{pick, ◌and◌}
+use Rattle.definition.specs.Status.{◌and◌}
 use Rattle.definition_script.specs.Line.{stop_of}
 use Rattle.definition_script.specs.Call.{written_at, Rings}
 use Rattle.text.proofs.Place.{place_none, place-length, place-front, place-behind}

@@ -2,9 +2,7 @@
 -- program" alone.
 use Rattle.std.specs.Prelude.{ℕ, ◌+◌, ◌≤◌, ◌<◌, ◌-◌, List, ◌≡◌, length, take, drop, get_or}
 use Rattle.replay.specs.declared.entry.Field.{Field}
-use Rattle.replay.specs.declared.entry.Field.TheVariants as Field
 use Rattle.replay.specs.declared.entry.Found.{Found}
-use Rattle.replay.specs.declared.entry.Found.TheVariants as Found
 use Rattle.report.specs.declared.tally.Comparison.{Comparison}
 use Rattle.report.specs.declared.tally.Comparison.TheVariants.{Agrees, DiffersAt, NoRoom}
 use Rattle.definition_script.specs.Record.{four}

@@ -18,7 +18,7 @@ use Rattle.definition.specs.Port.{sound, change_of, dropped_of}
 use Rattle.port.proofs.signal_change.Operations.{change_sound}
 use Rattle.port.proofs.places.Size.{table_128}
 use Rattle.port.proofs.waits.Sound.{sound_change}
-use Rattle.definition.specs.Pair.{with_signals, own, peer, with_end, with_places, ends_of}
+use Rattle.definition.specs.Pair.{with_signals, with_end, with_places}
 use Rattle.endpoint.specs.declared.ends.Pending.{Pending}
 use Rattle.endpoint.specs.declared.ends.Visits.{Visits}
 use Rattle.endpoint.specs.declared.ends.Moved.{Moved}

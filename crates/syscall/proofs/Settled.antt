@@ -7,7 +7,7 @@ use lib.ListN.{length}
 use Rattle.definition.specs.declared.Ends.{Ends}
 use Rattle.definition.specs.declared.Pair.{Pair}
 use Rattle.definition.specs.declared.Step.{Step}
-use Rattle.definition.specs.Pair.{is_one, own, peer, ends_of}
+use Rattle.definition.specs.Pair.{is_one, own, ends_of}
 use Rattle.definition.specs.Port.{sound}
 use Rattle.definition.specs.Read.{pair_read, is_peek, user_read_answer, bytes_landed, BytesRead, UserReads}
 use Rattle.definition.specs.Status.{count_of}

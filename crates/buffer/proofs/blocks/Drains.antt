@@ -13,7 +13,7 @@ use Rattle.definition_script.specs.Call.{Rings}
 use Rattle.buffer.specs.declared.buffer.Progress.{Progress}
 use Rattle.definition_script.specs.Listing.{Machine, machine, stay, move_of}
 use Rattle.feed.specs.Turn.{LIMIT}
-use Rattle.feed.specs.Feed.{Block, fed_from, fed_of, all_of}
+use Rattle.feed.specs.Feed.{Block, fed_from, all_of}
 use Rattle.buffer.specs.shift.Shift.{shifted}
 use Rattle.buffer.specs.buffer.Buffer.{front_of, Advanced}
 use Rattle.feed.proofs.Blocks.{fed_ready}

@@ -12,7 +12,7 @@ use Rattle.definition.specs.Pair.{is_one, own, peer, ends_of}
 use Rattle.definition.specs.Write.{write_answer, pair_written, ring_written, table_written, user_write_answer}
 use Rattle.definition.specs.Read.{read_answer, pair_read, buffer_read, is_peek, user_read_answer, bytes_landed}
 use Rattle.definition.specs.Memory.{count_landed}
-use Rattle.definition.specs.Calls.{set_disposition, shutdown, plain_disposition, plain_shutdown, set_read_threshold, set_write_threshold, get_thresholds, get_info, wait, take_packet, cancel, Call, write, read, plain_write, plain_read, close, control, Input, input, State, state, own_slices, peer_slices, Outcome, created_by, after, outcome, outcomes, after_all, pair_created, state_created}
+use Rattle.definition.specs.Calls.{set_disposition, shutdown, plain_disposition, plain_shutdown, set_read_threshold, set_write_threshold, get_thresholds, get_info, wait, take_packet, cancel, Call, write, read, plain_write, plain_read, close, control, Input, input, State, own_slices, peer_slices, Outcome, created_by, after, outcome, outcomes, after_all, pair_created, state_created}
 use Rattle.definition_runs.specs.Run.{Chain, none, next, Does, did_write, did_read, did_dispose, did_shutdown, did_plain_write, did_plain_read, did_plain_dispose, did_plain_shutdown, did_read_threshold, did_write_threshold, did_thresholds, did_info, did_wait, did_take, did_cancel, did_close, run, RunsExist}
 use Rattle.definition_runs.proofs.runs.Match.{calls_match}
 

@@ -1,5 +1,4 @@
 -- What a chain of tests that passed tells of its parts. Assumes nothing.
-use Prim.Native.Nat.{ℕ}
 use mathlib.Core.Path.{◌≡◌, refl}
 use mathlib.Core.Bool.{Bool, true, false, false≢true, true≢false}
 use Rattle.definition.specs.declared.Status.{Status}

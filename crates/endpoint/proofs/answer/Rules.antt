@@ -1,6 +1,6 @@
 -- Rules by which `search` follows a chain of tests: `search chain` at a return closes `answer ≡ (refuse_if .. then refuse_unless .. then ..)`
 -- from the tests on the way. Assumes nothing.
-use Prim.Native.Nat.{ℕ, ◌≤◌, ◌<◌}
+use Prim.Native.Nat.{ℕ}
 use mathlib.Core.Path.{◌≡◌, refl, sym, ap, ◌∙◌}
 use mathlib.Core.Bool.{Bool, true, false, not}
 use lib.Dec.{T}

@@ -1,4 +1,3 @@
-use borrow.Author.Rules.{rules}
 use mathlib.Core.Path.{sym, ◌∙◌}
 use Rattle.feed.proofs.Feeding.{unready}
 use Rattle.definition_script.specs.Call.{rings}

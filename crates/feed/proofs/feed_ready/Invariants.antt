@@ -1,12 +1,7 @@
-use Prim.Native.Nat.{◌+◌, ◌-◌, ◌≤◌, ◌<◌}
-use borrow.Author.Tests.{leb-true, leb-false}
 use lib.ListN.{length}
-use mathlib.Core.Bool.{Bool}
-use mathlib.Core.Path.{◌≡◌, refl, sym, ◌∙◌, subst}
-use native.Mathlib.Omega.{arith}
-use Rattle.feed.proofs.Feeding.{Ready, ready, SoFar, begins, next, left, falls, done_full, done-stay}
+use mathlib.Core.Path.{◌≡◌}
+use Rattle.feed.proofs.Feeding.{Ready, SoFar, left}
 use Rattle.definition_script.specs.Call.{rings}
-use Rattle.line.specs.line.LineDone.{LINE}
 use Rattle.definition_script.specs.Listing.{machine}
 use Rattle.feed.proofs.feed_ready.Given as goal
 

@@ -3,12 +3,9 @@ use Rattle.definition.specs.declared.Answer.TheVariants.{Done}
 use Rattle.definition.specs.declared.Record.TheVariants.{Count}
 use Rattle.definition.specs.declared.Answer.TheVariants.{Done}
 use Rattle.definition.specs.declared.Record.TheVariants.{Count}
-use Rattle.port.specs.few.Few.{without_place}
 use Rattle.socket.proofs.Cancels.{one-steps}
 use mathlib.Core.Path.{refl}
 use Rattle.definition.specs.Status.{answer_word, record_count}
-use mathlib.Core.Bool.{true}
-use mathlib.Core.Path.{◌≡◌}
 use Rattle.host.proofs.murgwethan_cancel.Goals as goal
 
 pub returns-then-is_found : goal.returns-then-is_found

@@ -6,7 +6,7 @@ use Rattle.kept.proofs.pair.Stored.{closed_as}
 use Rattle.socket.proofs.Controlled.{close-whole}
 use borrow.Author.Rules.{rules}
 use mathlib.Core.Path.{subst}
-use mathlib.Core.Path.{◌≡◌, ◌∙◌, ap, sym, subst}
+use mathlib.Core.Path.{subst}
 use Rattle.host.proofs.murgwethan_close.Goals as goal
 
 pub returns : goal.returns

@@ -1,6 +1,5 @@
 use Rattle.kept.proofs.places.Stored.{created_steps}
 use borrow.Author.Rules.{rules}
-use mathlib.Core.Path.{◌≡◌}
 use Rattle.host.proofs.murgwethan_create.Goals as goal
 
 pub returns : goal.returns

@@ -6,7 +6,7 @@ use Rattle.host.proofs.values.Disposed.{dispose_whole}
 use Rattle.kept.proofs.pair.Stored.{settled_as}
 use borrow.Author.Rules.{rules}
 use mathlib.Core.Path.{subst}
-use mathlib.Core.Path.{◌≡◌, ◌∙◌, ap, sym, subst}
+use mathlib.Core.Path.{subst}
 use Rattle.host.proofs.murgwethan_set_disposition.Goals as goal
 
 pub returns : goal.returns

@@ -6,7 +6,7 @@ use Rattle.kept.proofs.pair.Stored.{settled_as}
 use Rattle.socket.proofs.Controlled.{write_threshold_whole}
 use borrow.Author.Rules.{rules}
 use mathlib.Core.Path.{subst}
-use mathlib.Core.Path.{◌≡◌, ◌∙◌, ap, sym, subst}
+use mathlib.Core.Path.{subst}
 use Rattle.host.proofs.murgwethan_set_write_threshold.Goals as goal
 
 pub returns : goal.returns

@@ -1,10 +1,9 @@
-use Rattle.definition.specs.Pair.{ends_of}
 use Rattle.definition.specs.Port.{wait_answer}
 use Rattle.definition.specs.declared.Ends.{Ends}
 use Rattle.socket.proofs.Waits.{wait-steps}
 use borrow.Author.Rules.{rules}
-use mathlib.Core.Path.{◌≡◌, ap, ◌∙◌}
-use mathlib.Core.Path.{◌≡◌, ◌∙◌, ap, sym, subst}
+use mathlib.Core.Path.{ap, ◌∙◌}
+use mathlib.Core.Path.{◌∙◌, ap}
 use Rattle.host.proofs.murgwethan_wait.Goals as goal
 
 pub returns : goal.returns

@@ -1,12 +1,12 @@
 -- What the stored pair is, by the way that the code went. Assumes nothing.
 use Prim.Native.Nat.{ℕ}
 use mathlib.Core.Path.{◌≡◌, refl, sym, ap, ◌∙◌}
-use mathlib.Core.Bool.{Bool, true, false, not}
+use mathlib.Core.Bool.{Bool, true, not}
 use lib.Dec.{T, eqb}
 use Rattle.definition.specs.declared.Answer.{Answer}
 use Rattle.definition.specs.Status.{pick, is_done}
 use Rattle.endpoint.proofs.answer.Rules.{on-pick, off_pick, pick-on}
-use Rattle.port.specs.places.Table.{unused, only_packet}
+use Rattle.port.specs.places.Table.{unused}
 use Rattle.definition.specs.Pair.{is_one}
 use Rattle.socket.specs.Deferred.{registered_pair, appends_few, appended_pair}
 use Rattle.socket.proofs.Waits.{few_registered}

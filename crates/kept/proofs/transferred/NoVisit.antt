@@ -1,9 +1,9 @@
 -- What a write and a read change, put into the pair: the pair of the settled call, where no wait can fire. Assumes nothing.
 use Prim.Native.Nat.{ℕ}
-use mathlib.Core.Path.{◌≡◌, refl, sym, ap, ◌∙◌}
+use mathlib.Core.Path.{◌≡◌, refl, ap, ◌∙◌}
 use mathlib.Core.Bool.{Bool, true, false, not}
 use lib.Dec.{eqb}
-use Rattle.definition.specs.Status.{pick, ◌and◌, ◌or◌}
+use Rattle.definition.specs.Status.{pick, ◌or◌}
 use Rattle.endpoint.proofs.answer.Rules.{pick-on, pick_off, via_not}
 use Rattle.endpoint.proofs.answer.Chains.{both}
 use Rattle.definition.specs.Signal.{changed_word}
@@ -19,7 +19,7 @@ use Rattle.transfer.specs.change.Changes.{transfer_outcome}
 use Rattle.transfer.specs.write.WriteChange.{fed_effect, wrote_by}
 use Rattle.transfer.specs.read.ReadChange.{drained_effect, read_by}
 use Rattle.definition.specs.declared.Pair.{Pair}
-use Rattle.socket.specs.Deferred.{with_ends, settled_step}
+use Rattle.socket.specs.Deferred.{settled_step}
 use Rattle.kept.specs.transferred.Transferred.{transferred_pair, with_moved, wrote_pair, read_pair, write_without_visit, read_without_visit}
 
 pub transferred_wrote : (t : Bool) (x : Transfer) (p : Pair) → transferred_pair t (not t) x p ≡ wrote_pair t x p

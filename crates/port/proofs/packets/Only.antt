@@ -5,13 +5,12 @@ use mathlib.Core.Bool.{Bool, true, false, not}
 use mathlib.Core.List.{List, [], ◌∷◌}
 use native.Mathlib.Omega.{arith}
 use lib.ListN.{length, set}
-use lib.Dec.{eqb}
 use borrow.Author.Tests.{eqb-true, ne_eqb}
 use Rattle.definition.specs.Status.{pick, ◌and◌}
 use Rattle.endpoint.proofs.answer.Chains.{both}
 use Rattle.definition.specs.declared.Place.{Place}
 use Rattle.definition.specs.declared.Places.{Places}
-use Rattle.definition.specs.Port.{free, used, sound, packets_of, waits_of, unused_of, table_of, taken_of, take_of}
+use Rattle.definition.specs.Port.{free, packets_of, waits_of, unused_of, table_of, taken_of, take_of}
 use Rattle.port.specs.places.Table.{only_packet}
 use Rattle.port.proofs.places.Tests.{sound_below}
 use Rattle.port.proofs.places.First.{counted, both-on, pick_true}

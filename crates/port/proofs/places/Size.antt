@@ -1,14 +1,13 @@
 -- A table that is owned has 128 places. Assumes nothing.
 use Prim.Native.Nat.{ℕ}
-use mathlib.Core.Path.{◌≡◌, refl, sym, ◌∙◌}
+use mathlib.Core.Path.{◌≡◌, refl}
 use mathlib.Core.List.{List}
 use mir.Val.{Val}
-use lib.ListN.{length, length-map}
+use lib.ListN.{length}
 use denote.Laws.{Is}
 use denote.Struct.Laws as LL
 use Rattle.definition.specs.declared.Place.{Place}
 use Rattle.definition.specs.declared.Places.{Places}
-use Rattle.definition.specs.contracts.Place as P
 use Rattle.definition.specs.contracts.Places as T
 use Rattle.definition.proofs.Places.TheLaws as T'
 

@@ -3,16 +3,16 @@ use Prim.Native.Nat.{ℕ, ◌<◌}
 use mathlib.Core.Path.{◌≡◌, refl, sym, ap, ◌∙◌}
 use mathlib.Core.Bool.{Bool, true, false, not, false≢true}
 use mathlib.Core.Logic.{⊎_elim}
-use mathlib.Core.List.{List, [], ◌∷◌, ◌++◌, map, reverse}
+use mathlib.Core.List.{List, [], ◌∷◌}
 use native.Mathlib.Omega.{arith}
-use lib.ListN.{length, take, drop, get_or, set}
+use lib.ListN.{length, get_or, set}
 use lib.Dec.{eqb}
-use borrow.Author.Tests.{eqb-true, eqb-false}
+use borrow.Author.Tests.{eqb-true}
 use Rattle.definition.specs.Status.{pick, ◌and◌}
 use Rattle.endpoint.proofs.answer.Chains.{both}
 use Rattle.definition.specs.declared.Place.{Place}
 use Rattle.definition.specs.declared.Places.{Places}
-use Rattle.definition.specs.Port.{filter, free, used, sound, packets_of, waits_of, unused_of, table_of, observe, fires, fired, kept, fired_of, change_of}
+use Rattle.definition.specs.Port.{filter, free, sound, packets_of, waits_of, unused_of, table_of, observe, fires, fired, kept, fired_of, change_of}
 use Rattle.definition.specs.Signal.{changed_word}
 use Rattle.port.specs.places.Table.{only_wait}
 use Rattle.port.proofs.places.Lists.{either}

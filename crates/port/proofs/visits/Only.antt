@@ -3,11 +3,10 @@ use Prim.Native.Nat.{ℕ}
 use mathlib.Core.Path.{◌≡◌, refl, sym, ap, ◌∙◌, subst}
 use mathlib.Core.Bool.{Bool, true, false, not}
 use mathlib.Core.Logic.{◌⊎◌, inl, inr}
-use lib.ListN.{length, get_or, set, length-set}
+use lib.ListN.{length, get_or, length-set}
 use lib.Dec.{eqb}
 use Rattle.definition.specs.Status.{pick, ◌and◌}
 use Rattle.definition.specs.Signal.{changed_word}
-use Rattle.definition.specs.declared.Place.{Place}
 use Rattle.definition.specs.declared.Places.{Places}
 use Rattle.definition.specs.Port.{free, fires}
 use Rattle.port.specs.places.Table.{only_wait}

@@ -10,7 +10,7 @@ use native.Mathlib.Numerals.{add-one}
 use lib.Dec.{ltb, leb, lit≤}
 use lib.ListN.{length, get_or, take, drop, set, length-append, length-take, length-drop, get_or-append}
 use lib.Seq.{paste, paste-zero, length-paste, get_or-take, get_or-drop, take-take, set_split}
-use borrow.Author.Tests.{lt-ltb, le-ltb, le-leb, ltb-true, leb-true}
+use borrow.Author.Tests.{lt-ltb, le-leb, ltb-true, leb-true}
 use Rattle.definition.specs.Status.{pick, ◌and◌}
 use Rattle.definition.specs.Ring.{position, front, put}
 use Rattle.ring.proofs.place.Laws.{place_low, place_high}

@@ -1,12 +1,12 @@
 -- Facts of lists over any element: one entry of `++` and of `paste`, equality by entries, and a copy to a part of a list. Assumes nothing.
 use Prim.Native.Nat.{ℕ, ◌+◌, ◌-◌, ◌≤◌, ◌<◌}
 use mathlib.Core.Path.{◌≡◌, refl, sym, ap, ◌∙◌, subst}
-use mathlib.Core.List.{List, [], ◌∷◌, ◌++◌, append_assoc, append-nil}
+use mathlib.Core.List.{List, [], ◌∷◌, ◌++◌, append_assoc}
 use native.Mathlib.Omega.{arith}
 use native.Mathlib.Decide.{dec_le}
 use native.Mathlib.Nat.{lt_of_not-le, le_refl, zero-add, sub-zero}
-use lib.ListN.{length, get_or, take, drop, length-append, length-take, length-drop, get_or-append, drop_of_length-le, take-append-drop}
-use lib.Seq.{paste, drop-append-le, take-append-le, get_or-take, get_or-drop, get_or-append-add, ext_get_or, take-length, take_all, take-add, take-append_seam, drop-append-add, take-paste, drop-paste, take-take, drop-drop}
+use lib.ListN.{length, get_or, take, drop, length-append, length-take, length-drop, get_or-append, take-append-drop}
+use lib.Seq.{paste, drop-append-le, take-append-le, get_or-take, get_or-drop, get_or-append-add, ext_get_or, take-length, take-add, take-append_seam, drop-append-add, take-paste, drop-paste, take-take, drop-drop}
 
 -- one order of two numbers or the other
 pub split {ℓ} : {X : Type ℓ} (a b : ℕ) → (a ≤ b → X) → (b < a → X) → X

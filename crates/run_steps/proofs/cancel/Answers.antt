@@ -1,4 +1,3 @@
-use borrow.Author.Rules.{rules}
 use Rattle.definition_runs.specs.Run.{did_cancel}
 use Rattle.run_steps.proofs.cancel.Goals as goal
 

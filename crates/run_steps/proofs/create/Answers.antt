@@ -1,4 +1,3 @@
-use borrow.Author.Rules.{rules}
 use Rattle.definition_runs.specs.Run.{run}
 use Rattle.run_steps.proofs.create.Goals as goal
 

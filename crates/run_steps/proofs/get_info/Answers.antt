@@ -1,4 +1,3 @@
-use borrow.Author.Rules.{rules}
 use Rattle.definition_runs.specs.Run.{did_info}
 use Rattle.run_steps.proofs.Lent.{tables}
 use Rattle.run_steps.proofs.get_info.Goals as goal

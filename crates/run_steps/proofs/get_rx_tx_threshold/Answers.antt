@@ -1,4 +1,3 @@
-use borrow.Author.Rules.{rules}
 use Rattle.definition_runs.specs.Run.{did_thresholds}
 use Rattle.run_steps.proofs.get_rx_tx_threshold.Goals as goal
 

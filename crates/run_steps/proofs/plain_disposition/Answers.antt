@@ -1,4 +1,3 @@
-use borrow.Author.Rules.{rules}
 use Rattle.definition_runs.specs.Run.{did_plain_dispose}
 use Rattle.run_steps.proofs.Numbered.{steps_numbered}
 use Rattle.run_steps.proofs.plain_disposition.Goals as goal

@@ -1,4 +1,3 @@
-use borrow.Author.Rules.{rules}
 use Rattle.run_steps.proofs.Lent.{in_whole}
 use Rattle.run_steps.proofs.read.Goals as goal
 

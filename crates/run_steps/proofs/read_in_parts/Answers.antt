@@ -1,7 +1,6 @@
 use mathlib.Core.Path.{refl}
 use Rattle.endpoint.proofs.answer.Rules.{pick-on, pick_off, via}
 use Rattle.syscall.proofs.Calls.{count-after}
-use borrow.Author.Rules.{rules}
 use Rattle.run_steps.proofs.Lent.{in_parts}
 use Rattle.run_steps.proofs.read_in_parts.Goals as goal
 

@@ -1,4 +1,3 @@
-use borrow.Author.Rules.{rules}
 use Rattle.definition_runs.specs.Run.{did_dispose}
 use Rattle.run_steps.proofs.set_disposition.Goals as goal
 

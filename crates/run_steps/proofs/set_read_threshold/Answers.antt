@@ -1,4 +1,3 @@
-use borrow.Author.Rules.{rules}
 use Rattle.definition_runs.specs.Run.{did_read_threshold}
 use Rattle.run_steps.proofs.set_read_threshold.Goals as goal
 

@@ -1,4 +1,3 @@
-use borrow.Author.Rules.{rules}
 use Rattle.definition_runs.specs.Run.{did_take}
 use Rattle.run_steps.proofs.take.Goals as goal
 

@@ -1,4 +1,3 @@
-use borrow.Author.Rules.{rules}
 use Rattle.definition_runs.specs.Run.{did_wait}
 use Rattle.run_steps.proofs.wait.Goals as goal
 

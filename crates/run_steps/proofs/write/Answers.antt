@@ -1,4 +1,3 @@
-use borrow.Author.Rules.{rules}
 use Rattle.definition_runs.specs.Run.{did_write}
 use Rattle.run_steps.proofs.Lent.{rings, tables}
 use Rattle.run_steps.proofs.write.Goals as goal

@@ -1,5 +1,5 @@
 -- What a call says is what its definition says. Assumes nothing.
-use Prim.Native.Nat.{ℕ, ◌-◌, ◌≤◌}
+use Prim.Native.Nat.{ℕ, ◌-◌}
 use mathlib.Core.Path.{◌≡◌, refl, sym, ap, ◌∙◌}
 use mathlib.Core.Bool.{true, false}
 use mathlib.Core.List.{List}
@@ -18,7 +18,7 @@ use Rattle.definition.specs.Tests.{first_length}
 use Rattle.definition.specs.Memory.{count_landed}
 use Rattle.definition_script.specs.declared.TransferBody.{TransferBody}
 use Rattle.definition_script.specs.Record.{eight, transfer_of, is_body}
-use Rattle.definition_script.specs.Call.{BASE, fill_answer, filled, Called, write_answer_of, write_leaves, write_call, read_answer_of, read_leaves, read_call, fill_call, Rings, own_ring, own_table, peer_ring, peer_table, with_peer_rings, control_step, control_call, call_of}
+use Rattle.definition_script.specs.Call.{BASE, fill_answer, filled, write_answer_of, write_leaves, write_call, read_answer_of, read_leaves, read_call, fill_call, Rings, own_ring, own_table, peer_ring, peer_table, with_peer_rings, control_step, control_call, call_of}
 use Rattle.script_call.proofs.fill.Fills.{never}
 use Rattle.script_call.specs.call.CallDone.{CallDone}
 use Rattle.script_call.proofs.plain_call.Steps.{mk, same_step}

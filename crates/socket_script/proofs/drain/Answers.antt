@@ -1,5 +1,5 @@
 -- Each call of `advance` leaves less to do and takes bytes, but the last, after which no move is left.
-use Rattle.std.proofs.Common.{arith, ◌≡◌, ◌≤◌, length, take, refl, ◌∙◌}
+use Rattle.std.proofs.Common.{arith, ◌≤◌, length, take, refl, ◌∙◌}
 use Rattle.definition_script.specs.Call.{rings}
 use Rattle.definition_script.specs.Listing.{machine}
 use Rattle.buffer.specs.blocks.Drain.{held, none, more}

@@ -1,5 +1,5 @@
 -- The header is made, then each block that is read is fed, and what the loop stops at makes the whole a run.
-use Rattle.std.proofs.Common.{arith, ◌≡◌, ◌≤◌, ◌<◌, ◌+◌, ◌-◌, ℕ, length, refl, sym, ap, ◌∙◌}
+use Rattle.std.proofs.Common.{arith, ◌≡◌, ◌≤◌, ◌<◌, ◌+◌, ◌-◌, ℕ, refl, sym, ap, ◌∙◌}
 use Rattle.feed.specs.Turn.{LIMIT}
 use Rattle.definition_script.specs.Call.{rings}
 use Rattle.definition_script.specs.Listing.{start_state}

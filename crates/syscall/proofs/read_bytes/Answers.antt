@@ -1,6 +1,5 @@
 use Rattle.socket.proofs.Visiting.{places_128}
 use Rattle.syscall.proofs.Settled.{bytes_whole}
-use borrow.Author.Rules.{rules}
 use Rattle.syscall.proofs.read_bytes.Goals as goal
 
 pub returns : goal.returns

@@ -1,6 +1,5 @@
 use Rattle.socket.proofs.Visiting.{places_128}
 use Rattle.syscall.proofs.Settled.{wrote-whole}
-use borrow.Author.Rules.{rules}
 use Rattle.syscall.proofs.write.Goals as goal
 
 pub returns : goal.returns

@@ -1,4 +1,3 @@
-use borrow.Author.Rules.{rules}
 use borrow.Author.Tests.{lt-ltb, le-ltb}
 use Rattle.definition.specs.Status.{pick}
 use Rattle.definition_script.specs.Line.{digit_of}

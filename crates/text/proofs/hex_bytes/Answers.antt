@@ -1,4 +1,3 @@
-use borrow.Author.Rules.{rules}
 use native.Mathlib.Omega.{arith}
 use Rattle.text.proofs.Place.{no_room, had_room}
 use Rattle.text.proofs.hex_bytes.Goals as goal

@@ -1,4 +1,3 @@
-use borrow.Author.Rules.{rules}
 use Rattle.text.proofs.Place.{seq}
 use Rattle.text.proofs.negative.Goals as goal
 

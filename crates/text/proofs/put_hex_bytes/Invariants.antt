@@ -1,13 +1,7 @@
-use Prim.Native.Nat.{ℕ, ◌+◌, ◌-◌, ◌*◌, ◌/◌, ◌≤◌}
-use borrow.Author.Rules.{rules}
-use lib.ListN.{length, take, get_or, set, length-set}
-use lib.Seq.{take-length}
-use mathlib.Core.List.{List}
-use mathlib.Core.Path.{◌≡◌, sym, ap, ◌∙◌}
-use native.Mathlib.Omega.{arith}
-use Rattle.text.proofs.Place.{place_none}
-use Rattle.text.proofs.Spelling.{hex_bytes-length, hex_bytes_turn}
-use Rattle.definition_script.specs.Line.{digit_of, hex_bytes_of}
+use Prim.Native.Nat.{◌+◌, ◌-◌, ◌*◌, ◌≤◌}
+use lib.ListN.{length, take}
+use mathlib.Core.Path.{◌≡◌}
+use Rattle.definition_script.specs.Line.{hex_bytes_of}
 use Rattle.definition_script.specs.Call.{written_at}
 use Rattle.text.proofs.put_hex_bytes.Given as goal
 

@@ -1,4 +1,3 @@
-use borrow.Author.Rules.{rules}
 use Rattle.definition.specs.Status.{status_number}
 use Rattle.text.proofs.status_number.Goals as goal
 

@@ -1,4 +1,3 @@
-use borrow.Author.Rules.{rules}
 use Rattle.text.proofs.Place.{seq, no_room, had_room}
 use Rattle.definition_script.specs.Line.{stop_of}
 use Rattle.text.proofs.stop.Goals as goal

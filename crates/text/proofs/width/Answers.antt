@@ -1,10 +1,10 @@
-use Prim.Native.Nat.{◌+◌, ◌-◌, ◌≤◌}
+use Prim.Native.Nat.{◌+◌, ◌-◌}
 use borrow.Author.Rules.{rules}
 use borrow.Author.Tests.{leb-true, leb-false}
 use mathlib.Core.Path.{◌≡◌}
 use native.Mathlib.Omega.{arith}
 use Rattle.text.proofs.Spelling.{width_more, width_one}
-use Rattle.definition_script.specs.Line.{width_by, width_of}
+use Rattle.definition_script.specs.Line.{width_of}
 use Rattle.text.proofs.width.Goals as goal
 
 pub loop-k-init : goal.loop-k-init

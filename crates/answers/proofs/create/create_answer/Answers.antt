@@ -1,6 +1,5 @@
 use Rattle.endpoint.proofs.answer.Rules.{chain}
 use Rattle.definition.specs.Create.{create_answer}
-use borrow.Author.Rules.{rules}
 use Rattle.answers.proofs.create.create_answer.Goals as goal
 
 pub returns-then-not-is_done : goal.returns-then-not-is_done

@@ -1,5 +1,4 @@
 use mathlib.Core.Path.{refl}
-use borrow.Author.Rules.{rules}
 use borrow.Author.Tests.{lt-ltb, le-ltb}
 use Rattle.endpoint.proofs.answer.Rules.{pick-on, pick_off}
 use Rattle.answers.specs.create.Held.{held_rights}

@@ -1,7 +1,6 @@
 use Rattle.endpoint.proofs.answer.Rules.{via_not, via_not-not, then_stop, then_go}
 use Rattle.definition.specs.Read.{read_answer}
 use Rattle.definition.specs.Tests.{lent_of}
-use borrow.Author.Rules.{rules}
 use Rattle.answers.proofs.read.read_answer.Goals as goal
 
 pub returns-then-not-is_done : goal.returns-then-not-is_done

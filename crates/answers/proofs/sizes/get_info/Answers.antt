@@ -1,5 +1,4 @@
 use Rattle.definition.specs.Info.{info_of}
-use borrow.Author.Rules.{rules}
 use Rattle.answers.proofs.sizes.get_info.Goals as goal
 
 pub returns : goal.returns

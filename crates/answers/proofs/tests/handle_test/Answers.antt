@@ -1,6 +1,5 @@
 use Rattle.endpoint.proofs.answer.Rules.{chain}
 use Rattle.definition.specs.Tests.{handle_test}
-use borrow.Author.Rules.{rules}
 use Rattle.answers.proofs.tests.handle_test.Goals as goal
 
 pub returns-then-not-is_open : goal.returns-then-not-is_open

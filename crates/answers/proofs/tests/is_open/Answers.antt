@@ -1,7 +1,6 @@
 use mathlib.Core.Path.{refl}
 use Rattle.endpoint.proofs.answer.Rules.{chain, and-on}
 use Rattle.definition.specs.Tests.{is_open}
-use borrow.Author.Rules.{rules}
 use Rattle.answers.proofs.tests.is_open.Goals as goal
 
 pub returns-then-not-is_handle : goal.returns-then-not-is_handle

@@ -1,6 +1,5 @@
 use Rattle.endpoint.proofs.answer.Rules.{chain}
 use Rattle.definition.specs.Tests.{sound_ends}
-use borrow.Author.Rules.{rules}
 use Rattle.answers.proofs.tests.is_sound.Goals as goal
 
 pub returns-then-p-le0 : goal.returns-then-p-le0

@@ -1,6 +1,5 @@
 use Rattle.endpoint.proofs.answer.Rules.{via_not, via_not-not, then_stop, then_go}
 use Rattle.definition.specs.Tests.{opening_test}
-use borrow.Author.Rules.{rules}
 use Rattle.answers.proofs.tests.opening_test.Goals as goal
 
 pub returns-then-not-is_done : goal.returns-then-not-is_done

@@ -1,6 +1,5 @@
 use Rattle.endpoint.proofs.answer.Rules.{chain}
 use Rattle.definition.specs.Tests.{sound_test}
-use borrow.Author.Rules.{rules}
 use Rattle.answers.proofs.tests.sound_test.Goals as goal
 
 pub returns-then-not-is_sound : goal.returns-then-not-is_sound

@@ -1,6 +1,5 @@
 use Rattle.endpoint.proofs.answer.Rules.{chain, pick-on, refuse_off, refuse_last, pass_last}
 use Rattle.definition.specs.Tests.{table_test, lent_of}
-use borrow.Author.Rules.{rules}
 use Rattle.answers.proofs.tests.table_test.Goals as goal
 
 pub returns-then-not-is_handle : goal.returns-then-not-is_handle

@@ -1,6 +1,5 @@
 use Rattle.endpoint.proofs.answer.Rules.{chain, via_not, via_not-not, then_stop, then_go}
 use Rattle.definition.specs.Threshold.{read_threshold_answer}
-use borrow.Author.Rules.{rules}
 use Rattle.answers.proofs.threshold.read_threshold_answer.Goals as goal
 
 pub returns-then-not-is_done : goal.returns-then-not-is_done

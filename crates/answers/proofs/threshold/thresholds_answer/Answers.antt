@@ -4,7 +4,6 @@ use mathlib.Core.Path.{ap}
 use Rattle.definition.specs.declared.Record.TheVariants.{Limits}
 use Rattle.definition.specs.declared.Answer.TheVariants.{Done}
 use Rattle.definition.specs.declared.Endpoint.{Endpoint}
-use borrow.Author.Rules.{rules}
 use Rattle.answers.proofs.threshold.thresholds_answer.Goals as goal
 
 pub returns-then-not-is_done : goal.returns-then-not-is_done

@@ -3,7 +3,6 @@ use mathlib.Core.Path.{refl}
 use native.Mathlib.Omega.{arith}
 use Rattle.endpoint.proofs.answer.Rules.{refuse_on, refuse_off}
 use Rattle.definition.specs.Write.{datagram_size}
-use borrow.Author.Rules.{rules}
 use Rattle.answers.proofs.write_size.datagram_size.Goals as goal
 
 pub returns-then-capacity-n : goal.returns-then-capacity-n

@@ -1,4 +1,3 @@
-use borrow.Author.Rules.{rules}
 use mathlib.Core.Path.{ap, ◌∙◌}
 use Rattle.definition_script.specs.declared.ScriptState.{ScriptState}
 use Rattle.buffer.specs.declared.buffer.Progress.{Progress}

@@ -1,7 +1,6 @@
-use Prim.Native.Nat.{◌+◌, ◌-◌, ◌≤◌}
+use Prim.Native.Nat.{◌+◌}
 use borrow.Author.Rules.{rules}
-use lib.ListN.{length, take, drop, get_or}
-use mathlib.Core.Path.{◌≡◌}
+use lib.ListN.{get_or}
 use native.Mathlib.Omega.{arith}
 use Rattle.buffer.proofs.shift.Shifts.{shift_take, shift_drop, shift_all}
 use Rattle.buffer.proofs.shift.move_front.Goals as goal

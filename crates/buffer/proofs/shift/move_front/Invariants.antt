@@ -1,9 +1,6 @@
 use Prim.Native.Nat.{◌+◌, ◌-◌, ◌≤◌}
-use borrow.Author.Rules.{rules}
-use lib.ListN.{length, take, drop, get_or}
+use lib.ListN.{length, take, drop}
 use mathlib.Core.Path.{◌≡◌}
-use native.Mathlib.Omega.{arith}
-use Rattle.buffer.proofs.shift.Shifts.{shift_take, shift_drop, shift_all}
 use Rattle.buffer.proofs.shift.move_front.Given as goal
 
 abbrev pub invariant-loop-i : goal.invariant-loop-i

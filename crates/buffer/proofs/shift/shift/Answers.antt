@@ -1,4 +1,3 @@
-use borrow.Author.Rules.{rules}
 use borrow.Author.Tests.{le-leb, lt-leb}
 use Rattle.buffer.specs.shift.Shift.{shifted}
 use Rattle.definition.specs.Status.{pick, ◌and◌}

@@ -1,5 +1,4 @@
 use mathlib.Core.Path.{◌∙◌}
-use borrow.Author.Rules.{rules}
 use Rattle.definition.specs.Status.{pick}
 use Rattle.control.proofs.ends.Parts.{none_kept}
 use Rattle.control.proofs.disposition.own_moved.Goals as goal

@@ -1,5 +1,4 @@
 use Rattle.definition.specs.Threshold.{write_threshold_effect}
-use borrow.Author.Rules.{rules}
 use Rattle.control.proofs.threshold.write_threshold_moved.Goals as goal
 
 pub returns : goal.returns

@@ -1,5 +1,4 @@
 use Rattle.definition.specs.Status.{count_of, record_count}
-use borrow.Author.Rules.{rules}
 use Rattle.endpoint.proofs.answer.count_of.Goals as goal
 
 pub returns-in-Empty : goal.returns-in-Empty

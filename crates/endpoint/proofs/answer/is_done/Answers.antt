@@ -1,5 +1,4 @@
 use Rattle.definition.specs.Status.{is_done}
-use borrow.Author.Rules.{rules}
 use Rattle.endpoint.proofs.answer.is_done.Goals as goal
 
 pub returns-in-Done : goal.returns-in-Done

@@ -2,7 +2,6 @@ use Rattle.definition.specs.Status.{answer_word, record_count, status_number}
 use mir.ValLaws.{to_z_pos}
 use mir.Syntax.{w64}
 use native.Mathlib.Omega.{arith}
-use borrow.Author.Rules.{rules}
 use Rattle.endpoint.proofs.answer.word.Goals as goal
 
 pub returns-in-Empty : goal.returns-in-Empty

@@ -1,5 +1,4 @@
 use Rattle.definition.specs.Disposition.{enables}
-use borrow.Author.Rules.{rules}
 use Rattle.endpoint.proofs.end.enables.Goals as goal
 
 pub returns-in-Unchanged : goal.returns-in-Unchanged

@@ -2,7 +2,6 @@ use lib.ListN.{get_or-eq_default}
 use Rattle.definition.specs.Status.{pick}
 use Rattle.endpoint.proofs.answer.Rules.{via_not, via_not-not}
 use Rattle.definition.specs.Tests.{first_length}
-use borrow.Author.Rules.{rules}
 use Rattle.endpoint.proofs.end.first_length.Goals as goal
 
 pub returns-then-not-has_length : goal.returns-then-not-has_length

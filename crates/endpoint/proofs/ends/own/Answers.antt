@@ -3,7 +3,6 @@ use mathlib.Core.Bool.{Bool, true, false}
 use Rattle.definition.specs.Status.{pick}
 use Rattle.definition.specs.declared.Ends.{Ends}
 use Rattle.definition.specs.Pair.{own}
-use borrow.Author.Rules.{rules}
 use Rattle.endpoint.proofs.ends.own.Goals as goal
 
 as_own : (t : Bool) (e : Ends) → pick t e.one e.two ≡ own t e

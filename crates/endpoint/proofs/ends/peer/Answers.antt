@@ -3,7 +3,6 @@ use mathlib.Core.Bool.{Bool, true, false}
 use Rattle.definition.specs.Status.{pick}
 use Rattle.definition.specs.declared.Ends.{Ends}
 use Rattle.definition.specs.Pair.{peer}
-use borrow.Author.Rules.{rules}
 use Rattle.endpoint.proofs.ends.peer.Goals as goal
 
 as_peer : (t : Bool) (e : Ends) → pick t e.two e.one ≡ peer t e

@@ -1,4 +1,3 @@
-use borrow.Author.Rules.{rules}
 use mathlib.Core.Bool.{false}
 use mathlib.Core.Path.{ap}
 use Rattle.definition.specs.Status.{is_done, refuse_if, ◌then◌, pick}

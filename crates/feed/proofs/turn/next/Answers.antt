@@ -1,4 +1,3 @@
-use borrow.Author.Rules.{rules}
 use mathlib.Core.Path.{sym, ◌∙◌}
 use Rattle.definition_script.specs.declared.Decoded.TheVariants.{Whole, Bad, Cut}
 use Rattle.feed.proofs.Turns.{next_ended, next-from, next_misplaced, next-placed}

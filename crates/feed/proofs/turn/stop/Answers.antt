@@ -1,6 +1,5 @@
 use Rattle.definition_script.specs.Listing.{stopped_state}
 use mathlib.Core.Path.{refl}
-use borrow.Author.Rules.{rules}
 use Rattle.feed.proofs.turn.stop.Goals as goal
 
 pub returns : goal.returns

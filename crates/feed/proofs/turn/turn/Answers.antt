@@ -1,4 +1,3 @@
-use borrow.Author.Rules.{rules}
 use lib.ListN.{take, drop}
 use native.Mathlib.Omega.{arith}
 use Rattle.definition_script.specs.Call.{rings}

@@ -6,7 +6,7 @@ use Rattle.kept.proofs.pair.Stored.{settled_as}
 use Rattle.syscall.proofs.Controlled.{shutdown-whole}
 use borrow.Author.Rules.{rules}
 use mathlib.Core.Path.{subst}
-use mathlib.Core.Path.{◌≡◌, ◌∙◌, ap, sym, subst}
+use mathlib.Core.Path.{subst}
 use Rattle.host.proofs.memory.murgwethan_user_shutdown.Goals as goal
 
 pub returns : goal.returns

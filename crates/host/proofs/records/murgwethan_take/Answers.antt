@@ -1,6 +1,5 @@
 use Rattle.socket.proofs.Waits.{take_steps}
 use borrow.Author.Rules.{rules}
-use mathlib.Core.Path.{◌≡◌}
 use Rattle.host.proofs.records.murgwethan_take.Goals as goal
 
 pub returns : goal.returns

@@ -1,6 +1,5 @@
 use mathlib.Core.Path.{refl}
 use Rattle.definition_runs.specs.Exported.{array_of, packet_numbers}
-use borrow.Author.Rules.{rules}
 use Rattle.host.proofs.values.put_packet.Goals as goal
 
 pub returns-in-Empty : goal.returns-in-Empty

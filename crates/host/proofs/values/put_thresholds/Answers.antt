@@ -1,6 +1,5 @@
 use mathlib.Core.Path.{refl}
 use Rattle.definition_runs.specs.Exported.{array_of, threshold_numbers}
-use borrow.Author.Rules.{rules}
 use Rattle.host.proofs.values.put_thresholds.Goals as goal
 
 pub returns-in-Empty : goal.returns-in-Empty

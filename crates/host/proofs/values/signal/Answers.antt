@@ -6,7 +6,6 @@ use mir.Syntax.{w64}
 use native.Mathlib.Omega.{arith}
 use Rattle.endpoint.proofs.answer.Rules.{via_not, via_not-not}
 use Rattle.host.proofs.values.Worded.{word_back, refused-number, shown-number}
-use borrow.Author.Rules.{rules}
 use Rattle.host.proofs.values.signal.Goals as goal
 
 pub returns-then-not-is_done : goal.returns-then-not-is_done

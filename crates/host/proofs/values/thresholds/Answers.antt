@@ -1,5 +1,4 @@
 use Rattle.host.proofs.values.Recorded.{recorded}
-use borrow.Author.Rules.{rules}
 use Rattle.host.proofs.values.thresholds.Goals as goal
 
 pub returns : goal.returns

@@ -1,5 +1,3 @@
-use mathlib.Core.Path.{◌≡◌, refl, sym, ap, ◌∙◌}
-use borrow.Author.Rules.{rules}
 use Rattle.kept.proofs.transferred.end_with.Goals as goal
 
 pub returns : goal.returns

@@ -1,4 +1,3 @@
-use borrow.Author.Rules.{rules}
 use Rattle.kept.specs.transferred.Transferred.{read_without_visit}
 use Rattle.kept.proofs.transferred.is_read_without_visit.Goals as goal
 

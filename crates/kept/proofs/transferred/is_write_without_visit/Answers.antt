@@ -1,4 +1,3 @@
-use borrow.Author.Rules.{rules}
 use Rattle.kept.specs.transferred.Transferred.{write_without_visit}
 use Rattle.kept.proofs.transferred.is_write_without_visit.Goals as goal
 

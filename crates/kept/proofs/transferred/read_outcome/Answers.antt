@@ -1,4 +1,3 @@
-use borrow.Author.Rules.{rules}
 use Rattle.kept.proofs.transferred.read_outcome.Goals as goal
 
 pub returns : goal.returns

@@ -1,7 +1,6 @@
-use mathlib.Core.Path.{◌≡◌, refl, sym, ap, ◌∙◌}
+use mathlib.Core.Path.{refl}
 use Rattle.socket.specs.Deferred.{with_ends}
 use Rattle.kept.specs.transferred.Transferred.{transferred_pair}
-use borrow.Author.Rules.{rules}
 use Rattle.kept.proofs.transferred.with_transfer.Goals as goal
 
 pub returns : goal.returns

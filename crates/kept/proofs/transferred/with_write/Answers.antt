@@ -1,6 +1,5 @@
-use mathlib.Core.Path.{◌≡◌, refl, sym, ap, ◌∙◌}
+use mathlib.Core.Path.{◌∙◌}
 use Rattle.kept.proofs.transferred.NoVisit.{transferred_wrote}
-use borrow.Author.Rules.{rules}
 use Rattle.kept.proofs.transferred.with_write.Goals as goal
 
 pub returns : goal.returns

@@ -1,4 +1,3 @@
-use borrow.Author.Rules.{rules}
 use Rattle.kept.proofs.transferred.write_outcome.Goals as goal
 
 pub returns : goal.returns

@@ -1,5 +1,4 @@
 use Rattle.line.proofs.call_line.Lines.{call_line}
-use borrow.Author.Rules.{rules}
 use Rattle.line.proofs.call_line.print.Goals as goal
 
 pub returns : goal.returns

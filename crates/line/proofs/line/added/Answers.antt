@@ -1,4 +1,3 @@
-use borrow.Author.Rules.{rules}
 use Rattle.definition_script.specs.Line.{added_text}
 use Rattle.text.proofs.Place.{nothing}
 use Rattle.line.proofs.line.added.Goals as goal

@@ -1,4 +1,3 @@
-use borrow.Author.Rules.{rules}
 use native.Mathlib.Omega.{arith}
 use Rattle.line.proofs.line.Lines.{bytes-none, bytes-some}
 use Rattle.text.proofs.Place.{seq, up_to, nothing, same}

@@ -1,4 +1,3 @@
-use borrow.Author.Rules.{rules}
 use native.Mathlib.Omega.{arith}
 use Rattle.definition_script.specs.Line.{record_text}
 use Rattle.text.proofs.Place.{up_to, nothing}

@@ -1,4 +1,3 @@
-use borrow.Author.Rules.{rules}
 use Rattle.definition_script.specs.Line.{hex_text}
 use Rattle.text.proofs.Place.{seq}
 use Rattle.line.proofs.line.hex.Goals as goal

@@ -1,4 +1,3 @@
-use borrow.Author.Rules.{rules}
 use native.Mathlib.Omega.{arith}
 use Rattle.line.proofs.line.Lines.{too_long, written}
 use Rattle.definition_script.specs.Line.{line_of}

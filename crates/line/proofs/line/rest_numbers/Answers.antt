@@ -1,4 +1,3 @@
-use borrow.Author.Rules.{rules}
 use Rattle.definition_script.specs.Line.{rest_text}
 use Rattle.text.proofs.Place.{seq}
 use Rattle.line.proofs.line.rest_numbers.Goals as goal

@@ -3,7 +3,6 @@ use native.Mathlib.Omega.{arith}
 use mathlib.Core.Path.{refl}
 use Rattle.listing.proofs.listing.Runs.{header-fits, lines_fit, lines-within, closing-fits, out-length, ran}
 use Rattle.definition_script.specs.Call.{rings}
-use borrow.Author.Rules.{rules}
 use Rattle.listing.proofs.listing.run_on.Goals as goal
 
 pub slice_bounds-feed-count : goal.slice_bounds-feed-count

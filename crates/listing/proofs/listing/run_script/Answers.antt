@@ -1,6 +1,5 @@
 -- `run_script` meets its contract: the arrays are those that a script starts with.
 use Rattle.definition_script.specs.Listing.{start_machine}
-use borrow.Author.Rules.{rules}
 use Rattle.listing.proofs.listing.run_script.Goals as goal
 
 pub returns : goal.returns

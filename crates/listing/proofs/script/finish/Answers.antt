@@ -1,4 +1,3 @@
-use borrow.Author.Rules.{rules}
 use Rattle.listing.proofs.script.Closings.{closing-none, closing_over, closing-stop, nothing_put}
 use Rattle.listing.proofs.script.finish.Goals as goal
 

@@ -1,4 +1,3 @@
-use borrow.Author.Rules.{rules}
 use Rattle.definition_script.specs.Listing.{header}
 use Rattle.listing.proofs.script.header.Goals as goal
 

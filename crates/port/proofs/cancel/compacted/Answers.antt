@@ -1,13 +1,12 @@
-use Prim.Native.Nat.{◌+◌, ◌-◌, ◌≤◌, ◌<◌}
+use Prim.Native.Nat.{◌+◌, ◌≤◌, ◌<◌}
 use mathlib.Core.Path.{◌≡◌, refl, sym, ap, ◌∙◌}
 use mathlib.Core.Bool.{not}
-use borrow.Author.Rules.{rules}
 use native.Mathlib.Omega.{arith}
-use lib.ListN.{length, take}
+use lib.ListN.{length}
 use Rattle.definition.specs.Status.{pick}
-use Rattle.definition.specs.Port.{filter, free, used, cancelled_of, matching}
+use Rattle.definition.specs.Port.{free}
 use Rattle.port.proofs.places.Size.{table_128}
-use Rattle.port.proofs.waits.Compact.{Compacted, compact_start, compact_drop, compact_keep}
+use Rattle.port.proofs.waits.Compact.{compact_start, compact_drop, compact_keep}
 use Rattle.port.proofs.cancel.Kept.{keeps, kept-packets, cancelled_as}
 use Rattle.port.proofs.cancel.compacted.Goals as goal
 

@@ -1,14 +1,9 @@
-use Prim.Native.Nat.{◌+◌, ◌-◌, ◌≤◌, ◌<◌}
-use mathlib.Core.Path.{◌≡◌, refl, sym, ap, ◌∙◌}
-use mathlib.Core.Bool.{not}
-use borrow.Author.Rules.{rules}
-use native.Mathlib.Omega.{arith}
+use Prim.Native.Nat.{◌-◌, ◌≤◌, ◌<◌}
+use mathlib.Core.Path.{◌≡◌}
 use lib.ListN.{length, take}
-use Rattle.definition.specs.Status.{pick}
-use Rattle.definition.specs.Port.{filter, free, used, cancelled_of, matching}
-use Rattle.port.proofs.places.Size.{table_128}
-use Rattle.port.proofs.waits.Compact.{Compacted, compact_start, compact_drop, compact_keep}
-use Rattle.port.proofs.cancel.Kept.{keeps, kept-packets, cancelled_as}
+use Rattle.definition.specs.Port.{filter, free}
+use Rattle.port.proofs.waits.Compact.{Compacted}
+use Rattle.port.proofs.cancel.Kept.{keeps}
 use Rattle.port.proofs.cancel.compacted.Given as goal
 
 -- The places below i are visited: those kept stand together from the first on, and the places from n to i are free. Once the packets are visited, m of

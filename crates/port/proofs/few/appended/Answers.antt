@@ -8,7 +8,6 @@ use Rattle.definition.specs.Port.{wait_of, appended_of}
 use Rattle.port.specs.few.Few.{at_most_seven_used}
 use Rattle.port.proofs.places.Size.{table_128}
 use Rattle.port.proofs.few.Whole.{appended_few, room_fits}
-use borrow.Author.Rules.{rules}
 use Rattle.port.proofs.few.appended.Goals as goal
 
 pub overflow_add-out : goal.overflow_add-out

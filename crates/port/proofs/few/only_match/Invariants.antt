@@ -1,11 +1,6 @@
-use Prim.Native.Nat.{ℕ, ◌+◌, ◌-◌, ◌≤◌, ◌<◌}
-use mathlib.Core.Path.{◌≡◌, sym, ◌∙◌, subst}
-use borrow.Author.Rules.{rules}
-use native.Mathlib.Omega.{arith}
-use lib.ListN.{length}
-use Rattle.definition.specs.Port.{free, matches}
-use Rattle.port.proofs.places.Size.{table_128}
-use Rattle.port.proofs.few.Searches.{Found, found-start, found_turn, found_all, at-most-eight, counted-most}
+use Prim.Native.Nat.{◌+◌, ◌≤◌}
+use Rattle.definition.specs.Port.{matches}
+use Rattle.port.proofs.few.Searches.{Found}
 use Rattle.port.proofs.few.only_match.Given as goal
 
 abbrev pub invariant-loop-i : goal.invariant-loop-i

@@ -1,4 +1,3 @@
-use borrow.Author.Rules.{rules}
 use Rattle.port.proofs.few.Chosen.{by_fields}
 use Rattle.port.proofs.few.place_if.Goals as goal
 

@@ -1,15 +1,11 @@
-use Prim.Native.Nat.{◌+◌, ◌-◌, ◌≤◌, ◌<◌}
-use mathlib.Core.Path.{◌≡◌, refl, ◌∙◌}
+use Prim.Native.Nat.{◌-◌, ◌≤◌}
+use mathlib.Core.Path.{◌≡◌}
 use mathlib.Core.List.{◌++◌}
-use borrow.Author.Rules.{rules}
-use native.Mathlib.Omega.{arith}
 use lib.Dec.{ltb}
-use lib.ListN.{length, take, drop}
+use lib.ListN.{take, drop}
 use Rattle.definition.specs.Status.{pick}
 use Rattle.definition.specs.Port.{free}
 use Rattle.port.specs.few.Few.{removed_at}
-use Rattle.port.proofs.places.Size.{table_128, same-places}
-use Rattle.port.proofs.few.Lists.{written_step, written_all, chosen_element, taken_at, taken-size, taken-rest}
 use Rattle.port.proofs.few.removed_at.Given as goal
 
 abbrev pub invariant-loop-i : goal.invariant-loop-i

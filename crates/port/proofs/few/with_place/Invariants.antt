@@ -1,14 +1,9 @@
-use Prim.Native.Nat.{◌+◌, ◌-◌, ◌≤◌, ◌<◌}
-use mathlib.Core.Path.{◌≡◌, refl, ◌∙◌}
+use Prim.Native.Nat.{◌-◌, ◌≤◌}
+use mathlib.Core.Path.{◌≡◌}
 use mathlib.Core.List.{◌++◌}
-use borrow.Author.Rules.{rules}
-use native.Mathlib.Omega.{arith}
 use lib.Dec.{ltb}
-use lib.ListN.{length, take, drop, set}
+use lib.ListN.{take, drop, set}
 use Rattle.definition.specs.Status.{pick}
-use Rattle.definition.specs.Port.{free}
-use Rattle.port.proofs.places.Size.{table_128, same-places}
-use Rattle.port.proofs.few.Lists.{written_step, written_all, put-at, put-size, put_rest}
 use Rattle.port.proofs.few.with_place.Given as goal
 
 abbrev pub invariant-loop-i : goal.invariant-loop-i

@@ -1,7 +1,6 @@
 use Prim.Native.Nat.{◌+◌}
 use Rattle.port.proofs.few.Searches.{at-most-eight}
 use Rattle.port.proofs.few.Whole.{taken_needs, removed_few}
-use borrow.Author.Rules.{rules}
 use Rattle.port.proofs.few.without_place.Goals as goal
 
 pub removed_at-out-requires : goal.removed_at-out-requires

@@ -1,11 +1,6 @@
-use Rattle.definition.specs.Port.{free, waits_of, fires, any_fires}
-use Rattle.port.proofs.firing.Any.{Searched, search_start, search_hit, search_miss, search_none}
-use Rattle.port.proofs.places.Size.{table_128}
-use borrow.Author.Rules.{rules}
-use native.Mathlib.Omega.{arith}
-use Prim.Native.Nat.{◌+◌, ◌-◌}
-use lib.ListN.{length}
-use mathlib.Core.Path.{◌≡◌, sym, ◌∙◌}
+use Rattle.definition.specs.Port.{fires}
+use Rattle.port.proofs.firing.Any.{Searched}
+use Prim.Native.Nat.{◌-◌}
 use Rattle.port.proofs.firing.any_fires.Given as goal
 
 -- No wait below i fires.

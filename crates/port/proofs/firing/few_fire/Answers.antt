@@ -1,4 +1,4 @@
-use Prim.Native.Nat.{ℕ, ◌+◌, ◌-◌, ◌<◌, min}
+use Prim.Native.Nat.{ℕ, ◌+◌, ◌<◌}
 use mathlib.Core.Path.{◌≡◌, sym, ◌∙◌, subst}
 use native.Mathlib.Omega.{arith}
 use lib.ListN.{length}
@@ -7,7 +7,6 @@ use Rattle.endpoint.proofs.answer.Chains.{both}
 use Rattle.definition.specs.Port.{free, waits_of, fires, any_fires}
 use Rattle.port.proofs.places.Size.{table_128}
 use Rattle.port.proofs.firing.Any.{Searched, search_start, search_hit, few_miss, search_none}
-use borrow.Author.Rules.{rules}
 use Rattle.port.proofs.firing.few_fire.Goals as goal
 
 pub loop-i-init : goal.loop-i-init

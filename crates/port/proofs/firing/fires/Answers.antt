@@ -1,5 +1,4 @@
 use Rattle.definition.specs.Status.{◌and◌}
-use borrow.Author.Rules.{rules}
 use borrow.Author.Tests.{leb-true, eqb-true}
 use mathlib.Core.Path.{refl}
 use Rattle.endpoint.proofs.answer.Rules.{via, via_not, via_not-not}

@@ -1,4 +1,3 @@
-use borrow.Author.Rules.{rules}
 use mathlib.Core.Path.{refl, sym, ◌∙◌}
 use Rattle.definition.specs.Status.{◌and◌}
 use Rattle.port.proofs.packets.has_packet.Goals as goal

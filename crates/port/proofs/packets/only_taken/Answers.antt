@@ -1,4 +1,3 @@
-use borrow.Author.Rules.{rules}
 use mathlib.Core.Path.{sym, ◌∙◌}
 use Rattle.port.specs.places.Table.{only_packet}
 use Rattle.port.proofs.places.Size.{table_128}

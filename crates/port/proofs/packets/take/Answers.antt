@@ -1,4 +1,3 @@
-use borrow.Author.Rules.{rules}
 use mathlib.Core.Path.{refl}
 use Rattle.definition.specs.Status.{pick}
 use Rattle.port.proofs.packets.take.Goals as goal

@@ -1,12 +1,11 @@
 use Rattle.definition.specs.Port.{free, packets_of, waits_of, unused_of, table_of, taken_of}
 use Rattle.port.proofs.packets.Operations.{take_possible, take_if_on, take_if_off}
 use Rattle.endpoint.proofs.answer.Rules.{via}
-use Rattle.port.proofs.places.Shift.{ShiftedDown, down_start, down_step, down_all}
+use Rattle.port.proofs.places.Shift.{down_start, down_step, down_all}
 use lib.Seq.{slice, length-slice, length-take-le}
 use lib.ListN.{length-drop, length, take}
 use mathlib.Core.Path.{refl, ◌≡◌, ◌∙◌}
 use Rattle.port.proofs.places.Size.{table_128, same-places}
-use borrow.Author.Rules.{rules}
 use native.Mathlib.Omega.{arith}
 use Prim.Native.Nat.{◌+◌, ◌-◌, ◌≤◌, ◌<◌}
 use Rattle.port.proofs.packets.taken.Goals as goal

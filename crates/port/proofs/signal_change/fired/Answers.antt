@@ -1,10 +1,9 @@
 use Rattle.definition.specs.Status.{pick}
 use Rattle.definition.specs.Port.{free, observe, packets_of, waits_of, unused_of, table_of, fires, fired, kept, fired_of}
-use Rattle.port.proofs.signal_change.Partition.{Partitioned, partition-start, step_hit, step_miss, partition-all, partition-front, partition_back}
+use Rattle.port.proofs.signal_change.Partition.{partition-start, step_hit, step_miss, partition-all, partition-front, partition_back}
 use Rattle.port.proofs.places.Size.{table_128}
-use borrow.Author.Rules.{rules}
 use native.Mathlib.Omega.{arith}
-use Prim.Native.Nat.{◌+◌, ◌-◌, ◌≤◌}
+use Prim.Native.Nat.{◌+◌, ◌≤◌}
 use lib.ListN.{length}
 use mathlib.Core.Path.{◌≡◌, refl, sym, ◌∙◌}
 use Rattle.port.proofs.signal_change.fired.Goals as goal

@@ -1,5 +1,4 @@
-use mathlib.Core.Path.{refl, sym, ◌∙◌}
-use borrow.Author.Rules.{rules}
+use mathlib.Core.Path.{sym, ◌∙◌}
 use Rattle.port.proofs.places.Size.{table_128}
 use Rattle.port.proofs.signal_change.Only.{only_on, only_off}
 use Rattle.port.proofs.signal_change.only_visited.Goals as goal

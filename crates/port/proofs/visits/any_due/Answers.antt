@@ -1,12 +1,10 @@
-use Prim.Native.Nat.{◌-◌}
 use mathlib.Core.Path.{sym, ap, ◌∙◌}
 use native.Mathlib.Omega.{arith}
-use Rattle.port.proofs.firing.Any.{Searched, search_start, search_hit, search_miss, search_none}
+use Rattle.port.proofs.firing.Any.{search_start, search_hit, search_miss, search_none}
 use Rattle.endpoint.specs.declared.ends.Pending.{Pending}
 use Rattle.endpoint.specs.ends.Outcome.{no_visit}
 use Rattle.port.specs.visits.Visits.{changes_of, due}
 use Rattle.port.proofs.visits.Visiting.{all-due}
-use borrow.Author.Rules.{rules}
 use Rattle.port.proofs.visits.any_due.Goals as goal
 
 pub loop-i-init : goal.loop-i-init

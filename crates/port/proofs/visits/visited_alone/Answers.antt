@@ -1,7 +1,6 @@
 use mathlib.Core.Path.{◌∙◌}
 use Rattle.port.proofs.places.Size.{table_128}
 use Rattle.port.proofs.visits.Only.{only_each}
-use borrow.Author.Rules.{rules}
 use Rattle.port.proofs.visits.visited_alone.Goals as goal
 
 pub returns : goal.returns

@@ -1,5 +1,4 @@
 use Rattle.port.specs.visits.Visits.{visited}
-use borrow.Author.Rules.{rules}
 use Rattle.port.proofs.visits.visited_only.Goals as goal
 
 pub returns : goal.returns

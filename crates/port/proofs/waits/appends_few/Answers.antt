@@ -1,6 +1,5 @@
 use Rattle.definition.specs.Status.{◌and◌}
 use mathlib.Core.Path.{refl}
-use borrow.Author.Rules.{rules}
 use Rattle.port.proofs.waits.appends_few.Goals as goal
 
 pub returns-then-fires_at_once : goal.returns-then-fires_at_once

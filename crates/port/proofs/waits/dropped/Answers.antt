@@ -1,12 +1,11 @@
 use Rattle.definition.specs.Status.{pick}
 use Rattle.definition.specs.Port.{filter, free, packets_of, waits_of, unused_of, table_of, of_other, others, dropped_of}
-use Rattle.port.proofs.waits.Compact.{Compacted, compact_start, compact_drop, compact_keep, compact_all, compact_count}
+use Rattle.port.proofs.waits.Compact.{compact_start, compact_drop, compact_keep, compact_all, compact_count}
 use lib.Seq.{slice, length-take-le}
 use mathlib.Core.Path.{refl, sym, ap, ◌∙◌, ◌≡◌}
 use mathlib.Core.Bool.{not}
 use borrow.Author.Tests.{eq-eqb, ne_eqb}
 use Rattle.port.proofs.places.Size.{table_128, same-places}
-use borrow.Author.Rules.{rules}
 use native.Mathlib.Omega.{arith}
 use Prim.Native.Nat.{◌+◌, ◌-◌, ◌≤◌}
 use lib.ListN.{length, take}

@@ -1,9 +1,8 @@
 use Rattle.definition.specs.Status.{pick}
 use Rattle.definition.specs.Port.{free}
-use Rattle.port.proofs.places.Shift.{ShiftedUp, up_start, up_step, up_all}
+use Rattle.port.proofs.places.Shift.{up_start, up_step, up_all}
 use Rattle.port.proofs.waits.Insertion.{index_fits, at_most_one, placed_as}
 use Rattle.port.proofs.places.Size.{table_128, same-places}
-use borrow.Author.Rules.{rules}
 use native.Mathlib.Omega.{arith}
 use Prim.Native.Nat.{◌+◌, ◌≤◌, ◌<◌}
 use lib.ListN.{length}

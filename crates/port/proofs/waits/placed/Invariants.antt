@@ -1,13 +1,5 @@
-use Rattle.definition.specs.Status.{pick}
-use Rattle.definition.specs.Port.{free}
-use Rattle.port.proofs.places.Shift.{ShiftedUp, up_start, up_step, up_all}
-use Rattle.port.proofs.waits.Insertion.{index_fits, at_most_one, placed_as}
-use Rattle.port.proofs.places.Size.{table_128, same-places}
-use borrow.Author.Rules.{rules}
-use native.Mathlib.Omega.{arith}
+use Rattle.port.proofs.places.Shift.{ShiftedUp}
 use Prim.Native.Nat.{◌+◌, ◌≤◌, ◌<◌}
-use lib.ListN.{length}
-use mathlib.Core.Path.{◌≡◌, refl, ◌∙◌}
 use Rattle.port.proofs.waits.placed.Given as goal
 
 -- What stands from i on is one place behind where it was; the others are as they were.

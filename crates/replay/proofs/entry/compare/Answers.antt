@@ -1,10 +1,7 @@
 -- `compare` meets its contract. The invariant: the slices agree at every index below i, which lies within both.
-use Prim.Native.Nat.{ℕ, ◌-◌, ◌≤◌, ◌<◌}
-use mathlib.Core.Path.{◌≡◌}
 use native.Mathlib.Omega.{arith}
 use borrow.Author.Rules.{rules}
 use borrow.Author.Count.{below_more}
-use lib.ListN.{length, get_or}
 use lib.Seq.{ext_get_or}
 use Rattle.replay.proofs.entry.compare.Goals as goal
 

@@ -1,10 +1,6 @@
 use Prim.Native.Nat.{ℕ, ◌-◌, ◌≤◌, ◌<◌}
 use mathlib.Core.Path.{◌≡◌}
-use native.Mathlib.Omega.{arith}
-use borrow.Author.Rules.{rules}
-use borrow.Author.Count.{below_more}
 use lib.ListN.{length, get_or}
-use lib.Seq.{ext_get_or}
 use Rattle.replay.proofs.entry.compare.Given as goal
 
 abbrev pub invariant-loop-i : goal.invariant-loop-i

@@ -1,7 +1,6 @@
 -- `entry_at` meets its contract.
 use native.Mathlib.Omega.{arith}
 use Rattle.replay.proofs.Entries.{cut-second, cut-third}
-use borrow.Author.Rules.{rules}
 use Rattle.replay.proofs.entry.entry_at.Goals as goal
 
 pub returns-in_default : goal.returns-in_default

@@ -1,15 +1,14 @@
 -- `replay_all` meets its contract. The invariant: if as many entries agree as were run, all entries before `at` agree, else the tally holds the first
 -- that does not. An entry takes twelve bytes at least, so that there are no more entries than bytes, and the tally is never full.
-use Prim.Native.Nat.{ℕ, ◌+◌, ◌-◌, ◌≤◌, ◌<◌}
+use Prim.Native.Nat.{ℕ, ◌+◌, ◌<◌}
 use mathlib.Core.List.{List}
 use mathlib.Core.Path.{◌≡◌, refl, ap, ◌∙◌}
 use native.Mathlib.Omega.{arith}
 use borrow.Author.Rules.{rules}
-use lib.ListN.{length}
 use Rattle.report.specs.declared.tally.Comparison.TheVariants.{Agrees}
 use Rattle.report.specs.declared.tally.Tally.{Tally}
 use Rattle.report.proofs.tally.Counts.{counted-small}
-use Rattle.replay.specs.Replay.{AllAgree, none, more, FirstMissed, no_tally, Tallied, begun, next}
+use Rattle.replay.specs.Replay.{none, more, no_tally, Tallied, begun, next}
 use Rattle.replay.proofs.Entries.{counted-total, counted-most, counted-all, none_missed_lem, first_counted}
 use Rattle.replay.proofs.entry.replay_all.Goals as goal
 

@@ -1,14 +1,7 @@
-use Prim.Native.Nat.{ℕ, ◌+◌, ◌-◌, ◌≤◌, ◌<◌}
-use mathlib.Core.List.{List}
-use mathlib.Core.Path.{◌≡◌, refl, ap, ◌∙◌}
-use native.Mathlib.Omega.{arith}
-use borrow.Author.Rules.{rules}
+use Prim.Native.Nat.{◌-◌, ◌≤◌, ◌<◌}
+use mathlib.Core.Path.{◌≡◌}
 use lib.ListN.{length}
-use Rattle.report.specs.declared.tally.Comparison.TheVariants.{Agrees}
-use Rattle.report.specs.declared.tally.Tally.{Tally}
-use Rattle.report.proofs.tally.Counts.{counted-small}
-use Rattle.replay.specs.Replay.{AllAgree, none, more, FirstMissed, no_tally, Tallied, begun, next}
-use Rattle.replay.proofs.Entries.{counted-total, counted-most, counted-all, none_missed_lem, first_counted}
+use Rattle.replay.specs.Replay.{AllAgree, FirstMissed, Tallied}
 use Rattle.replay.proofs.entry.replay_all.Given as goal
 
 abbrev pub invariant-loop-at : goal.invariant-loop-at

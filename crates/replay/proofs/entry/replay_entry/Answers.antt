@@ -7,7 +7,6 @@ use lib.ListN.{length, take, drop, length-take}
 use Rattle.feed.specs.Turn.{LIMIT}
 use Rattle.replay.specs.Entry.{entry_bytes}
 use Rattle.replay.proofs.Entries.{listing-is, agreement}
-use borrow.Author.Rules.{rules}
 use Rattle.replay.proofs.entry.replay_entry.Goals as goal
 
 pub returns-then-out-n-lt8254 : goal.returns-then-out-n-lt8254

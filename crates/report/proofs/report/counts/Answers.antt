@@ -1,5 +1,4 @@
 -- `counts` meets its contract.
-use borrow.Author.Rules.{rules}
 use Rattle.report.specs.report.Report.{counts_text}
 use Rattle.text.proofs.Place.{seq}
 use Rattle.report.proofs.report.counts.Goals as goal

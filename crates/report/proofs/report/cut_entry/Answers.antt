@@ -1,5 +1,4 @@
 -- `cut_entry` meets its contract.
-use borrow.Author.Rules.{rules}
 use Rattle.definition.specs.Status.{pick}
 use Rattle.report.specs.report.Report.{cut_text}
 use Rattle.text.proofs.Place.{nothing}

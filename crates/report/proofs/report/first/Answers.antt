@@ -1,5 +1,4 @@
 -- `first` meets its contract.
-use borrow.Author.Rules.{rules}
 use native.Mathlib.Omega.{arith}
 use Rattle.report.specs.report.Report.{first_text}
 use Rattle.text.proofs.Place.{seq, up_to, nothing}

@@ -1,5 +1,4 @@
 -- `full_buffer` meets its contract.
-use borrow.Author.Rules.{rules}
 use Rattle.definition.specs.Status.{pick}
 use Rattle.report.specs.report.Report.{full_text}
 use Rattle.text.proofs.Place.{nothing}

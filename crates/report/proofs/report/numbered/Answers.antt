@@ -1,5 +1,4 @@
 -- `numbered` meets its contract.
-use borrow.Author.Rules.{rules}
 use Rattle.report.specs.report.Report.{numbered_text}
 use Rattle.text.proofs.Place.{seq}
 use Rattle.report.proofs.report.numbered.Goals as goal

@@ -1,5 +1,4 @@
 -- `report` meets its contract.
-use borrow.Author.Rules.{rules}
 use native.Mathlib.Omega.{arith}
 use Rattle.report.specs.report.Report.{report_text}
 use Rattle.text.proofs.Place.{seq, up_to, no_room, had_room}

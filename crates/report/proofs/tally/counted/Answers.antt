@@ -3,7 +3,6 @@ use mathlib.Core.Path.{refl}
 use Rattle.std.proofs.Common.{inl, inr}
 use Rattle.endpoint.proofs.answer.Rules.{pick-on, pick_off}
 use Rattle.report.proofs.tally.Counts.{full_total, full_agree, not_full, counted_agrees, missed-is}
-use borrow.Author.Rules.{rules}
 use Rattle.report.proofs.tally.counted.Goals as goal
 
 pub returns-then-t-ge9223372036854775808 : goal.returns-then-t-ge9223372036854775808

@@ -1,6 +1,5 @@
 -- `missed` meets its contract.
 use Rattle.report.proofs.tally.Counts.{missed_again, missed_first}
-use borrow.Author.Rules.{rules}
 use Rattle.report.proofs.tally.missed.Goals as goal
 
 pub returns-then-t : goal.returns-then-t

@@ -1,8 +1,8 @@
-use Prim.Native.Nat.{◌+◌, ◌≤◌, ◌-◌}
+use Prim.Native.Nat.{◌+◌}
 use mathlib.Core.Path.{refl, ap, ◌∙◌, ◌≡◌}
 use native.Mathlib.Omega.{arith}
 use lib.ListN.{length}
-use lib.Seq.{paste-zero, length-paste, paste}
+use lib.Seq.{paste-zero, length-paste}
 use Rattle.ring.proofs.copy.Lists.{copied_next}
 use borrow.Author.Rules.{rules}
 use Rattle.ring.proofs.copy.copy.Goals as goal

@@ -1,10 +1,7 @@
-use Prim.Native.Nat.{◌+◌, ◌≤◌, ◌-◌}
-use mathlib.Core.Path.{refl, ap, ◌∙◌, ◌≡◌}
-use native.Mathlib.Omega.{arith}
+use Prim.Native.Nat.{◌≤◌, ◌-◌}
+use mathlib.Core.Path.{◌≡◌}
 use lib.ListN.{length}
-use lib.Seq.{paste-zero, length-paste, paste}
-use Rattle.ring.proofs.copy.Lists.{copied_next}
-use borrow.Author.Rules.{rules}
+use lib.Seq.{paste}
 use Rattle.ring.proofs.copy.copy.Given as goal
 
 abbrev pub invariant-loop-i : goal.invariant-loop-i

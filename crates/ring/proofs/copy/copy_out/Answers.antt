@@ -5,7 +5,6 @@ use borrow.Author.Tests.{le-leb, lt-leb}
 use Rattle.endpoint.proofs.answer.Rules.{pick-on, pick_off, and-on, and_off, via_not, via_not-not}
 use Rattle.ring.specs.copy.Copies.{copied_out}
 use Rattle.ring.proofs.copy.Laws.{fits_facts}
-use borrow.Author.Rules.{rules}
 use Rattle.ring.proofs.copy.copy_out.Goals as goal
 
 pub returns-then-not-fits : goal.returns-then-not-fits

@@ -1,6 +1,5 @@
 use native.Mathlib.Omega.{arith}
 use Rattle.ring.proofs.copy.Parts.{get_parts}
-use borrow.Author.Rules.{rules}
 use Rattle.ring.proofs.copy.get.Goals as goal
 
 pub returns : goal.returns

@@ -1,6 +1,5 @@
 use native.Mathlib.Omega.{arith}
 use Rattle.ring.proofs.copy.Parts.{put_parts}
-use borrow.Author.Rules.{rules}
 use Rattle.ring.proofs.copy.put.Goals as goal
 
 pub returns : goal.returns

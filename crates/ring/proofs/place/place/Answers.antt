@@ -1,7 +1,6 @@
 use mathlib.Core.Path.{sym}
 use native.Mathlib.Omega.{arith}
 use Rattle.ring.proofs.place.Laws.{place_low, place_high}
-use borrow.Author.Rules.{rules}
 use Rattle.ring.proofs.place.place.Goals as goal
 
 pub returns-then-capacity-start : goal.returns-then-capacity-start

@@ -1,4 +1,3 @@
-use borrow.Author.Rules.{rules}
 use mathlib.Core.Path.{refl}
 use native.Mathlib.Omega.{arith}
 use Rattle.script_call.proofs.call.Calls.{write_call_lem, read_call_lem, fill_call_lem, plain_call, fill_done, no_call, made}

@@ -1,7 +1,6 @@
 use Rattle.script_call.proofs.call.Calls.{got}
 use Rattle.script_call.proofs.plain_call.Steps.{own_ring-one, own_ring-two, own_table-one, own_table-two}
 use Rattle.definition_script.specs.Call.{rings}
-use borrow.Author.Rules.{rules}
 use Rattle.script_call.proofs.call.read.Goals as goal
 
 pub returns-then-t-eq1 : goal.returns-then-t-eq1

@@ -1,7 +1,6 @@
 use Rattle.script_call.proofs.call.Calls.{wrote}
 use Rattle.script_call.proofs.plain_call.Steps.{peer_ring-one, peer_ring-two, peer_table-one, peer_table-two, with_peer-one, with_peer-two}
 use Rattle.definition_script.specs.Call.{rings}
-use borrow.Author.Rules.{rules}
 use Rattle.script_call.proofs.call.write.Goals as goal
 
 pub returns-then-t-eq1 : goal.returns-then-t-eq1

@@ -1,4 +1,3 @@
-use borrow.Author.Rules.{rules}
 use borrow.Author.Tests.{eq-eqb, ne_eqb}
 use Rattle.definition_script.specs.Call.{delivered_count}
 use Rattle.definition.specs.Status.{pick}

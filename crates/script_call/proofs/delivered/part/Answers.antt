@@ -1,4 +1,3 @@
-use borrow.Author.Rules.{rules}
 use Rattle.script_call.proofs.delivered.Parts.{part_none, part_over, part_whole}
 use Rattle.script_call.proofs.delivered.part.Goals as goal
 

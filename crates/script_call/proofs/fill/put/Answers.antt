@@ -1,4 +1,3 @@
-use borrow.Author.Rules.{rules}
 use mathlib.Core.Path.{◌∙◌}
 use Rattle.script_call.proofs.fill.Fills.{fits-no, fits_not, fits-yes, fill-no, fill-yes}
 use Rattle.script_call.proofs.fill.put.Goals as goal

@@ -1,7 +1,6 @@
 use mathlib.Core.Path.{◌∙◌}
 use Rattle.script_call.proofs.plain_call.Steps.{steps_are}
 use Rattle.definition_script.specs.Call.{close_step}
-use borrow.Author.Rules.{rules}
 use Rattle.script_call.proofs.plain_call.close.Goals as goal
 
 pub returns : goal.returns

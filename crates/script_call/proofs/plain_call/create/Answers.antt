@@ -1,7 +1,6 @@
 use mathlib.Core.Path.{◌∙◌}
 use Rattle.definition_script.specs.Call.{create_step}
 use Rattle.script_call.proofs.plain_call.Steps.{steps_are}
-use borrow.Author.Rules.{rules}
 use Rattle.script_call.proofs.plain_call.create.Goals as goal
 
 pub returns : goal.returns

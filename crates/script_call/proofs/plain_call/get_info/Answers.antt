@@ -1,7 +1,6 @@
 use mathlib.Core.Path.{◌∙◌}
 use Rattle.script_call.proofs.plain_call.Steps.{steps_are, own_table-one, own_table-two}
 use Rattle.definition_script.specs.Call.{rings, info_by}
-use borrow.Author.Rules.{rules}
 use Rattle.script_call.proofs.plain_call.get_info.Goals as goal
 
 pub returns-then-handle-eq1 : goal.returns-then-handle-eq1

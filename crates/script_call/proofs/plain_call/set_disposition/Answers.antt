@@ -1,6 +1,5 @@
 use Rattle.script_call.proofs.plain_call.Steps.{steps_are}
 use Rattle.definition_script.specs.Call.{disposition_step}
-use borrow.Author.Rules.{rules}
 use Rattle.script_call.proofs.plain_call.set_disposition.Goals as goal
 
 pub returns : goal.returns

@@ -1,4 +1,3 @@
-use borrow.Author.Rules.{rules}
 use mathlib.Core.Path.{◌≡◌, sym, ap, subst, ◌∙◌}
 use Rattle.definition.specs.Status.{pick}
 use Rattle.endpoint.proofs.answer.Rules.{pick-on, pick_off}

@@ -1,9 +1,5 @@
-use mathlib.Core.Path.{ap, ◌∙◌}
-use mathlib.Core.Bool.{Bool}
-use Rattle.definition.specs.Status.{pick, is_done}
-use Rattle.definition.specs.Create.{no_pair}
+use mathlib.Core.Path.{◌∙◌}
 use Rattle.socket.proofs.Created.{new_held}
-use borrow.Author.Rules.{rules}
 use Rattle.socket.proofs.SocketPair.create.Goals as goal
 
 pub returns : goal.returns

@@ -1,5 +1,4 @@
 use Rattle.socket.proofs.Steps.{steps-same}
-use borrow.Author.Rules.{rules}
 use Rattle.socket.proofs.SocketPair.get_rx_tx_threshold.Goals as goal
 
 pub returns : goal.returns

@@ -1,6 +1,5 @@
 use Rattle.socket.proofs.Inner.{inner_128}
 use Rattle.socket.proofs.Settled.{read_whole}
-use borrow.Author.Rules.{rules}
 use Rattle.socket.proofs.SocketPair.read.Goals as goal
 
 pub returns : goal.returns

@@ -1,6 +1,5 @@
 use Rattle.socket.proofs.Inner.{inner_128}
 use Rattle.socket.proofs.Controlled.{dispose_whole}
-use borrow.Author.Rules.{rules}
 use Rattle.socket.proofs.SocketPair.set_disposition.Goals as goal
 
 pub returns : goal.returns

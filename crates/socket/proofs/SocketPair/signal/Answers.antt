@@ -1,6 +1,5 @@
 use Rattle.endpoint.proofs.answer.Rules.{chain, pick-on}
 use Rattle.definition.specs.Pair.{shown_by}
-use borrow.Author.Rules.{rules}
 use Rattle.socket.proofs.SocketPair.signal.Goals as goal
 
 pub returns-then-not-is_handle : goal.returns-then-not-is_handle

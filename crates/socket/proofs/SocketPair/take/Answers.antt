@@ -1,5 +1,4 @@
 use Rattle.socket.proofs.Waits.{take_steps}
-use borrow.Author.Rules.{rules}
 use Rattle.socket.proofs.SocketPair.take.Goals as goal
 
 pub returns : goal.returns

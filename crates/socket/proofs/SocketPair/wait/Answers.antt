@@ -1,5 +1,4 @@
 use Rattle.socket.proofs.Waits.{wait-steps}
-use borrow.Author.Rules.{rules}
 use Rattle.socket.proofs.SocketPair.wait.Goals as goal
 
 pub returns : goal.returns

@@ -1,4 +1,4 @@
-use mathlib.Core.Path.{refl, sym, ◌∙◌}
+use mathlib.Core.Path.{refl}
 use borrow.Author.Tests.{eq-eqb, ne_eqb}
 use Rattle.endpoint.proofs.answer.Rules.{via_not, via_not-not, then_stop, then_go, refuse_on, refuse_off}
 use Rattle.socket.proofs.cancel.cancel_answer.Goals as goal

@@ -1,4 +1,3 @@
-use borrow.Author.Rules.{rules}
 use Rattle.endpoint.proofs.answer.Rules.{pick-on, pick_off}
 use Rattle.socket.proofs.create.end_if.Goals as goal
 

@@ -1,6 +1,5 @@
 use mathlib.Core.Path.{refl}
 use Rattle.definition.specs.Create.{new_pair}
-use borrow.Author.Rules.{rules}
 use Rattle.socket.proofs.create.new_pair.Goals as goal
 
 pub returns : goal.returns

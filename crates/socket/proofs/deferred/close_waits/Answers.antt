@@ -1,6 +1,5 @@
 use Rattle.definition.specs.Pair.{with_places}
 use Rattle.socket.specs.Deferred.{visited_pair, visited_all, without_waits}
-use borrow.Author.Rules.{rules}
 use Rattle.socket.proofs.deferred.close_waits.Goals as goal
 
 pub returns : goal.returns

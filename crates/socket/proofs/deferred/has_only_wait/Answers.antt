@@ -1,5 +1,4 @@
 use Rattle.port.specs.places.Table.{only_wait}
-use borrow.Author.Rules.{rules}
 use Rattle.socket.proofs.deferred.has_only_wait.Goals as goal
 
 pub returns : goal.returns

@@ -1,5 +1,5 @@
 use mathlib.Core.Bool.{true, false}
-use mathlib.Core.Path.{◌≡◌, refl, sym, ap, ◌∙◌}
+use mathlib.Core.Path.{◌≡◌, refl}
 use Rattle.endpoint.proofs.answer.Rules.{via, via_not, via_not-not, and-on, or_off}
 use Rattle.definition.specs.Status.{◌and◌, ◌or◌}
 use Rattle.socket.specs.Deferred.{needs_visit}

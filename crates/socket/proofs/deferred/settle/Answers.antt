@@ -1,10 +1,9 @@
-use mathlib.Core.Path.{◌≡◌, refl, sym, ap, ◌∙◌}
+use mathlib.Core.Path.{ap, ◌∙◌}
 use Rattle.definition.specs.Status.{pick}
 use Rattle.definition.specs.declared.Pair.{Pair}
 use Rattle.socket.specs.Deferred.{needs_visit, visited_all, settled_step}
 use Rattle.socket.proofs.Visiting.{places_128}
 use Rattle.socket.proofs.Needed.{settled_need}
-use borrow.Author.Rules.{rules}
 use Rattle.socket.proofs.deferred.settle.Goals as goal
 
 pub returns : goal.returns

@@ -1,7 +1,6 @@
-use mathlib.Core.Path.{◌≡◌, refl, sym, ap, ◌∙◌}
+use mathlib.Core.Path.{refl, ◌∙◌}
 use Rattle.endpoint.proofs.answer.Rules.{via, via_not, via_not-not}
 use Rattle.definition.specs.Status.{pick}
-use borrow.Author.Rules.{rules}
 use Rattle.socket.proofs.deferred.visit.Goals as goal
 
 pub returns-then-not-needs_visit : goal.returns-then-not-needs_visit

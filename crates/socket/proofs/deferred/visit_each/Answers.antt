@@ -1,6 +1,5 @@
 use Rattle.definition.specs.Pair.{with_places}
 use Rattle.socket.specs.Deferred.{visited_pair, visited_all}
-use borrow.Author.Rules.{rules}
 use Rattle.socket.proofs.deferred.visit_each.Goals as goal
 
 pub returns : goal.returns

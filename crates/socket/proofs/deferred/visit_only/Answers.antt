@@ -1,6 +1,5 @@
 use mathlib.Core.Path.{◌∙◌}
 use Rattle.socket.proofs.Needed.{only_all}
-use borrow.Author.Rules.{rules}
 use Rattle.socket.proofs.deferred.visit_only.Goals as goal
 
 pub returns : goal.returns

@@ -1,5 +1,4 @@
 use mathlib.Core.Path.{refl}
-use borrow.Author.Rules.{rules}
 use Rattle.socket.specs.Deferred.{with_ends}
 use Rattle.socket.proofs.deferred.with_outcome.Goals as goal
 

@@ -1,5 +1,4 @@
 use Rattle.socket.specs.Deferred.{without_waits}
-use borrow.Author.Rules.{rules}
 use Rattle.socket.proofs.deferred.without_waits.Goals as goal
 
 pub returns : goal.returns

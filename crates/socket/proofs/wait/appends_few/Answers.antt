@@ -1,4 +1,3 @@
-use borrow.Author.Rules.{rules}
 use Rattle.port.specs.few.Few.{at_most_seven_used}
 use Rattle.socket.specs.Deferred.{appends_few}
 use Rattle.socket.proofs.wait.appends_few.Goals as goal

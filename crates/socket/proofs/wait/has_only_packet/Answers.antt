@@ -1,5 +1,4 @@
 use Rattle.port.specs.places.Table.{only_packet}
-use borrow.Author.Rules.{rules}
 use Rattle.socket.proofs.wait.has_only_packet.Goals as goal
 
 pub returns : goal.returns

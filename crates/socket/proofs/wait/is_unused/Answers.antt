@@ -1,5 +1,4 @@
 use Rattle.port.specs.places.Table.{unused}
-use borrow.Author.Rules.{rules}
 use Rattle.socket.proofs.wait.is_unused.Goals as goal
 
 pub returns : goal.returns

@@ -1,5 +1,4 @@
 use Rattle.socket.specs.Deferred.{registered_pair}
-use borrow.Author.Rules.{rules}
 use Rattle.socket.proofs.wait.registered.Goals as goal
 
 pub returns : goal.returns

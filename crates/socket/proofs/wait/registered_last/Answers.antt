@@ -1,4 +1,3 @@
-use borrow.Author.Rules.{rules}
 use Rattle.socket.specs.Deferred.{appended_pair}
 use Rattle.socket.proofs.wait.registered_last.Goals as goal
 

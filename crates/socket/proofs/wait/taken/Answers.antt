@@ -1,5 +1,4 @@
 use Rattle.socket.specs.Deferred.{taken_pair}
-use borrow.Author.Rules.{rules}
 use Rattle.socket.proofs.wait.taken.Goals as goal
 
 pub returns : goal.returns

@@ -1,7 +1,6 @@
-use mathlib.Core.Path.{◌≡◌, refl, sym, ap, ◌∙◌}
+use mathlib.Core.Path.{◌∙◌}
 use Rattle.socket.specs.Deferred.{taken_pair}
 use Rattle.socket.proofs.Waits.{first_only}
-use borrow.Author.Rules.{rules}
 use Rattle.socket.proofs.wait.taken_only.Goals as goal
 
 pub returns : goal.returns

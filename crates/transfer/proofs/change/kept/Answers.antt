@@ -1,4 +1,4 @@
-use mathlib.Core.Path.{◌≡◌, refl, sym, ap, ◌∙◌}
+use mathlib.Core.Path.{refl}
 use Rattle.transfer.specs.change.Changes.{kept_transfer}
 use Rattle.transfer.proofs.change.kept.Goals as goal
 

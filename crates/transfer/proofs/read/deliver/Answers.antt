@@ -2,7 +2,6 @@ use mathlib.Core.Path.{refl, ◌∙◌}
 use borrow.Author.Tests.{eq-eqb, ne_eqb}
 use Rattle.endpoint.proofs.answer.Rules.{pick-on, pick_off}
 use Rattle.ring.proofs.copy.Laws.{copied_out_lem}
-use borrow.Author.Rules.{rules}
 use Rattle.transfer.proofs.read.deliver.Goals as goal
 
 pub returns-then-k-eq0 : goal.returns-then-k-eq0

@@ -2,7 +2,6 @@ use mathlib.Core.Path.{sym}
 use borrow.Author.Tests.{eq-eqb, ne_eqb}
 use Rattle.endpoint.proofs.answer.Rules.{or-on, or_off}
 use Rattle.transfer.proofs.change.Changes.{kept-changes, moved-changes}
-use borrow.Author.Rules.{rules}
 use Rattle.transfer.proofs.read.drain_transfer.Goals as goal
 
 pub returns-then-peek : goal.returns-then-peek

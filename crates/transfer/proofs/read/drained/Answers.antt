@@ -1,8 +1,6 @@
-use mathlib.Core.Path.{◌≡◌, refl, sym, ap, ◌∙◌}
-use native.Mathlib.Omega.{arith}
+use mathlib.Core.Path.{refl}
 use Rattle.definition.specs.Read.{read_effect}
 use Rattle.transfer.specs.read.ReadChange.{drained_effect}
-use borrow.Author.Rules.{rules}
 use Rattle.transfer.proofs.read.drained.Goals as goal
 
 pub returns : goal.returns

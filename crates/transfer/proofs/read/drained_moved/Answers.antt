@@ -1,10 +1,9 @@
-use mathlib.Core.Path.{◌≡◌, refl, sym, ap, ◌∙◌}
+use mathlib.Core.Path.{refl}
 use Rattle.definition.specs.Status.{pick}
 use Rattle.definition.specs.Effect.{if_open, keeping_waits}
 use Rattle.definition.specs.Pair.{with_queue}
 use Rattle.endpoint.specs.ends.AtOnce.{own_changed, peer_changed, own_after, peer_after, moved_by}
 use Rattle.transfer.specs.read.ReadChange.{drained_effect}
-use borrow.Author.Rules.{rules}
 use Rattle.transfer.proofs.read.drained_moved.Goals as goal
 
 pub returns-then-peer : goal.returns-then-peer

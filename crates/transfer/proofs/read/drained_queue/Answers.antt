@@ -2,7 +2,6 @@ use Rattle.definition.specs.Read.{drained_queue}
 use native.Mathlib.Omega.{arith}
 use Rattle.definition.specs.Status.{pick}
 use Rattle.ring.proofs.copy.Laws.{place-lt}
-use borrow.Author.Rules.{rules}
 use Rattle.transfer.proofs.read.drained_queue.Goals as goal
 
 pub overflow_cast-bytes : goal.overflow_cast-bytes

@@ -1,4 +1,4 @@
-use mathlib.Core.Path.{◌≡◌, refl, sym, ap, ◌∙◌}
+use mathlib.Core.Path.{refl}
 use Rattle.definition.specs.Status.{pick}
 use Rattle.definition.specs.Effect.{if_open, keeping_waits}
 use Rattle.definition.specs.Pair.{with_queue}

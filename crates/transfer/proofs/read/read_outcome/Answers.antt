@@ -1,9 +1,8 @@
-use mathlib.Core.Path.{◌≡◌, refl, sym, ap, ◌∙◌}
-use mathlib.Core.Bool.{Bool, true, false}
+use mathlib.Core.Path.{◌≡◌, refl}
+use mathlib.Core.Bool.{true}
 use Rattle.endpoint.proofs.answer.Rules.{via_not, via_not-not}
 use Rattle.transfer.specs.read.ReadChange.{read_by}
 use Rattle.transfer.proofs.change.Changes.{outcome-kept, outcome-moved}
-use borrow.Author.Rules.{rules}
 use Rattle.transfer.proofs.read.read_outcome.Goals as goal
 
 pub returns-then-not-t : goal.returns-then-not-t

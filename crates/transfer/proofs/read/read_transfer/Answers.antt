@@ -2,7 +2,6 @@ use mathlib.Core.Path.{◌≡◌}
 use Rattle.transfer.specs.read.ReadChange.{DrainChanges}
 use Rattle.transfer.proofs.read.Moved.{read_drains}
 use Rattle.transfer.proofs.read.Outcomes.{delivered-first, transfer_read}
-use borrow.Author.Rules.{rules}
 use Rattle.transfer.proofs.read.read_transfer.Goals as goal
 
 pub deliver-requires : goal.deliver-requires

@@ -2,7 +2,6 @@ use Prim.Native.Nat.{◌+◌, ◌-◌}
 use mathlib.Core.Path.{◌≡◌, refl}
 use Rattle.definition.specs.Write.{write_effect, gained_by_peer, lost_by_writer, fed_queue}
 use Rattle.transfer.specs.write.WriteChange.{fed_effect}
-use borrow.Author.Rules.{rules}
 use Rattle.transfer.proofs.write.fed.Goals as goal
 
 pub returns : goal.returns

@@ -1,9 +1,8 @@
-use mathlib.Core.Path.{◌≡◌, refl, sym, ap, ◌∙◌}
+use mathlib.Core.Path.{refl}
 use Rattle.definition.specs.Effect.{keeping_waits}
 use Rattle.definition.specs.Pair.{with_queue}
 use Rattle.endpoint.specs.ends.AtOnce.{own_changed, peer_changed, own_after, peer_after, moved_by}
 use Rattle.transfer.specs.write.WriteChange.{fed_effect}
-use borrow.Author.Rules.{rules}
 use Rattle.transfer.proofs.write.fed_moved.Goals as goal
 
 pub returns : goal.returns

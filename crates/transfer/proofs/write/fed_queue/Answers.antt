@@ -1,7 +1,6 @@
 use Rattle.definition.specs.Write.{fed_queue}
 use native.Mathlib.Omega.{arith}
 use Rattle.definition.specs.Status.{pick}
-use borrow.Author.Rules.{rules}
 use Rattle.transfer.proofs.write.fed_queue.Goals as goal
 
 pub overflow_add-more : goal.overflow_add-more

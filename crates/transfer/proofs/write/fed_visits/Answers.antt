@@ -1,4 +1,4 @@
-use mathlib.Core.Path.{◌≡◌, refl, sym, ap, ◌∙◌}
+use mathlib.Core.Path.{refl}
 use Rattle.definition.specs.Effect.{keeping_waits}
 use Rattle.definition.specs.Pair.{with_queue}
 use Rattle.endpoint.specs.ends.AtOnce.{own_changed, peer_changed, visit_of, visits_of, first_two, moved_by}

@@ -5,7 +5,6 @@ use Rattle.definition.specs.Ring.{put}
 use native.Mathlib.Omega.{arith}
 use Rattle.endpoint.proofs.answer.Rules.{pick-on, pick_off}
 use Rattle.ring.proofs.copy.Laws.{copied_in_lem, place-lt}
-use borrow.Author.Rules.{rules}
 use Rattle.transfer.proofs.write.feed.Goals as goal
 
 pub offset_bounds-table-next : goal.offset_bounds-table-next

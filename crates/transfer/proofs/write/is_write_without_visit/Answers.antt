@@ -1,9 +1,8 @@
-use mathlib.Core.Path.{◌≡◌, refl, sym, ap, ◌∙◌}
+use mathlib.Core.Path.{◌≡◌, refl}
 use Rattle.definition.specs.Status.{◌and◌}
-use mathlib.Core.Bool.{Bool, true, false}
+use mathlib.Core.Bool.{true, false}
 use Rattle.endpoint.proofs.answer.Rules.{via_not, via_not-not}
 use Rattle.transfer.proofs.write.Outcomes.{wrote-no_visit}
-use borrow.Author.Rules.{rules}
 use Rattle.transfer.proofs.write.is_write_without_visit.Goals as goal
 
 pub returns-then-not-t : goal.returns-then-not-t

@@ -1,7 +1,6 @@
 use native.Mathlib.Omega.{arith}
 use Rattle.transfer.proofs.write.Moved.{write_feeds}
 use Rattle.transfer.proofs.write.Outcomes.{wrote_none, wrote-some}
-use borrow.Author.Rules.{rules}
 use Rattle.transfer.proofs.write.write_transfer.Goals as goal
 
 pub returns-then-m-eq0 : goal.returns-then-m-eq0

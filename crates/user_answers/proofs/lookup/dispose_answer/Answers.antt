@@ -1,7 +1,6 @@
 use Rattle.endpoint.proofs.answer.Rules.{via_not, via_not-not, then_stop, then_go, refuse_on, refuse_off}
 use borrow.Author.Tests.{le-ltb, lt-ltb}
 use Rattle.definition.specs.Disposition.{user_dispose_answer}
-use borrow.Author.Rules.{rules}
 use Rattle.user_answers.proofs.lookup.dispose_answer.Goals as goal
 
 pub returns-then-not-is_done : goal.returns-then-not-is_done

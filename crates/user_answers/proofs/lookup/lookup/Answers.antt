@@ -1,7 +1,6 @@
 use Rattle.endpoint.proofs.answer.Rules.{via_not, via_not-not, then_stop, then_go, refuse_last, pass_last}
 use borrow.Author.Tests.{ne_eqb, eq-eqb}
 use Rattle.definition.specs.Memory.{lookup}
-use borrow.Author.Rules.{rules}
 use Rattle.user_answers.proofs.lookup.lookup.Goals as goal
 
 pub returns-then-not-is_done : goal.returns-then-not-is_done

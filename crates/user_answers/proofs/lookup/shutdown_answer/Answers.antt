@@ -1,6 +1,5 @@
 use Rattle.endpoint.proofs.answer.Rules.{via_not, via_not-not, then_stop, then_go}
 use Rattle.definition.specs.Shutdown.{user_shutdown_answer}
-use borrow.Author.Rules.{rules}
 use Rattle.user_answers.proofs.lookup.shutdown_answer.Goals as goal
 
 pub returns-then-not-is_done : goal.returns-then-not-is_done

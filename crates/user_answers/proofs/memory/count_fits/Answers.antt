@@ -1,7 +1,6 @@
 use Rattle.endpoint.proofs.answer.Rules.{or-on, or_off}
 use borrow.Author.Tests.{ne_eqb, eq-eqb}
 use Rattle.definition.specs.Memory.{count_fits}
-use borrow.Author.Rules.{rules}
 use Rattle.user_answers.proofs.memory.count_fits.Goals as goal
 
 pub returns-then-count_at-eq0 : goal.returns-then-count_at-eq0

@@ -5,7 +5,6 @@ use Prim.Native.Nat.{◌+◌, ◌-◌}
 use native.Mathlib.Omega.{arith}
 use Rattle.user_answers.proofs.memory.Lists.{leb-room}
 use Rattle.definition.specs.Memory.{fits}
-use borrow.Author.Rules.{rules}
 use Rattle.user_answers.proofs.memory.fits.Goals as goal
 
 pub returns-then-n-eq0 : goal.returns-then-n-eq0

@@ -2,7 +2,6 @@ use native.Mathlib.Omega.{arith}
 use Rattle.endpoint.proofs.answer.Rules.{via_not, via_not-not}
 use mathlib.Core.Path.{◌∙◌}
 use Rattle.user_answers.proofs.memory.Landed.{count_none, count-out, count_in_lem, fits_in}
-use borrow.Author.Rules.{rules}
 use Rattle.user_answers.proofs.memory.land_count.Goals as goal
 
 pub returns-then-count_at-eq0 : goal.returns-then-count_at-eq0

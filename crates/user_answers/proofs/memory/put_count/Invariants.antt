@@ -1,11 +1,8 @@
-use Prim.Native.Nat.{ℕ, ◌+◌, ◌-◌, ◌≤◌}
-use mathlib.Core.Path.{◌≡◌, sym, ap, ◌∙◌}
-use native.Mathlib.Omega.{arith}
+use Prim.Native.Nat.{◌+◌, ◌-◌, ◌≤◌}
+use mathlib.Core.Path.{◌≡◌}
 use lib.ListN.{length}
 use lib.Seq.{paste}
-use borrow.Author.Rules.{rules}
 use Rattle.definition.specs.Memory.{little_endian}
-use Rattle.user_answers.proofs.memory.Landed.{byte_put, all-put}
 use Rattle.user_answers.proofs.memory.put_count.Given as goal
 
 abbrev pub invariant-loop-i : goal.invariant-loop-i

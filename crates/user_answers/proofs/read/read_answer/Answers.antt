@@ -1,7 +1,6 @@
 use Rattle.endpoint.proofs.answer.Rules.{via_not, via_not-not, via, then_stop, then_go, unless_on, unless_off, refuse_on, refuse_off}
 use Rattle.definition.specs.Tests.{lent_of}
 use Rattle.definition.specs.Read.{user_read_answer}
-use borrow.Author.Rules.{rules}
 use Rattle.user_answers.proofs.read.read_answer.Goals as goal
 
 pub returns-then-not-is_done : goal.returns-then-not-is_done

@@ -1,7 +1,6 @@
 use Rattle.endpoint.proofs.answer.Rules.{via_not, via_not-not, via, then_stop, then_go, unless_on, unless_off, refuse_on, refuse_off}
 use borrow.Author.Tests.{ne_eqb, eq-eqb}
 use Rattle.definition.specs.Write.{user_write_answer}
-use borrow.Author.Rules.{rules}
 use Rattle.user_answers.proofs.write.write_answer.Goals as goal
 
 pub returns-then-not-is_done : goal.returns-then-not-is_done

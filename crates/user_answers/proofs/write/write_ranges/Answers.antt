@@ -1,7 +1,6 @@
 use Rattle.endpoint.proofs.answer.Rules.{via_not, via_not-not, then_stop, then_go, unless_on, unless_off}
 use mathlib.Core.Path.{refl}
 use Rattle.definition.specs.Write.{write_ranges}
-use borrow.Author.Rules.{rules}
 use Rattle.user_answers.proofs.write.write_ranges.Goals as goal
 
 pub returns-then-not-is_done : goal.returns-then-not-is_done

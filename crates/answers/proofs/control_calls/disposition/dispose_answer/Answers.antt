@@ -1,6 +1,5 @@
 use Rattle.endpoint.proofs.answer.Rules.{via_not, via_not-not, then_stop, then_go}
 use Rattle.definition.specs.Disposition.{dispose_answer}
-use borrow.Author.Rules.{rules}
 use Rattle.answers.proofs.control_calls.disposition.dispose_answer.Goals as goal
 
 pub returns-then-not-is_done : goal.returns-then-not-is_done

@@ -5,7 +5,6 @@ use mathlib.Core.Path.{ap}
 use Rattle.definition.specs.declared.SocketInfo.{SocketInfo}
 use Rattle.definition.specs.declared.Record.TheVariants.{Info}
 use Rattle.definition.specs.declared.Answer.TheVariants.{Done}
-use borrow.Author.Rules.{rules}
 use Rattle.answers.proofs.control_calls.info.info_answer.Goals as goal
 
 pub returns-then-not-is_done : goal.returns-then-not-is_done

@@ -4,7 +4,6 @@ use borrow.Author.Tests.{leb-true}
 use Rattle.answers.proofs.tests.Sound.{opening_sound}
 use Rattle.endpoint.proofs.answer.Rules.{chain, via_not, via_not-not, then_stop, then_go}
 use Rattle.definition.specs.Port.{wait_answer}
-use borrow.Author.Rules.{rules}
 use Rattle.answers.proofs.control_calls.wait.wait_answer.Goals as goal
 
 pub returns-then-not-is_done : goal.returns-then-not-is_done

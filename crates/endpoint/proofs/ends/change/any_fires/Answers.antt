@@ -1,7 +1,5 @@
-use mathlib.Core.Path.{◌∙◌, sym}
 use Rattle.endpoint.proofs.answer.Rules.{via, or-on, or_off}
 use Rattle.endpoint.specs.ends.Outcome.{any_can_fire}
-use borrow.Author.Rules.{rules}
 use Rattle.endpoint.proofs.ends.change.any_fires.Goals as goal
 
 pub returns-then-can_fire : goal.returns-then-can_fire

@@ -2,7 +2,6 @@ use mathlib.Core.Path.{refl}
 use borrow.Author.Tests.{ne_eqb}
 use Rattle.endpoint.proofs.answer.Rules.{chain, pick-on, pick_off, via_not-not}
 use Rattle.endpoint.specs.ends.Outcome.{can_fire}
-use borrow.Author.Rules.{rules}
 use Rattle.endpoint.proofs.ends.change.can_fire.Goals as goal
 
 pub returns-then-waits-eq0 : goal.returns-then-waits-eq0

@@ -1,5 +1,4 @@
 use Rattle.endpoint.specs.ends.Outcome.{keeps_word}
-use borrow.Author.Rules.{rules}
 use Rattle.endpoint.proofs.ends.change.keeps_word.Goals as goal
 
 pub returns : goal.returns

@@ -1,6 +1,5 @@
 use mathlib.Core.Path.{refl}
 use Rattle.endpoint.specs.ends.Outcome.{kept_ends}
-use borrow.Author.Rules.{rules}
 use Rattle.endpoint.proofs.ends.change.kept_ends.Goals as goal
 
 pub returns : goal.returns

@@ -1,6 +1,5 @@
 use mathlib.Core.Path.{refl}
 use Rattle.endpoint.specs.ends.Outcome.{outcome_of}
-use borrow.Author.Rules.{rules}
 use Rattle.endpoint.proofs.ends.change.put_back.Goals as goal
 
 pub returns : goal.returns

@@ -1,6 +1,5 @@
 use mathlib.Core.Path.{refl}
 use Rattle.endpoint.specs.ends.Outcome.{unchanged_ends}
-use borrow.Author.Rules.{rules}
 use Rattle.endpoint.proofs.ends.change.unchanged.Goals as goal
 
 pub returns : goal.returns

@@ -1,4 +1,3 @@
-use borrow.Author.Rules.{rules}
 use Rattle.endpoint.proofs.ends.Fieldwise.{end_chosen}
 use Rattle.endpoint.proofs.ends.choice.end_if.Goals as goal
 

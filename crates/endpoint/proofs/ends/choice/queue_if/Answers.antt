@@ -1,4 +1,3 @@
-use borrow.Author.Rules.{rules}
 use Rattle.endpoint.proofs.ends.Fieldwise.{queue_chosen}
 use Rattle.endpoint.proofs.ends.choice.queue_if.Goals as goal
 

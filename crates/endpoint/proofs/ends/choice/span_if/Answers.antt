@@ -1,4 +1,3 @@
-use borrow.Author.Rules.{rules}
 use Rattle.endpoint.proofs.ends.Fieldwise.{span_chosen}
 use Rattle.endpoint.proofs.ends.choice.span_if.Goals as goal
 

@@ -1,4 +1,3 @@
-use borrow.Author.Rules.{rules}
 use Rattle.endpoint.proofs.ends.Fieldwise.{thresholds_chosen}
 use Rattle.endpoint.proofs.ends.choice.thresholds_if.Goals as goal
 

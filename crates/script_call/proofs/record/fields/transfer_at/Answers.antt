@@ -1,4 +1,3 @@
-use borrow.Author.Rules.{rules}
 use mathlib.Core.Path.{refl}
 use Rattle.definition_script.specs.Record.{transfer_of}
 use Rattle.script_call.proofs.record.fields.transfer_at.Goals as goal

@@ -6,7 +6,6 @@ use Rattle.transfer.specs.read.ReadChange.{DrainChanges}
 use Rattle.transfer.proofs.change.UserMemory.{part_length}
 use Rattle.transfer.proofs.read.user_memory.Landed.{read-room, user-delivers}
 use Rattle.transfer.proofs.read.user_memory.Outcomes.{bytes-none, bytes-some}
-use borrow.Author.Rules.{rules}
 use Rattle.transfer.proofs.read.user_memory.read_bytes_transfer.Goals as goal
 
 pub returns-then-k-eq0 : goal.returns-then-k-eq0

@@ -1,7 +1,6 @@
 use mathlib.Core.Path.{refl}
 use Rattle.endpoint.proofs.answer.Rules.{pick-on, pick_off, via}
 use Rattle.transfer.proofs.read.user_memory.Outcomes.{read-after}
-use borrow.Author.Rules.{rules}
 use Rattle.transfer.proofs.read.user_memory.read_transfer.Goals as goal
 
 pub returns-then-is_done : goal.returns-then-is_done

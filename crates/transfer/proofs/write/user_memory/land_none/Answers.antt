@@ -1,7 +1,6 @@
 use mathlib.Core.Path.{◌≡◌, refl}
 use mathlib.Core.Bool.{true, false}
 use Rattle.endpoint.proofs.answer.Rules.{pick-on, pick_off, via}
-use borrow.Author.Rules.{rules}
 use Rattle.transfer.proofs.write.user_memory.land_none.Goals as goal
 
 pub returns-then-is_done : goal.returns-then-is_done

@@ -3,7 +3,6 @@ use mathlib.Core.Path.{refl, ◌∙◌}
 use native.Mathlib.Omega.{arith}
 use Rattle.transfer.proofs.write.user_memory.Landed.{write-room, user_feeds}
 use Rattle.transfer.proofs.write.user_memory.Outcomes.{wrote_none, wrote-some}
-use borrow.Author.Rules.{rules}
 use Rattle.transfer.proofs.write.user_memory.write_transfer.Goals as goal
 
 pub returns-then-m-eq0 : goal.returns-then-m-eq0
