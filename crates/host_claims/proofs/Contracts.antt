@@ -1,5 +1,6 @@
--- The contracts of the exported calls, as the checker reads them from crates/host/src, are the promises that `Exported` cites: what a call
--- ensures, at any arguments, any values at exit and any word returned, is the premise of its case of `Exported`. Assumes nothing.
+-- The contracts of the calls in crates/host/src, as the checker reads them, are the promises that `Exported` cites; each export of crates/host_c has
+-- the contract of the call that it makes. What a call ensures, at any arguments, any values at exit and any word returned, is the premise of its
+-- case of `Exported`. Assumes nothing.
 use Prim.Native.Nat.{ℕ}
 use mathlib.Core.Path.{◌≡◌, refl}
 use mathlib.Core.Bool.{Bool}

@@ -78,6 +78,9 @@ fn exports_have_the_contracts_of_the_calls() {
     assert!(calls.iter().all(|call| call.contains("->i64ensures{")), "a call without a contract");
     let exported = source::contracts(&source::rattle_source("host_c"), "pub extern \"C\" fn murgwethan_");
     assert_eq!(exported, calls);
+    let declared = source::functions(EXPORTS, &["pub fn ", "pub safe fn "]);
+    assert!(!declared.is_empty(), "no call is declared");
+    assert_eq!(calls.len(), declared.len(), "as many contracts as declared calls");
 }
 
 /// The symbols that `nm` lists for the archive with these options.
