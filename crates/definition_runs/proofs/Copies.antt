@@ -37,7 +37,7 @@ use Rattle.transfer.proofs.read.user_memory.Landed.{user-delivers}
 use Rattle.definition.specs.cases.Promises.{three, ring_abc, ring_both, table_abc, table_both, counted as memory-counted}
 use Rattle.definition.specs.cases.Scripts.{letters}
 use Rattle.definition.proofs.cases.Promises.{promises}
-use Rattle.definition_runs.specs.Copies.{RingCopies, EveryEntry, CallCopies, CopyExamples, behind}
+use Rattle.definition_runs.specs.Copies.{RingCopies, EveryEntry, CallCopies, CopyExamples, behind_queued}
 
 pub ring_copies_lem : RingCopies
 ring_copies_lem =
@@ -59,35 +59,35 @@ every_entry_lem = record { out = modulo_out; count = modulo_count; into = modulo
 
 -- of m bytes, more than 0: its bytes, and its length
 module _ (dg : Bool) (C : ℕ) (q : Queue) (m : ℕ) (src ring table : List ℕ) (f : Feed dg C q m src ring table) where
-  fed-ring : ring_fed C q m src ring ≡ put_modulo C (behind q.bytes) m src ring
+  fed-ring : ring_fed C q m src ring ≡ put_modulo C (behind_queued q.bytes) m src ring
   unfolding ring_fed
   fed-ring =
       put-behind C q.bytes.start q.bytes.count m src ring f.start (omega (arith, f.fits)) (omega (arith, f.fits)) f.long f.has
 
-  fed-table : dg ≡ true → table_fed dg C q m table ≡ put_modulo C (behind q.lengths) 1 (m ∷ []) table
+  fed-table : dg ≡ true → table_fed dg C q m table ≡ put_modulo C (behind_queued q.lengths) 1 (m ∷ []) table
   unfolding table_fed put_modulo
   fed-table d =
       sym (pick-on _ _ _ _ _ d refl)
       ∙ ap (λ (i : ℕ). set table i m) (place_modulo C q.lengths.start q.lengths.count f.first (omega (arith, f.lengths d)))
-      ∙ ap (λ (a : ℕ). set table (a % C) m) (sym (add-zero (behind q.lengths)))
+      ∙ ap (λ (a : ℕ). set table (a % C) m) (sym (add-zero (behind_queued q.lengths)))
 
 -- of m bytes, 0 too
 module _ (e : Ends) (h m : ℕ) (src ring table : List ℕ)
     (feeds : (m ≡ 0 → ⊥) → Feed e.datagram e.capacity (peer (is_one h) e).queue m src ring table) where
-  written-ring : ring_written e h m src ring ≡ put_modulo e.capacity (behind (peer (is_one h) e).queue.bytes) m src ring
+  written-ring : ring_written e h m src ring ≡ put_modulo e.capacity (behind_queued (peer (is_one h) e).queue.bytes) m src ring
   unfolding ring_written put_modulo
   written-ring = by (eqb m 0) refl
     where
-      by : (t : Bool) → eqb m 0 ≡ t → ring_written e h m src ring ≡ put_modulo e.capacity (behind (peer (is_one h) e).queue.bytes) m src ring
+      by : (t : Bool) → eqb m 0 ≡ t → ring_written e h m src ring ≡ put_modulo e.capacity (behind_queued (peer (is_one h) e).queue.bytes) m src ring
       by true z =
           sym (pick-on _ _ _ _ _ z refl)
-          ∙ sym (ap (λ (k : ℕ). put_modulo e.capacity (behind (peer (is_one h) e).queue.bytes) k src ring) (eqb-true m 0 z))
+          ∙ sym (ap (λ (k : ℕ). put_modulo e.capacity (behind_queued (peer (is_one h) e).queue.bytes) k src ring) (eqb-true m 0 z))
       by false z =
           sym (pick_off _ _ _ _ _ z refl)
           ∙ fed-ring e.datagram e.capacity (peer (is_one h) e).queue m src ring table (feeds (eqb-false m 0 z))
 
   written-table : e.datagram ≡ true → (m ≡ 0 → ⊥)
-      → table_written e h m table ≡ put_modulo e.capacity (behind (peer (is_one h) e).queue.lengths) 1 (m ∷ []) table
+      → table_written e h m table ≡ put_modulo e.capacity (behind_queued (peer (is_one h) e).queue.lengths) 1 (m ∷ []) table
   unfolding table_written
   written-table d z =
       sym (pick_off _ _ _ _ _ (ne_eqb m 0 z) refl)
