@@ -11,21 +11,21 @@ fn numbers_answer(kind: u32, capacity: u32, rights_one: u32, rights_two: u32) ->
     ensures { result ≡ numbers_answer kind capacity rights_one rights_two }
 {
     if 1 < kind {
-        return Answer::Refused(Status::InvalidArgs);
+        return Err(Status::InvalidArgs);
     }
     if capacity == 0 {
-        return Answer::Refused(Status::InvalidArgs);
+        return Err(Status::InvalidArgs);
     }
     if 262144 < capacity {
-        return Answer::Refused(Status::InvalidArgs);
+        return Err(Status::InvalidArgs);
     }
     if 7 < rights_one {
-        return Answer::Refused(Status::InvalidArgs);
+        return Err(Status::InvalidArgs);
     }
     if 7 < rights_two {
-        return Answer::Refused(Status::InvalidArgs);
+        return Err(Status::InvalidArgs);
     }
-    Answer::Done(Record::Empty)
+    Ok(Record::Empty)
 }
 
 // The numbers, then the lengths of the rings and tables.
@@ -46,12 +46,12 @@ pub fn create_answer(
         return a;
     }
     if short_slices(kind == 1, capacity, ring_one, table_one) {
-        return Answer::Refused(Status::InvalidArgs);
+        return Err(Status::InvalidArgs);
     }
     if short_slices(kind == 1, capacity, ring_two, table_two) {
-        return Answer::Refused(Status::InvalidArgs);
+        return Err(Status::InvalidArgs);
     }
-    Answer::Done(Record::Empty)
+    Ok(Record::Empty)
 }
 
 // The rights word that an end holds in 16 bits. Create refuses a word above 7; of such a word this is 0.

@@ -21,12 +21,12 @@ fn empty_answer(own: Endpoint, peer: Endpoint) -> Answer
     ensures { result ≡ empty_answer own peer }
 {
     if peer.closed {
-        return Answer::Refused(Status::PeerClosed);
+        return Err(Status::PeerClosed);
     }
     if own.read_disabled {
-        return Answer::Refused(Status::BadState);
+        return Err(Status::BadState);
     }
-    Answer::Refused(Status::ShouldWait)
+    Err(Status::ShouldWait)
 }
 
 // How many bytes a read into n bytes delivers. What is queued can be read whether or not reading is disabled.
@@ -36,7 +36,7 @@ pub fn read_size(datagram: bool, own: Endpoint, peer: Endpoint, first: u32, n: u
     if own.queue.bytes.count == 0 {
         return empty_answer(own, peer);
     }
-    Answer::Done(Record::Count(least(n, available(datagram, own, first))))
+    Ok(Record::Count(least(n, available(datagram, own, first))))
 }
 
 fn unless_closed(closed: bool, n: u32) -> u64

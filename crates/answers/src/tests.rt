@@ -32,9 +32,9 @@ pub fn sound_test(p: Ends) -> Answer
     ensures { result ≡ sound_test p }
 {
     if !is_sound(p) {
-        return Answer::Refused(Status::Internal);
+        return Err(Status::Internal);
     }
-    Answer::Done(Record::Empty)
+    Ok(Record::Empty)
 }
 
 // Whether a handle names an end.
@@ -59,15 +59,15 @@ pub fn slices_test(
     ensures { result ≡ slices_test datagram capacity handle q (lent_of datagram q ring.now table.now) }
 {
     if !is_handle(handle) {
-        return Answer::Done(Record::Empty);
+        return Ok(Record::Empty);
     }
     if endpoint::end::short_slices(datagram, capacity, ring.len(), table.len()) {
-        return Answer::Refused(Status::InvalidArgs);
+        return Err(Status::InvalidArgs);
     }
     if endpoint::end::bad_first(q, datagram, endpoint::end::first_length(q, datagram, table)) {
-        return Answer::Refused(Status::Internal);
+        return Err(Status::Internal);
     }
-    Answer::Done(Record::Empty)
+    Ok(Record::Empty)
 }
 
 // The length of a table that is lent alone, and the first queued length.
@@ -75,15 +75,15 @@ pub fn table_test(datagram: bool, capacity: u32, handle: u32, q: Queue, table: &
     ensures { result ≡ table_test datagram capacity handle q (lent_of datagram q [] table.now) }
 {
     if !is_handle(handle) {
-        return Answer::Done(Record::Empty);
+        return Ok(Record::Empty);
     }
     if endpoint::end::short_table(datagram, capacity, table.len()) {
-        return Answer::Refused(Status::InvalidArgs);
+        return Err(Status::InvalidArgs);
     }
     if endpoint::end::bad_first(q, datagram, endpoint::end::first_length(q, datagram, table)) {
-        return Answer::Refused(Status::Internal);
+        return Err(Status::Internal);
     }
-    Answer::Done(Record::Empty)
+    Ok(Record::Empty)
 }
 
 // Whether a handle names an end that is open.
@@ -102,9 +102,9 @@ pub fn handle_test(p: Ends, handle: u32) -> Answer
     ensures { result ≡ handle_test p handle }
 {
     if !is_open(p, handle) {
-        return Answer::Refused(Status::BadHandle);
+        return Err(Status::BadHandle);
     }
-    Answer::Done(Record::Empty)
+    Ok(Record::Empty)
 }
 
 // The record, then the handle: what most calls test first.

@@ -15,9 +15,9 @@ pub fn read_threshold_answer(p: Ends, handle: u32, threshold: u64) -> Answer
         return a;
     }
     if (p.capacity as u64) < threshold {
-        return Answer::Refused(Status::InvalidArgs);
+        return Err(Status::InvalidArgs);
     }
-    Answer::Done(Record::Empty)
+    Ok(Record::Empty)
 }
 
 // The tests of a write threshold.
@@ -30,12 +30,12 @@ pub fn write_threshold_answer(p: Ends, handle: u32, threshold: u64) -> Answer
     }
     let to = endpoint::ends::peer(p, handle == 1);
     if to.closed {
-        return Answer::Refused(Status::PeerClosed);
+        return Err(Status::PeerClosed);
     }
     if (p.capacity as u64) < threshold {
-        return Answer::Refused(Status::InvalidArgs);
+        return Err(Status::InvalidArgs);
     }
-    Answer::Done(Record::Empty)
+    Ok(Record::Empty)
 }
 
 // The tests of the question for both, then the thresholds.
@@ -48,5 +48,5 @@ pub fn thresholds_answer(p: Ends, handle: u32) -> Answer
     }
     let e = endpoint::ends::own(p, handle == 1);
     let thresholds = e.thresholds;
-    Answer::Done(Record::Limits(thresholds))
+    Ok(Record::Limits(thresholds))
 }

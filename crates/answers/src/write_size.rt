@@ -20,15 +20,15 @@ fn datagram_size(capacity: u32, space: u32, n: usize) -> Answer
     ensures { result ≡ datagram_size capacity space n }
 {
     if (capacity as usize) < n {
-        return Answer::Refused(Status::OutOfRange);
+        return Err(Status::OutOfRange);
     }
     if (space as usize) < n {
-        return Answer::Refused(Status::ShouldWait);
+        return Err(Status::ShouldWait);
     }
     if n == 0 {
-        return Answer::Refused(Status::InvalidArgs);
+        return Err(Status::InvalidArgs);
     }
-    Answer::Done(Record::Count(n as u32))
+    Ok(Record::Count(n as u32))
 }
 
 // How many bytes a write of n bytes takes. A full queue comes before an oversized datagram.
@@ -36,20 +36,20 @@ pub fn write_size(datagram: bool, capacity: u32, own: Endpoint, peer: Endpoint, 
     ensures { result ≡ write_size datagram capacity own peer n }
 {
     if 4294967295 < n {
-        return Answer::Refused(Status::InvalidArgs);
+        return Err(Status::InvalidArgs);
     }
     if has_bit(own.signals, WRITE_DISABLED) {
-        return Answer::Refused(Status::BadState);
+        return Err(Status::BadState);
     }
     if peer.closed {
-        return Answer::Refused(Status::PeerClosed);
+        return Err(Status::PeerClosed);
     }
     if capacity <= peer.queue.bytes.count {
-        return Answer::Refused(Status::ShouldWait);
+        return Err(Status::ShouldWait);
     }
     let space = capacity - peer.queue.bytes.count;
     if datagram {
         return datagram_size(capacity, space, n);
     }
-    Answer::Done(Record::Count(least(n, space)))
+    Ok(Record::Count(least(n, space)))
 }

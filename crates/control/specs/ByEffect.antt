@@ -1,7 +1,7 @@
 -- How the code goes: what a call leaves of the two ends, by its effect alone. What each call does stands in crates/definition/specs, and the crate
 -- socket has the law that the pair is the one of the effect once the waits are visited.
 use Rattle.std.specs.Prelude.{ℕ, Bool, not, eqb}
-use Rattle.definition.specs.declared.Answer.{Answer}
+use Rattle.definition.specs.Status.{Answer}
 use Rattle.definition.specs.declared.Endpoint.{Endpoint}
 use Rattle.definition.specs.declared.Ends.{Ends}
 use Rattle.definition.specs.Status.{pick, is_done}

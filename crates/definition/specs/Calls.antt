@@ -2,8 +2,8 @@
 use Rattle.std.specs.Prelude.{ℕ, ◌-◌, Bool, true, false, List, [], ◌∷◌, length, drop, take, eqb}
 use Rattle.std.proofs.Math.Seq.{paste}
 use Rattle.definition.specs.declared.Pair.{Pair}
-use Rattle.definition.specs.declared.Answer.{Answer}
-use Rattle.definition.specs.declared.SignalWord.{SignalWord}
+use Rattle.definition.specs.Status.{Answer}
+use Rattle.definition.specs.Signal.{SignalWord}
 use Rattle.definition.specs.declared.Step.{Step}
 use Rattle.definition.specs.Pair.{shown, is_one, ends_of}
 use Rattle.definition.specs.Tests.{Lent, lent_of}

@@ -1,7 +1,7 @@
 -- Close. 01 "Delivered bytes", close.
 use Rattle.std.specs.Prelude.{ℕ, true, Bool, [], ◌∷◌}
 use Rattle.definition.specs.declared.Endpoint.{Endpoint}
-use Rattle.definition.specs.declared.Answer.{Answer}
+use Rattle.definition.specs.Status.{Answer}
 use Rattle.definition.specs.declared.Pair.{Pair}
 use Rattle.definition.specs.Pair.{no_queue, ends_of, own, peer, is_one}
 use Rattle.definition.specs.Tests.{opening_test, Steps}

@@ -1,7 +1,7 @@
 -- Create. 01 "Status and answer word", create.
 use Rattle.std.specs.Prelude.{ℕ, false, true, Bool, ltb, eqb, List, length}
 use Rattle.definition.specs.declared.Status.TheVariants.{InvalidArgs}
-use Rattle.definition.specs.declared.Answer.{Answer}
+use Rattle.definition.specs.Status.{Answer}
 use Rattle.definition.specs.declared.Endpoint.{Endpoint}
 use Rattle.definition.specs.declared.Pair.{Pair}
 use Rattle.definition.specs.Status.{refuse_if, ◌then◌}

@@ -3,8 +3,8 @@ use Rattle.std.specs.Prelude.{ℕ, Bool, List, []}
 use Rattle.definition.specs.declared.SocketInfo.{SocketInfo}
 use Rattle.definition.specs.declared.Endpoint.{Endpoint}
 use Rattle.definition.specs.declared.Record.TheVariants.{Info}
-use Rattle.definition.specs.declared.Answer.{Answer}
-use Rattle.definition.specs.declared.Answer.TheVariants.{Done}
+use Rattle.definition.specs.Status.{Answer}
+use Rattle.std.specs.declared.result.Result.TheVariants.{Ok}
 use Rattle.definition.specs.declared.Ends.{Ends}
 use Rattle.definition.specs.Status.{pick, ◌then◌}
 use Rattle.definition.specs.Signal.{bit_if}
@@ -37,7 +37,7 @@ info_answer e z h =
     sound_test e
     then table_test e.datagram e.capacity h (own (is_one h) e).queue z
     then handle_test e h
-    then Done (Info (info_of e.datagram e.capacity (own (is_one h) e) (peer (is_one h) e) z.first))
+    then Ok (Info (info_of e.datagram e.capacity (own (is_one h) e) (peer (is_one h) e) z.first))
 
 -- ---- the call
 

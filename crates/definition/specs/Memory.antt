@@ -4,7 +4,7 @@ use Rattle.std.specs.Prelude.{ℕ, ◌+◌, ◌-◌, zero, suc, ◌/◌, ◌%◌
 use Rattle.std.proofs.Math.Seq.{paste}
 use Rattle.std.specs.Int.Bits.{bit_and}
 use Rattle.definition.specs.declared.Status.TheVariants.{AccessDenied}
-use Rattle.definition.specs.declared.Answer.{Answer}
+use Rattle.definition.specs.Status.{Answer}
 use Rattle.definition.specs.declared.Ends.{Ends}
 use Rattle.definition.specs.Status.{◌and◌, ◌or◌, pick, refuse_if, ◌then◌}
 use Rattle.definition.specs.Pair.{is_one, own}

@@ -7,8 +7,8 @@ use Rattle.definition.specs.declared.Endpoint.{Endpoint}
 use Rattle.definition.specs.declared.Ends.{Ends}
 use Rattle.definition.specs.declared.Pair.{Pair}
 use Rattle.definition.specs.declared.Places.{Places}
-use Rattle.definition.specs.declared.SignalWord.{SignalWord}
-use Rattle.definition.specs.declared.SignalWord.TheVariants.{Closed, Word}
+use Rattle.definition.specs.Signal.{SignalWord}
+use Rattle.std.specs.declared.option.Option.TheVariants.{None, Some}
 use Rattle.definition.specs.Status.{◌or◌, pick}
 
 -- ---- an end, with one part replaced
@@ -86,8 +86,8 @@ with_places ts p = record { datagram = p.datagram; spare1 = p.spare1; spare2 = p
 
 -- 01 "Script program": the word that an end shows, none if it is closed or was never made
 unfoldable pub shown : Endpoint → SignalWord
-shown e = pick e.closed Closed (Word e.signals)
+shown e = pick e.closed None (Some e.signals)
 
 -- 01 "Script program": the word that the end of a handle shows; none for another handle. This shows the record and answers no status.
 unfoldable pub shown_by : Pair → ℕ → SignalWord
-shown_by p h = pick (is_handle h) (shown (own (is_one h) (ends_of p))) Closed
+shown_by p h = pick (is_handle h) (shown (own (is_one h) (ends_of p))) None

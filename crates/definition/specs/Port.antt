@@ -5,12 +5,12 @@ use Rattle.definition.specs.declared.Place.{Place}
 use Rattle.definition.specs.declared.Places.{Places}
 use Rattle.definition.specs.declared.PortPacket.{PortPacket}
 use Rattle.definition.specs.declared.Status.{Status}
-use Rattle.definition.specs.declared.Answer.TheVariants.{Refused, Done}
+use Rattle.std.specs.declared.result.Result.TheVariants.{Err, Ok}
 use Rattle.definition.specs.declared.Next.{Next}
 use Rattle.definition.specs.declared.Status.TheVariants.{Internal, ShouldWait, NoResources, InvalidArgs, NotFound}
 use Rattle.definition.specs.declared.Change.{Change}
 use Rattle.definition.specs.declared.Record.TheVariants.{Count, Packet}
-use Rattle.definition.specs.declared.Answer.{Answer}
+use Rattle.definition.specs.Status.{Answer}
 use Rattle.definition.specs.declared.Ends.{Ends}
 use Rattle.definition.specs.declared.Pair.{Pair}
 use Rattle.definition.specs.Status.{pick, ◌or◌, ok, ◌and◌, refuse_if, ◌then◌}
@@ -87,7 +87,7 @@ packet_of p = record { key = p.key; trigger = p.mask; observed = p.observed; cou
 
 -- 01 "Status and answer word": a refused call changes nothing
 unfoldable pub refused : Status → Places → Next
-refused s t = record { places = t; answer = Refused s }
+refused s t = record { places = t; answer = Err s }
 
 -- done, without a record
 unfoldable pub done : Places → Next
@@ -129,7 +129,7 @@ change_of one w clear set t =
       word = changed_word clear set w;
       answer = ok;
     })
-    (record { places = t; word = w; answer = Refused Internal })
+    (record { places = t; word = w; answer = Err Internal })
 
 -- ---- taking a packet
 
@@ -142,7 +142,7 @@ unfoldable pub take_of : Places → Next
 take_of t =
     pick (sound t)
     (pick (eqb t.packets 0) (refused ShouldWait t)
-    (record { places = taken_of t; answer = Done (Packet (packet_of (get_or (packets_of t) 0 free))) }))
+    (record { places = taken_of t; answer = Ok (Packet (packet_of (get_or (packets_of t) 0 free))) }))
     (refused Internal t)
 
 -- ---- registering a wait, dropping those of an end
@@ -225,7 +225,7 @@ unfoldable pub take_answer : Pair → Answer
 take_answer p =
     sound_test (ends_of p)
     then refuse_if (eqb p.places.packets 0) ShouldWait
-    then Done (Packet (packet_of (get_or (packets_of p.places) 0 free)))
+    then Ok (Packet (packet_of (get_or (packets_of p.places) 0 free)))
 
 -- the pair without its oldest packet, whose place can be used again
 unfoldable pub took : Pair → Pair
@@ -238,7 +238,7 @@ unfoldable pub cancel_answer : Pair → (h key : ℕ) → Answer
 cancel_answer p h key =
     opening_test (ends_of p) h
     then refuse_if (eqb (matching (is_one h) key p.places) 0) NotFound
-    then Done (Count (matching (is_one h) key p.places))
+    then Ok (Count (matching (is_one h) key p.places))
 
 -- the pair without them; no word changes, so nothing fires
 unfoldable pub cancelled : Bool → (key : ℕ) → Pair → Pair

@@ -3,8 +3,8 @@ use Rattle.std.specs.Prelude.{ℕ, min, ◌-◌, Bool, List, [], ◌∷◌, ◌�
 use Rattle.std.specs.Int.Bits.{bit_or}
 use Rattle.std.proofs.Math.Seq.{paste}
 use Rattle.definition.specs.declared.Status.TheVariants.{BadState, ShouldWait, PeerClosed, InvalidArgs}
-use Rattle.definition.specs.declared.Answer.{Answer}
-use Rattle.definition.specs.declared.Answer.TheVariants.{Refused, Done}
+use Rattle.definition.specs.Status.{Answer}
+use Rattle.std.specs.declared.result.Result.TheVariants.{Err, Ok}
 use Rattle.definition.specs.declared.Endpoint.{Endpoint}
 use Rattle.definition.specs.declared.Record.TheVariants.{Count}
 use Rattle.definition.specs.declared.Ends.{Ends}
@@ -23,7 +23,7 @@ use Rattle.definition.specs.Memory.{fits, count_fits, is_null, RIGHT_READ, looku
 
 -- a read of an empty queue is refused: the peer is closed, or reading is disabled, or there is nothing yet
 unfoldable pub empty_answer : (own peer : Endpoint) → Answer
-empty_answer own peer = refuse_if peer.closed PeerClosed then refuse_if own.read_disabled BadState then Refused ShouldWait
+empty_answer own peer = refuse_if peer.closed PeerClosed then refuse_if own.read_disabled BadState then Err ShouldWait
 
 -- what one read can deliver: all that is queued, on datagram pairs the first datagram only
 unfoldable pub available_in : (datagram : Bool) → (own : Endpoint) → (first : ℕ) → ℕ
@@ -33,7 +33,7 @@ available_in datagram own first = pick datagram first own.queue.bytes.count
 unfoldable pub read_size : (datagram : Bool) → (own peer : Endpoint) → (first n : ℕ) → Answer
 read_size datagram own peer first n =
     pick (eqb own.queue.bytes.count 0) (empty_answer own peer)
-    (Done (Count (min n (available_in datagram own first))))
+    (Ok (Count (min n (available_in datagram own first))))
 
 -- ---- the answer
 

@@ -1,7 +1,7 @@
 -- Shutdown. 01 "Delivered bytes", shutdown; 01 "Calls over user memory", shutdown.
 use Rattle.std.specs.Prelude.{ℕ, Bool, true, not, [], ◌∷◌}
 use Rattle.std.specs.Int.Bits.{bit_or}
-use Rattle.definition.specs.declared.Answer.{Answer}
+use Rattle.definition.specs.Status.{Answer}
 use Rattle.definition.specs.declared.Endpoint.{Endpoint}
 use Rattle.definition.specs.declared.Pair.{Pair}
 use Rattle.definition.specs.declared.Ends.{Ends}

@@ -1,6 +1,7 @@
 -- The signal word of an end: its bits and one change of it. 01 "Signal word and packets".
 use Rattle.std.specs.Prelude.{ℕ, ◌-◌, ◌^◌, Bool, not, eqb, ltb, leb}
 use Rattle.std.specs.Int.Bits.{bit_and, bit_or}
+use Rattle.std.specs.declared.option.Option.{Option}
 use Rattle.definition.specs.Status.{pick, ◌and◌}
 
 -- the signals' bits, those of the public header
@@ -32,6 +33,10 @@ changed_word clear set w = bit_or (bit_and w (2 ^ 32 - 1 - clear)) set
 -- 01 "Signal word and packets": a mask meets a word if some bit of the mask is in the word
 unfoldable pub meets : ℕ → ℕ → Bool
 meets w mask = not (eqb (bit_and w mask) 0)
+
+-- what an end shows: its signal word; none once it is closed
+abbrev pub SignalWord : Type 0
+SignalWord = Option ℕ
 
 -- ---- bits by a test
 

@@ -4,8 +4,8 @@ use Rattle.definition.specs.declared.Status.{Status}
 use Rattle.definition.specs.declared.Status.TheVariants.{Internal, NoResources, InvalidArgs, BadHandle, OutOfRange, BadState, ShouldWait, PeerClosed, NotFound, AccessDenied}
 use Rattle.definition.specs.declared.Record.{Record}
 use Rattle.definition.specs.declared.Record.TheVariants.{Empty, Count, Info, Limits, Packet}
-use Rattle.definition.specs.declared.Answer.{Answer}
-use Rattle.definition.specs.declared.Answer.TheVariants.{Done, Refused}
+use Rattle.std.specs.declared.result.Result.{Result}
+use Rattle.std.specs.declared.result.Result.TheVariants.{Ok, Err}
 
 -- ---- choices
 
@@ -27,6 +27,10 @@ unfoldable pub ◌or◌ : Bool → Bool → Bool
 ◌or◌ false b = b
 
 -- ---- statuses and answers
+
+-- what a call answers: the record of a done call, or why it is refused
+abbrev pub Answer : Type 0
+Answer = Result Record Status
 
 -- a status is a negative number; this is the number without its sign.
 unfoldable pub status_number : Status → ℕ
@@ -51,35 +55,35 @@ record_count (Packet k) = 0
 
 -- 01 "Status and answer word": an answer as one signed number
 unfoldable pub answer_word : Answer → ℤ
-answer_word (Done d) = pos (record_count d)
-answer_word (Refused s) = neg_ℤ (pos (status_number s))
+answer_word (Ok d) = pos (record_count d)
+answer_word (Err s) = neg_ℤ (pos (status_number s))
 
 -- the count of an answer, 0 for a refusal
 unfoldable pub count_of : Answer → ℕ
-count_of (Done d) = record_count d
-count_of (Refused s) = 0
+count_of (Ok d) = record_count d
+count_of (Err s) = 0
 
 -- whether the call was done
 unfoldable pub is_done : Answer → Bool
-is_done (Done d) = true
-is_done (Refused s) = false
+is_done (Ok d) = true
+is_done (Err s) = false
 
 -- done, with no record
 abbrev pub ok : Answer
-ok = Done Empty
+ok = Ok Empty
 
 -- a test that refuses if it holds
 unfoldable pub refuse_if : Bool → Status → Answer
-refuse_if true s = Refused s
+refuse_if true s = Err s
 refuse_if false s = ok
 
 -- a test that refuses unless it holds
 unfoldable pub refuse_unless : Bool → Status → Answer
 refuse_unless true s = ok
-refuse_unless false s = Refused s
+refuse_unless false s = Err s
 
 -- tests in their order: the first refusal is the answer, else what stands last
 infixr 20 ◌then◌
 unfoldable pub ◌then◌ : Answer → Answer → Answer
-◌then◌ (Done d) a = a
-◌then◌ (Refused s) a = Refused s
+◌then◌ (Ok d) a = a
+◌then◌ (Err s) a = Err s

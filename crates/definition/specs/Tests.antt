@@ -3,7 +3,7 @@ use Rattle.std.specs.Prelude.{ℕ, ◌+◌, Bool, not, true, List, ◌≡◌, le
 use Rattle.definition.specs.declared.Queue.{Queue}
 use Rattle.definition.specs.declared.Ends.{Ends}
 use Rattle.definition.specs.declared.Status.TheVariants.{Internal, InvalidArgs, BadHandle}
-use Rattle.definition.specs.declared.Answer.{Answer}
+use Rattle.definition.specs.Status.{Answer}
 use Rattle.definition.specs.declared.Pair.{Pair}
 use Rattle.definition.specs.declared.Step.{Step}
 use Rattle.definition.specs.Status.{pick, ◌and◌, refuse_unless, ◌or◌, refuse_if, ◌then◌, ok, is_done}

@@ -1,11 +1,11 @@
 -- The thresholds: set and asked. 01 "Delivered bytes", thresholds.
 use Rattle.std.specs.Prelude.{ℕ, ◌-◌, Bool, [], ◌∷◌, ltb}
 use Rattle.definition.specs.declared.Status.TheVariants.{InvalidArgs, PeerClosed}
-use Rattle.definition.specs.declared.Answer.{Answer}
+use Rattle.definition.specs.Status.{Answer}
 use Rattle.definition.specs.declared.Endpoint.{Endpoint}
 use Rattle.definition.specs.declared.Ends.{Ends}
 use Rattle.definition.specs.declared.Record.TheVariants.{Limits}
-use Rattle.definition.specs.declared.Answer.TheVariants.{Done}
+use Rattle.std.specs.declared.result.Result.TheVariants.{Ok}
 use Rattle.definition.specs.declared.Pair.{Pair}
 use Rattle.definition.specs.Status.{refuse_if, ◌then◌}
 use Rattle.definition.specs.Tests.{opening_test, Steps}
@@ -29,7 +29,7 @@ write_threshold_answer e h n =
 
 -- both are asked for by one call
 unfoldable pub thresholds_answer : Ends → (h : ℕ) → Answer
-thresholds_answer e h = opening_test e h then Done (Limits (own (is_one h) e).thresholds)
+thresholds_answer e h = opening_test e h then Ok (Limits (own (is_one h) e).thresholds)
 
 -- ---- the effects and the next pairs
 

@@ -3,8 +3,8 @@ use Rattle.std.specs.Prelude.{ℕ, ◌-◌, min, ◌+◌, Bool, List, [], ◌∷
 use Rattle.std.specs.Int.Bits.{bit_or}
 use Rattle.definition.specs.declared.Status.TheVariants.{InvalidArgs, OutOfRange, ShouldWait, BadState, PeerClosed}
 use Rattle.definition.specs.declared.Record.TheVariants.{Count}
-use Rattle.definition.specs.declared.Answer.{Answer}
-use Rattle.definition.specs.declared.Answer.TheVariants.{Done}
+use Rattle.definition.specs.Status.{Answer}
+use Rattle.std.specs.declared.result.Result.TheVariants.{Ok}
 use Rattle.definition.specs.declared.Endpoint.{Endpoint}
 use Rattle.definition.specs.declared.Ends.{Ends}
 use Rattle.definition.specs.declared.Queue.{Queue}
@@ -23,7 +23,7 @@ use Rattle.definition.specs.Memory.{fits, count_fits, is_null, RIGHT_WRITE, look
 -- a datagram is taken whole or refused
 unfoldable pub datagram_size : (C space n : ℕ) → Answer
 datagram_size C space n =
-    refuse_if (ltb C n) OutOfRange then refuse_if (ltb space n) ShouldWait then refuse_if (eqb n 0) InvalidArgs then Done (Count n)
+    refuse_if (ltb C n) OutOfRange then refuse_if (ltb space n) ShouldWait then refuse_if (eqb n 0) InvalidArgs then Ok (Count n)
 
 -- the size of a write of n bytes by `own` into the queue of `peer`; a stream takes what fits
 unfoldable pub write_size : (datagram : Bool) → (C : ℕ) → (own peer : Endpoint) → (n : ℕ) → Answer
@@ -32,7 +32,7 @@ write_size datagram C own peer n =
     then refuse_if (meets own.signals WRITE_DISABLED) BadState
     then refuse_if peer.closed PeerClosed
     then refuse_if (leb C peer.queue.bytes.count) ShouldWait
-    then pick datagram (datagram_size C (C - peer.queue.bytes.count) n) (Done (Count (min n (C - peer.queue.bytes.count))))
+    then pick datagram (datagram_size C (C - peer.queue.bytes.count) n) (Ok (Count (min n (C - peer.queue.bytes.count))))
 
 -- ---- the answer
 

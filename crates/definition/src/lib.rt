@@ -2,19 +2,19 @@
 // paragraph or call of documents 01 and 02 (i), and the functions of the other crates are proved to do it.
 #![tactic(auto)]
 
-// Why a call is refused. `status_number` gives each its number.
+// Why a call is refused, with the number of each: the status is that number with a minus sign.
 #[derive(Clone, Copy)]
 pub enum Status {
-    Internal,
-    NoResources,
-    InvalidArgs,
-    BadHandle,
-    OutOfRange,
-    BadState,
-    ShouldWait,
-    PeerClosed,
-    NotFound,
-    AccessDenied,
+    Internal = 1,
+    NoResources = 3,
+    InvalidArgs = 10,
+    BadHandle = 11,
+    OutOfRange = 14,
+    BadState = 20,
+    ShouldWait = 22,
+    PeerClosed = 24,
+    NotFound = 25,
+    AccessDenied = 30,
 }
 
 // What a socket says of its queue and its peer's. The peer's numbers are 0 if it is closed.
@@ -58,11 +58,8 @@ pub enum Record {
     Packet(PortPacket),
 }
 
-#[derive(Clone, Copy)]
-pub enum Answer {
-    Done(Record),
-    Refused(Status),
-}
+// What a call answers: the record of a done call, or why it is refused.
+pub type Answer = Result<Record, Status>;
 
 // A queue's place in a ring: where it starts and how many entries it has.
 #[repr(C)]
@@ -92,12 +89,8 @@ pub struct Endpoint {
     pub queue: Queue,
 }
 
-// What an end shows: its signal word, or that it is closed.
-#[derive(Clone, Copy)]
-pub enum SignalWord {
-    Closed,
-    Word(u32),
-}
+// What an end shows: its signal word; none once it is closed.
+pub type SignalWord = Option<u32>;
 
 // What a disposition does to one end's writing. The Rust has an `Option<bool>`.
 #[derive(Clone, Copy)]

@@ -7,8 +7,8 @@ use native.Mathlib.Nat.{not-suc-le-zero}
 use lib.Dec.{leb, eqb}
 use borrow.Author.Tests.{ltb-false, leb-true, leb-false, eqb-false, ne_eqb}
 use Rattle.definition.specs.declared.Status.{Status}
-use Rattle.definition.specs.declared.Answer.{Answer}
-use Rattle.definition.specs.declared.Answer.TheVariants.{Done, Refused}
+use Rattle.definition.specs.Status.{Answer}
+use Rattle.std.specs.declared.result.Result.TheVariants.{Ok, Err}
 use Rattle.definition.specs.declared.Record.TheVariants.{Count}
 use Rattle.definition.specs.Status.{pick, ◌and◌, ◌or◌, record_count, count_of, is_done, refuse_if, refuse_unless, ◌then◌}
 use Rattle.definition.specs.Port.{used, wait_answer as endsWaitAnswer, wait_answer, take_answer}
@@ -26,13 +26,13 @@ use Rattle.definition_runs.proofs.Moves.{Taken}
 -- an answer with a count above 0 passed its first test
 peel : (P : Answer → Type 0) (a b : Answer) → (is_done a ≡ true → 0 < count_of b → P b) → 0 < count_of (a then b) → P (a then b)
 unfolding ◌then◌ count_of is_done
-peel P (Done d) b f h = f refl h
-peel P (Refused s) b f h = absurd (not-suc-le-zero h)
+peel P (Ok d) b f h = f refl h
+peel P (Err s) b f h = absurd (not-suc-le-zero h)
 
 pub then_done : (a b : Answer) → is_done (a then b) ≡ true → (is_done a ≡ true) × (is_done b ≡ true)
 unfolding ◌then◌ is_done
-then_done (Done d) b e = (refl, e)
-then_done (Refused s) b e = let z : ◌≡◌ {A = Bool} false true = e in ((cc), (cc))
+then_done (Ok d) b e = (refl, e)
+then_done (Err s) b e = let z : ◌≡◌ {A = Bool} false true = e in ((cc), (cc))
 
 pub if_off : (b : Bool) (s : Status) → is_done (refuse_if b s) ≡ true → b ≡ false
 unfolding refuse_if is_done
@@ -79,9 +79,9 @@ size_room dg C e e' n =
     peel P _ _ (λ _. peel P _ _ (λ _. peel P _ _ (λ _. peel P _ _ (λ k. room dg (leb-false C e'.queue.bytes.count (if_off _ _ k))))))
   where
     room : (dg : Bool) → e'.queue.bytes.count < C
-        → 0 < count_of (pick dg (datagram_size C (C - e'.queue.bytes.count) n) (Done (Count (min n (C - e'.queue.bytes.count)))))
+        → 0 < count_of (pick dg (datagram_size C (C - e'.queue.bytes.count) n) (Ok (Count (min n (C - e'.queue.bytes.count)))))
         → Room C e'.queue.bytes.count n
-        (count_of (pick dg (datagram_size C (C - e'.queue.bytes.count) n) (Done (Count (min n (C - e'.queue.bytes.count))))))
+        (count_of (pick dg (datagram_size C (C - e'.queue.bytes.count) n) (Ok (Count (min n (C - e'.queue.bytes.count))))))
     room true below h = datagram_room C e'.queue.bytes.count n below h
     room false below h = record { fits = omega arith; within = omega arith }
 
@@ -123,9 +123,9 @@ unfolding read_size pick count_of record_count available_in
 size-taken dg e e' first n = go (eqb e.queue.bytes.count 0) refl dg
   where
     go : (b : Bool) → eqb e.queue.bytes.count 0 ≡ b → (dg : Bool)
-        → 0 < count_of (pick b (empty_answer e e') (Done (Count (min n (pick dg first e.queue.bytes.count)))))
-        → Taken dg e.queue.bytes.count first (count_of (pick b (empty_answer e e') (Done (Count (min n (pick dg first e.queue.bytes.count))))))
-        × (count_of (pick b (empty_answer e e') (Done (Count (min n (pick dg first e.queue.bytes.count))))) ≤ n)
+        → 0 < count_of (pick b (empty_answer e e') (Ok (Count (min n (pick dg first e.queue.bytes.count)))))
+        → Taken dg e.queue.bytes.count first (count_of (pick b (empty_answer e e') (Ok (Count (min n (pick dg first e.queue.bytes.count))))))
+        × (count_of (pick b (empty_answer e e') (Ok (Count (min n (pick dg first e.queue.bytes.count))))) ≤ n)
     go true z dg h = absurd (none_empty e e' h)
     go false z true h =
         let k : e.queue.bytes.count ≡ 0 → ⊥ = eqb-false e.queue.bytes.count 0 z in

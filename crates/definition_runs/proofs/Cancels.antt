@@ -3,7 +3,7 @@ use Prim.Native.Nat.{ℕ, ◌+◌, ◌≤◌}
 use mathlib.Core.Path.{◌≡◌, refl, sym, ap, ◌∙◌}
 use mathlib.Core.Bool.{true}
 use lib.ListN.{length}
-use Rattle.definition.specs.declared.Answer.TheVariants.{Done}
+use Rattle.std.specs.declared.result.Result.TheVariants.{Ok}
 use Rattle.definition.specs.declared.Record.TheVariants.{Count}
 use Rattle.definition.specs.declared.Pair.{Pair}
 use Rattle.definition.specs.Status.{pick, is_done, count_of, record_count}
@@ -35,7 +35,7 @@ left p h key l = used-cancelled (is_one h) key p.places l
 pub cancel-frees : CancelFrees
 unfolding count_of record_count is_done
 cancel-frees p h key n r l c e =
-    let told : cancel_answer p h key ≡ Done (Count n) = sym c.answer ∙ e in
+    let told : cancel_answer p h key ≡ Ok (Count n) = sym c.answer ∙ e in
     let done : is_done (cancel_answer p h key) ≡ true = ap is_done told in
     let many : n ≡ matching (is_one h) key p.places = sym (ap count_of told) ∙ counts p h key done in
     rw (c.pair ∙ goes p h key done, many) (left p h key l)

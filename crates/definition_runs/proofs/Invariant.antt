@@ -9,8 +9,8 @@ use native.Mathlib.Omega.{arith}
 use lib.ListN.{length, take, drop, length-drop, get_elem?}
 use lib.Dec.{eqb}
 use borrow.Author.Tests.{leb-true, eqb-false}
-use Rattle.definition.specs.declared.Answer.{Answer}
-use Rattle.definition.specs.declared.Answer.TheVariants.{Done, Refused}
+use Rattle.definition.specs.Status.{Answer}
+use Rattle.std.specs.declared.result.Result.TheVariants.{Ok, Err}
 use Rattle.definition.specs.Status.{pick, ◌or◌, is_done}
 use Rattle.definition.specs.Port.{used, sound}
 use Rattle.definition.specs.declared.Queue.{Queue}
@@ -62,8 +62,8 @@ module _ (f : Origin → Option ℕ) (dg : Bool) (z1 z2 : Size) where
   steps_inv : (s : State) (ln : OriginLines) (q : Pair) (r : Answer) → (is_done r ≡ true → Kept s.pair q)
       → Inv f dg z1 z2 s ln → Inv f dg z1 z2 (with_pair (pick (is_done r) q s.pair) s) ln
   unfolding is_done pick
-  steps_inv s ln q (Done d) k v = inv_kept s.pair q s.one s.two ln (k refl) v
-  steps_inv s ln q (Refused e) k v = v
+  steps_inv s ln q (Ok d) k v = inv_kept s.pair q s.one s.two ln (k refl) v
+  steps_inv s ln q (Err e) k v = v
 
   -- ---- write
 
@@ -203,8 +203,8 @@ module _ (f : Origin → Option ℕ) (dg : Bool) (z1 z2 : Size) where
 
     close_inv : (t : Bool) (r : Answer) → Inv f dg z1 z2 (with_pair (pick (is_done r) (closed t s.pair) s.pair) s) (pick (is_done r) (with_own t [] ln) ln)
     unfolding is_done pick
-    close_inv t (Done d) = closed_inv t
-    close_inv t (Refused e) = v
+    close_inv t (Ok d) = closed_inv t
+    close_inv t (Err e) = v
 
     -- ---- any call
 

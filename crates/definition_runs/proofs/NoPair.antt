@@ -6,8 +6,8 @@ use mathlib.Core.List.{List, [], ◌∷◌, map}
 use mathlib.Core.Option.{Option, some}
 use lib.ListN.{length}
 use Rattle.definition.specs.declared.Status.TheVariants.{Internal}
-use Rattle.definition.specs.declared.Answer.{Answer}
-use Rattle.definition.specs.declared.Answer.TheVariants.{Refused}
+use Rattle.definition.specs.Status.{Answer}
+use Rattle.std.specs.declared.result.Result.TheVariants.{Err}
 use Rattle.definition.specs.Status.{◌and◌, refuse_unless, ◌then◌}
 use Rattle.definition.specs.Info.{info_answer}
 use Rattle.definition.specs.Read.{read_answer, user_read_answer}
@@ -22,12 +22,12 @@ use Rattle.definition.specs.Disposition.{plain_dispose_answer, user_dispose_answ
 use Rattle.definition.specs.Calls.{Control, set_disposition, shutdown, plain_disposition, plain_shutdown, set_read_threshold, set_write_threshold, get_thresholds, get_info, wait, take_packet, cancel, Call, write, read, plain_write, plain_read, close, control, Input, Public, public, Slices, State, state, seen_of, View, view, control_answer, answer_to, pair_after, answer_of, outcome, outcomes}
 use Rattle.definition_runs.specs.TwoRuns.{Origin, OriginLines, no_lines, lines_after, source_of, sources_from, seen, answers, deliveries, calls}
 use Rattle.definition_runs.proofs.Lists.{cons_path}
-use Rattle.definition_runs.proofs.Refused.{pair_stays, lines_stay, no_source, refused-after, refused-delivers}
+use Rattle.definition_runs.proofs.Err.{pair_stays, lines_stay, no_source, refused-after, refused-delivers}
 
 abbrev no-view : (z1 z2 : Lent) → View
 no-view z1 z2 = record { pair = no_pair; one = z1; two = z2 }
 
-control-internal : (z1 z2 : Lent) (c : Control) → control_answer (no-view z1 z2) c ≡ Refused Internal
+control-internal : (z1 z2 : Lent) (c : Control) → control_answer (no-view z1 z2) c ≡ Err Internal
 unfolding control_answer no_pair sound_ends sound_test opening_test refuse_unless ◌then◌ ◌and◌ read_threshold_answer write_threshold_answer thresholds_answer shutdown_answer info_answer wait_answer take_answer cancel_answer plain_dispose_answer user_dispose_answer user_shutdown_answer
 control-internal z1 z2 (set_disposition h a b) = refl
 control-internal z1 z2 (shutdown h o) = refl
@@ -41,7 +41,7 @@ control-internal z1 z2 (wait h k m x) = refl
 control-internal z1 z2 take_packet = refl
 control-internal z1 z2 (cancel h k) = refl
 
-internal : (z1 z2 : Lent) (base size : ℕ) (c : Call) → answer_to (no-view z1 z2) base size c ≡ Refused Internal
+internal : (z1 z2 : Lent) (base size : ℕ) (c : Call) → answer_to (no-view z1 z2) base size c ≡ Err Internal
 unfolding answer_to no_pair sound_ends sound_test opening_test refuse_unless ◌then◌ ◌and◌ write_answer read_answer close_answer user_write_answer user_read_answer
 internal z1 z2 base size (write h o a n at) = refl
 internal z1 z2 base size (read h o a n at) = refl
@@ -54,18 +54,18 @@ module _ (one two : Slices) where
   none : State
   none = state no_pair one two
 
-  answer-none : (i : Input) → answer_of none i ≡ Refused Internal
+  answer-none : (i : Input) → answer_of none i ≡ Err Internal
   unfolding none
   answer-none i = internal _ _ i.base (length i.memory) i.call
 
   -- what is seen of each call
-  seen_none : (i : Input) → (outcome none i).seen ≡ seen_of (Refused Internal) no_pair
+  seen_none : (i : Input) → (outcome none i).seen ≡ seen_of (Err Internal) no_pair
   unfolding none outcome
   seen_none i =
       ap (λ (x : Answer). seen_of x (pair_after (view none) i.call x)) (answer-none i)
-      ∙ ap (seen_of (Refused Internal)) (pair_stays (view none) i.call Internal)
+      ∙ ap (seen_of (Err Internal)) (pair_stays (view none) i.call Internal)
 
-  pub seen_all : (is : List Input) → seen (outcomes (state no_pair one two) is) ≡ map (λ (p : Public). seen_of (Refused Internal) no_pair) (map public is)
+  pub seen_all : (is : List Input) → seen (outcomes (state no_pair one two) is) ≡ map (λ (p : Public). seen_of (Err Internal) no_pair) (map public is)
   unfolding none outcomes
   seen_all [] = refl
   seen_all (i ∷ is) =

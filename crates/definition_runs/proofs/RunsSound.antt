@@ -11,8 +11,8 @@ use lib.Dec.{eqb}
 use borrow.Author.Tests.{lt-ltb, le-leb}
 use Rattle.definition.specs.declared.Status.{Status}
 use Rattle.definition.specs.declared.Status.TheVariants.{Internal, NoResources, InvalidArgs, BadHandle, OutOfRange, BadState, ShouldWait, PeerClosed, NotFound, AccessDenied}
-use Rattle.definition.specs.declared.Answer.{Answer}
-use Rattle.definition.specs.declared.Answer.TheVariants.{Done, Refused}
+use Rattle.definition.specs.Status.{Answer}
+use Rattle.std.specs.declared.result.Result.TheVariants.{Ok, Err}
 use Rattle.definition.specs.Status.{pick, ◌and◌, is_done, refuse_if, refuse_unless, ◌then◌}
 use Rattle.definition.specs.declared.Queue.{Queue}
 use Rattle.definition.specs.declared.Endpoint.{Endpoint}
@@ -42,32 +42,32 @@ use Rattle.definition_runs.proofs.TwoRuns.{next_inv, here_in, after_in}
 -- ---- answers that are not INTERNAL
 
 unfoldable internal : Answer → Bool
-internal (Done d) = false
-internal (Refused Internal) = true
-internal (Refused NoResources) = false
-internal (Refused InvalidArgs) = false
-internal (Refused BadHandle) = false
-internal (Refused OutOfRange) = false
-internal (Refused BadState) = false
-internal (Refused ShouldWait) = false
-internal (Refused PeerClosed) = false
-internal (Refused NotFound) = false
-internal (Refused AccessDenied) = false
+internal (Ok d) = false
+internal (Err Internal) = true
+internal (Err NoResources) = false
+internal (Err InvalidArgs) = false
+internal (Err BadHandle) = false
+internal (Err OutOfRange) = false
+internal (Err BadState) = false
+internal (Err ShouldWait) = false
+internal (Err PeerClosed) = false
+internal (Err NotFound) = false
+internal (Err AccessDenied) = false
 
 Not : Answer → Type 0
 Not a = internal a ≡ false
 
 then_not : (a b : Answer) → Not a → Not b → Not (a then b)
 unfolding Not ◌then◌
-then_not (Done d) b x y = y
-then_not (Refused s) b x y = x
+then_not (Ok d) b x y = y
+then_not (Err s) b x y = x
 
-if_not : (b : Bool) (s : Status) → Not (Refused s) → Not (refuse_if b s)
+if_not : (b : Bool) (s : Status) → Not (Err s) → Not (refuse_if b s)
 unfolding Not internal refuse_if
 if_not true s x = x
 if_not false s x = refl
 
-unless_not : (b : Bool) (s : Status) → Not (Refused s) → Not (refuse_unless b s)
+unless_not : (b : Bool) (s : Status) → Not (Err s) → Not (refuse_unless b s)
 unfolding Not internal refuse_unless
 unless_not true s x = refl
 unless_not false s x = x
@@ -81,7 +81,7 @@ unfolding pick
 pick-not true x y h k = h
 pick-not false x y h k = k
 
-invalid : Not (Refused InvalidArgs)
+invalid : Not (Err InvalidArgs)
 unfolding Not internal
 invalid = refl
 
@@ -198,7 +198,7 @@ module _ (v : View) (g : Good v) where
   answer-not base size (close h) = opening_not h
   answer-not base size (control c) = control-not c
 
-never : (a : Answer) → Not a → a ≡ Refused Internal → ⊥
+never : (a : Answer) → Not a → a ≡ Err Internal → ⊥
 unfolding Not internal
 never a x e = let z : ◌≡◌ {A = Bool} true false = rw e at x in let y : ◌≡◌ {A = ℕ} 0 1 = cc in omega arith
 

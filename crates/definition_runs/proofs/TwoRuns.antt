@@ -9,8 +9,8 @@ use native.Mathlib.Nat.{suc-add, add-suc, zero-add, add-zero}
 use lib.ListN.{length, get_elem?}
 use lib.Dec.{eqb}
 use Rattle.definition.specs.declared.Status.TheVariants.{Internal}
-use Rattle.definition.specs.declared.Answer.{Answer}
-use Rattle.definition.specs.declared.Answer.TheVariants.{Done, Refused}
+use Rattle.definition.specs.Status.{Answer}
+use Rattle.std.specs.declared.result.Result.TheVariants.{Ok, Err}
 use Rattle.definition.specs.Status.{pick, is_done}
 use Rattle.definition.specs.Create.{create_answer, new_pair, no_pair}
 use Rattle.definition.specs.declared.Pair.{Pair}
@@ -107,9 +107,9 @@ module _ (whole : List Input) (dg : Bool) (z1 z2 : Size) where
 
 -- what is seen of the calls, from what is public; a refused create leaves the pair of no capacity
 unfoldable public_from : Create → (z1 z2 : Size) → Answer → List Public → List Seen
-public_from c z1 z2 (Done d) ps =
+public_from c z1 z2 (Ok d) ps =
     public_run (eqb c.kind 1) z1 z2 0 (new_pair (eqb c.kind 1) c.capacity c.rights1 c.rights2) no_lines ps
-public_from c z1 z2 (Refused e) ps = map (λ (p : Public). seen_of (Refused Internal) no_pair) ps
+public_from c z1 z2 (Err e) ps = map (λ (p : Public). seen_of (Err Internal) no_pair) ps
 
 whole_in : (is : List Input) (k : ℕ) → get_elem? is (0 + k) ≡ get_elem? is k
 whole_in is k = ap (get_elem? is) (zero-add k)
@@ -121,9 +121,9 @@ seen-whole c one two is = go (created_by c one two) (λ e. created_fits c one tw
   where
     go : (r : Answer) → (is_done r ≡ true → Fit c one two)
         → seen (outcomes (state (pair_created c r) one two) is) ≡ public_from c (size_of one) (size_of two) r (map public is)
-    go (Done d) fit =
+    go (Ok d) fit =
         seen-run is (eqb c.kind 1) (size_of one) (size_of two) 0 _ no_lines is (whole_in is) (new_inv (found is) c one two (fit refl))
-    go (Refused e) fit = seen_all one two is
+    go (Err e) fit = seen_all one two is
 
 origin_whole : (c : Create) (one two : Slices) (is : List Input)
     → map (map some) (deliveries (outcomes (state_created c one two) is))
@@ -134,9 +134,9 @@ origin_whole c one two is = go (created_by c one two) (λ e. created_fits c one 
     go : (r : Answer) → (is_done r ≡ true → Fit c one two)
         → map (map some) (deliveries (outcomes (state (pair_created c r) one two) is))
         ≡ map (map (found is)) (sources_from (eqb c.kind 1) 0 no_lines (calls is) (answers (outcomes (state (pair_created c r) one two) is)))
-    go (Done d) fit =
+    go (Ok d) fit =
         origin_run is (eqb c.kind 1) (size_of one) (size_of two) 0 _ no_lines is (whole_in is) (new_inv (found is) c one two (fit refl))
-    go (Refused e) fit = origins-all one two (found is) (eqb c.kind 1) 0 is
+    go (Err e) fit = origins-all one two (found is) (eqb c.kind 1) 0 is
 
 -- ---- memory at exit
 

@@ -2,7 +2,7 @@
 -- k of a queue stands at (start + k) modulo C, and one step on is one more, and 0 at C. 02 (ii).
 use Rattle.std.specs.Prelude.{ℕ, ◌+◌, ◌-◌, ◌%◌, ◌≤◌, ◌<◌, Bool, true, List, [], ◌∷◌, ◌≡◌, length, get_or, drop}
 use Rattle.std.proofs.Math.Seq.{paste}
-use Rattle.definition.specs.declared.Answer.TheVariants.{Done}
+use Rattle.std.specs.declared.result.Result.TheVariants.{Ok}
 use Rattle.definition.specs.declared.Record.TheVariants.{Count}
 use Rattle.definition.specs.declared.Pair.{Pair}
 use Rattle.definition.specs.declared.Queue.{Queue}
@@ -64,25 +64,25 @@ behind_queued s = s.start + s.count
 pub record CallCopies : Type 0 where
   -- a write of m bytes: byte k of them goes to (start + queued + k) modulo C of the peer's ring, and every other entry stays
   pub write : (p : Pair) (h m : ℕ) (src ring ring' table table' : List ℕ) (r : Step)
-      → Writes p h src ring ring' table table' r → r.answer ≡ Done (Count m)
+      → Writes p h src ring ring' table table' r → r.answer ≡ Ok (Count m)
       → ring' ≡ put_modulo p.capacity (behind_queued (peer_queue p h).bytes) m src ring
   -- on datagram pairs its length goes behind those in the peer's table likewise
   pub lengths : (p : Pair) (h m : ℕ) (src ring ring' table table' : List ℕ) (r : Step)
-      → Writes p h src ring ring' table table' r → r.answer ≡ Done (Count m) → p.datagram ≡ true
+      → Writes p h src ring ring' table table' r → r.answer ≡ Ok (Count m) → p.datagram ≡ true
       → table' ≡ put_modulo p.capacity (behind_queued (peer_queue p h).lengths) 1 (m ∷ []) table
   -- a read or peek of m bytes: byte k of them is the one at (start + k) modulo C of its ring, and lands at byte k of the buffer
   pub read : (p : Pair) (h m : ℕ) (peek : Bool) (ring table buffer buffer' : List ℕ) (r : Step)
-      → Reads p h peek ring table buffer buffer' r → r.answer ≡ Done (Count m)
+      → Reads p h peek ring table buffer buffer' r → r.answer ≡ Ok (Count m)
       → buffer' ≡ paste buffer 0 (front_modulo p.capacity (own_queue p h).bytes.start m ring) m
   -- the same over user memory, where the bytes begin at the address. A read's bytes land first, the count over them
   pub user_write : (p : Pair) (h base options address n countAt m : ℕ) (memory memory' ring ring' table table' : List ℕ) (r : Step)
-      → UserWrites p h base options address n countAt memory memory' ring ring' table table' r → r.answer ≡ Done (Count m)
+      → UserWrites p h base options address n countAt memory memory' ring ring' table table' r → r.answer ≡ Ok (Count m)
       → ring' ≡ put_modulo p.capacity (behind_queued (peer_queue p h).bytes) m (drop (address - base) memory) ring
   pub user_lengths : (p : Pair) (h base options address n countAt m : ℕ) (memory memory' ring ring' table table' : List ℕ) (r : Step)
-      → UserWrites p h base options address n countAt memory memory' ring ring' table table' r → r.answer ≡ Done (Count m) → p.datagram ≡ true
+      → UserWrites p h base options address n countAt memory memory' ring ring' table table' r → r.answer ≡ Ok (Count m) → p.datagram ≡ true
       → table' ≡ put_modulo p.capacity (behind_queued (peer_queue p h).lengths) 1 (m ∷ []) table
   pub user_read : (p : Pair) (h base options address n countAt m : ℕ) (ring table memory memory' : List ℕ) (r : Step)
-      → UserReads p h base options address n countAt ring table memory memory' r → r.answer ≡ Done (Count m)
+      → UserReads p h base options address n countAt ring table memory memory' r → r.answer ≡ Ok (Count m)
       → memory' ≡ count_landed base countAt m (paste memory (address - base) (front_modulo p.capacity (own_queue p h).bytes.start m ring) m)
 
 -- ---- examples, through `CallCopies`: on the state of cases/Promises, `abc` queued from place 7 of 8 on, a write of `cde` and reads

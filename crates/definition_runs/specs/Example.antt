@@ -2,7 +2,7 @@
 -- 01 "Two runs".
 use Rattle.std.specs.Prelude.{ℕ, false, true, List, [], ◌∷◌, ◌++◌, map, ◌≡◌, replicate, get_or, eqb}
 use Rattle.definition.specs.Calls.{write, read, plain_write, plain_read, close, control, wait, cancel, Input, input, Slices, Outcome, outcomes, state_created, State, after_all, Seen, seen_of, created_by, pair_created}
-use Rattle.definition.specs.declared.Answer.TheVariants.{Done}
+use Rattle.std.specs.declared.result.Result.TheVariants.{Ok}
 use Rattle.definition.specs.declared.Record.TheVariants.{Count}
 use Rattle.definition.specs.Status.{ok}
 use Rattle.definition.specs.cases.Lines.{lines_of}
@@ -175,5 +175,5 @@ pub record Examples : Type 0 where
       rings_of (outcomes_of stream_kind empty_slices stream_salary)
       ≡ replicate 2 (replicate 8 0) ++ (replicate 3 (49 ∷ 50 ∷ 51 ∷ 52 ∷ 53 ∷ 54 ∷ 0 ∷ 0 ∷ []) ++ replicate 9 wrapped)
   -- 02 (i): the cancel answers 2 in both runs
-  pub cancels : get_or (answers (outcomes_of stream_kind empty_slices stream_salary)) 3 ok ≡ Done (Count 2)
-  pub cancels' : get_or (answers (outcomes_of stream_kind used_slices stream_filler)) 3 ok ≡ Done (Count 2)
+  pub cancels : get_or (answers (outcomes_of stream_kind empty_slices stream_salary)) 3 ok ≡ Ok (Count 2)
+  pub cancels' : get_or (answers (outcomes_of stream_kind used_slices stream_filler)) 3 ok ≡ Ok (Count 2)

@@ -1,12 +1,12 @@
 -- The exported calls: what each ensures, runs of them, and what is claimed of these. 01 "Status and answer word", "Two runs".
 use Rattle.std.specs.Prelude.{ℕ, ◌-◌, ◌≡◌, List, [], ◌∷◌, map, Bool, true, false, ℤ, pos, negsuc, eqb, take, drop}
 use Rattle.std.proofs.Math.Option.{some}
-use Rattle.definition.specs.declared.Answer.{Answer}
+use Rattle.definition.specs.Status.{Answer}
 use Rattle.definition.specs.declared.Pair.{Pair}
 use Rattle.definition.specs.declared.Step.{Step}
 use Rattle.definition.specs.declared.Record.{Record}
 use Rattle.definition.specs.declared.Record.TheVariants.{Empty, Count, Info, Limits, Packet}
-use Rattle.definition.specs.declared.Answer.TheVariants.{Done, Refused}
+use Rattle.std.specs.declared.result.Result.TheVariants.{Ok, Err}
 use Rattle.definition.specs.Status.{answer_word, pick, is_done}
 use Rattle.definition.specs.Tests.{opening_test}
 use Rattle.definition.specs.Pair.{is_one, own, ends_of}
@@ -60,8 +60,8 @@ packet_numbers (Limits t) out = out
 
 -- the array after a call: the numbers of its record, of the kind that the array is for; after a refusal as it was
 unfoldable pub array_of : (Record → List ℕ → List ℕ) → Answer → List ℕ → List ℕ
-array_of numbers (Done d) out = numbers d out
-array_of numbers (Refused s) out = out
+array_of numbers (Ok d) out = numbers d out
+array_of numbers (Err s) out = out
 
 -- A call whose record goes to a lent array: its promise, and the array.
 pub record Recorded (numbers : Record → List ℕ → List ℕ) (promise : Step → Type 0) (out out' : List ℕ) (r : Step) : Type 0 where

@@ -1,13 +1,13 @@
 -- The call that a record makes, on the pair and on what the program lends: memory at 65536, and the ring and the table of each end.
 -- 01 "Script program", tag and body.
 use Rattle.std.specs.Prelude.{ℕ, ◌+◌, ◌-◌, List, [], ◌++◌, Bool, true, false, length, get_or, take, drop, eqb, ltb}
-use Rattle.definition.specs.declared.Answer.{Answer}
+use Rattle.definition.specs.Status.{Answer}
 use Rattle.definition.specs.declared.Pair.{Pair}
 use Rattle.definition.specs.declared.Step.{Step}
 use Rattle.definition_script.specs.declared.TransferBody.{TransferBody}
 use Rattle.definition.specs.declared.Status.TheVariants.{InvalidArgs}
 use Rattle.definition.specs.declared.Record.TheVariants.{Count}
-use Rattle.definition.specs.declared.Answer.TheVariants.{Done}
+use Rattle.std.specs.declared.result.Result.TheVariants.{Ok}
 use Rattle.definition.specs.Status.{pick, is_done, count_of, refuse_unless, ◌then◌}
 use Rattle.definition.specs.Create.{create_answer, new_pair, no_pair}
 use Rattle.definition_script.specs.Record.{four, eight, READ, FILL, transfer_of}
@@ -192,7 +192,7 @@ read_call memory z p t = read_leaves memory z p t (read_answer_of memory z p t)
 
 -- fill is no call on the pair: its bytes land where their range fits
 unfoldable pub fill_answer : (size address n : ℕ) → Answer
-fill_answer size address n = refuse_unless (fits BASE size address n) InvalidArgs then Done (Count n)
+fill_answer size address n = refuse_unless (fits BASE size address n) InvalidArgs then Ok (Count n)
 
 unfoldable pub filled : (address : ℕ) → (bytes memory : List ℕ) → List ℕ
 filled address bs memory = pick (fits BASE (length memory) address (length bs)) (written_at (address - BASE) bs memory) memory

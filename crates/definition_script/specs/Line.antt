@@ -1,13 +1,13 @@
 -- One line of the listing. 01 "Script program", line. 32 is a space, 10 a newline.
 use Rattle.std.specs.Prelude.{ℕ, ◌+◌, zero, suc, ◌/◌, ◌%◌, ◌*◌, List, ◌∷◌, [], ◌++◌, ltb, ℤ, pos, negsuc}
-use Rattle.definition.specs.declared.Answer.{Answer}
-use Rattle.definition.specs.declared.SignalWord.{SignalWord}
-use Rattle.definition.specs.declared.SignalWord.TheVariants.{Closed, Word}
+use Rattle.definition.specs.Status.{Answer}
+use Rattle.definition.specs.Signal.{SignalWord}
+use Rattle.std.specs.declared.option.Option.TheVariants.{None, Some}
 use Rattle.definition.specs.declared.SocketInfo.{SocketInfo}
 use Rattle.definition.specs.declared.PortPacket.{PortPacket}
 use Rattle.definition.specs.declared.Record.{Record}
 use Rattle.definition.specs.declared.Record.TheVariants.{Empty, Count, Info, Limits, Packet}
-use Rattle.definition.specs.declared.Answer.TheVariants.{Done, Refused}
+use Rattle.std.specs.declared.result.Result.TheVariants.{Ok, Err}
 use Rattle.definition.specs.Status.{pick, answer_word}
 
 -- ---- numbers and bytes as text
@@ -67,8 +67,8 @@ hex_text k n = 32 ∷ hex_of k n
 
 -- the signal word of an end: 8 hexadecimal digits, or `-` if it is closed or was never made
 unfoldable pub signal_text : SignalWord → List ℕ
-signal_text Closed = 45 ∷ []
-signal_text (Word w) = hex_of 8 w
+signal_text None = 45 ∷ []
+signal_text (Some w) = hex_of 8 w
 
 -- info adds its six numbers
 unfoldable pub own_text : SocketInfo → List ℕ
@@ -99,8 +99,8 @@ record_text (Packet k) bs = packet_text k
 
 -- a refused call adds nothing
 unfoldable pub added_text : Answer → (delivered : List ℕ) → List ℕ
-added_text (Done d) bs = record_text d bs
-added_text (Refused s) bs = []
+added_text (Ok d) bs = record_text d bs
+added_text (Err s) bs = []
 
 -- the record's number and the answer's word
 unfoldable pub front_text : (number : ℕ) → Answer → List ℕ

@@ -178,9 +178,9 @@ pub fn shown(e: Endpoint) -> SignalWord
     ensures { result ≡ shown e }
 {
     if e.closed {
-        return SignalWord::Closed;
+        return None;
     }
-    SignalWord::Word(e.signals)
+    Some(e.signals)
 }
 
 // Whether the word has the bit.
@@ -239,10 +239,10 @@ pub fn dispose_checks(
     ensures { result ≡ dispose_checks own peer disposition peer_disposition }
 {
     if enables_over(disposition, has_open_backlog(peer)) {
-        return Answer::Refused(Status::BadState);
+        return Err(Status::BadState);
     }
     if enables_over(peer_disposition, has_backlog(own)) {
-        return Answer::Refused(Status::BadState);
+        return Err(Status::BadState);
     }
-    Answer::Done(Record::Empty)
+    Ok(Record::Empty)
 }

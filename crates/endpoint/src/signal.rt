@@ -1,6 +1,5 @@
 // The signal word of an end: its bits, and one change of it. After object/signal.rs.
 ghost use Rattle.std.specs.Prelude.{◌≡◌};
-ghost use Rattle.definition.specs.Status.{pick};
 ghost use Rattle.definition.specs.Signal.{changed_word};
 
 // The signals of a socket, by the bits of the public header.
@@ -23,14 +22,4 @@ pub fn changed(word: u32, clear: u32, set: u32) -> u32
     ensures { result ≡ changed_word clear set word }
 {
     word & !clear | set
-}
-
-// One of two words.
-pub fn word_if(test: bool, yes: u32, no: u32) -> u32
-    ensures { result ≡ pick test yes no }
-{
-    if test {
-        return yes;
-    }
-    no
 }

@@ -6,9 +6,9 @@ use mathlib.Core.Bool.{Bool, true, false}
 use mathlib.Core.List.{List, []}
 use lib.ListN.{length, take, drop, length-drop}
 use lib.Seq.{drop-drop, length-take-le}
-use Rattle.definition.specs.declared.Answer.{Answer}
+use Rattle.definition.specs.Status.{Answer}
 use Rattle.definition.specs.Status.{pick, ◌or◌}
-use Rattle.definition.specs.declared.SignalWord.{SignalWord}
+use Rattle.definition.specs.Signal.{SignalWord}
 use Rattle.definition.specs.Pair.{shown, is_handle, shown_by}
 use Rattle.text.proofs.Place.{nothing, up_to, same}
 use Rattle.definition.specs.declared.Pair.{Pair}

@@ -10,7 +10,7 @@ ghost use Rattle.definition.specs.Create.{create_answer};
 ghost use Rattle.definition.specs.Disposition.{dispose_effect, disposition_of, plain_dispose_answer};
 ghost use Rattle.definition.specs.Status.{◌then◌, answer_word};
 ghost use Rattle.definition.specs.declared.Status.TheVariants.{InvalidArgs};
-ghost use Rattle.definition.specs.declared.Answer.TheVariants.{Refused};
+ghost use Rattle.std.specs.declared.result.Result.TheVariants.{Err};
 ghost use Rattle.endpoint.specs.ends.Outcome.{unchanged_ends};
 ghost use Rattle.control.specs.ByEffect.{moved_if};
 ghost use Rattle.definition_runs.specs.Exported.{signal_number, threshold_numbers, info_numbers, packet_numbers, array_of, Recorded};
@@ -23,13 +23,13 @@ use user_answers::lookup::disposition_of;
 
 // A number above 2 is refused; the record and the handle are tested before it.
 fn bad_number(e: Ends, handle: u32) -> EndsOutcome
-    ensures { result ≡ unchanged_ends e (opening_test e handle then Refused InvalidArgs) }
+    ensures { result ≡ unchanged_ends e (opening_test e handle then Err InvalidArgs) }
 {
     let a = opening_test(e, handle);
     if !endpoint::answer::is_done(a) {
         return endpoint::ends::unchanged(e, a);
     }
-    endpoint::ends::unchanged(e, Answer::Refused(Status::InvalidArgs))
+    endpoint::ends::unchanged(e, Err(Status::InvalidArgs))
 }
 
 // Disposition by its numbers, but for the visit of the waits.
@@ -84,7 +84,7 @@ fn put_thresholds(a: Answer, out: &mut [u64; 2])
     ensures { out.new ≡ array_of threshold_numbers a out.old }
 {
     match a {
-        Answer::Done(d) => match d {
+        Ok(d) => match d {
             Record::Empty => {}
             Record::Count(_) => {}
             Record::Info(_) => {}
@@ -93,7 +93,7 @@ fn put_thresholds(a: Answer, out: &mut [u64; 2])
             }
             Record::Packet(_) => {}
         },
-        Answer::Refused(_) => {}
+        Err(_) => {}
     }
 }
 
@@ -102,7 +102,7 @@ fn put_info(a: Answer, out: &mut [u64; 6])
     ensures { out.new ≡ array_of info_numbers a out.old }
 {
     match a {
-        Answer::Done(d) => match d {
+        Ok(d) => match d {
             Record::Empty => {}
             Record::Count(_) => {}
             Record::Info(i) => {
@@ -118,7 +118,7 @@ fn put_info(a: Answer, out: &mut [u64; 6])
             Record::Limits(_) => {}
             Record::Packet(_) => {}
         },
-        Answer::Refused(_) => {}
+        Err(_) => {}
     }
 }
 
@@ -127,7 +127,7 @@ fn put_packet(a: Answer, out: &mut [u64; 5])
     ensures { out.new ≡ array_of packet_numbers a out.old }
 {
     match a {
-        Answer::Done(d) => match d {
+        Ok(d) => match d {
             Record::Empty => {}
             Record::Count(_) => {}
             Record::Info(_) => {}
@@ -142,7 +142,7 @@ fn put_packet(a: Answer, out: &mut [u64; 5])
                 ];
             }
         },
-        Answer::Refused(_) => {}
+        Err(_) => {}
     }
 }
 

@@ -24,8 +24,8 @@ fn signal(out: &mut [u8], at: usize, w: SignalWord) -> usize
     ensures { Fit 8 at (signal_text w) result out.old out.new }
 {
     match w {
-        SignalWord::Closed => text::byte(out, at, b'-'),
-        SignalWord::Word(n) => text::hex(out, at, 8, n as u64),
+        None => text::byte(out, at, b'-'),
+        Some(n) => text::hex(out, at, 8, n as u64),
     }
 }
 
@@ -92,8 +92,8 @@ fn added(out: &mut [u8], at: usize, a: Answer, delivered: &[u8]) -> usize
     ensures { Fit 8193 at (added_text a delivered.now) result out.old out.new }
 {
     match a {
-        Answer::Done(d) => done(out, at, d, delivered),
-        Answer::Refused(_) => at,
+        Ok(d) => done(out, at, d, delivered),
+        Err(_) => at,
     }
 }
 

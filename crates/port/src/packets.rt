@@ -60,10 +60,10 @@ pub fn oldest(t: Places) -> Answer
     ensures { result ≡ (take_of t).answer }
 {
     if !is_sound(t.packets, t.waits) {
-        return Answer::Refused(Status::Internal);
+        return Err(Status::Internal);
     }
     if t.packets == 0 {
-        return Answer::Refused(Status::ShouldWait);
+        return Err(Status::ShouldWait);
     }
     let p = t.table[0];
     let packet = PortPacket {
@@ -73,7 +73,7 @@ pub fn oldest(t: Places) -> Answer
         count: 1,
         timestamp: 0,
     };
-    Answer::Done(Record::Packet(packet))
+    Ok(Record::Packet(packet))
 }
 
 // Takes the oldest packet.

@@ -108,7 +108,7 @@ pub fn sound_answer(sound: bool) -> Answer
     ensures { result ≡ refuse_unless sound Internal }
 {
     if sound {
-        return Answer::Done(Record::Empty);
+        return Ok(Record::Empty);
     }
-    Answer::Refused(Status::Internal)
+    Err(Status::Internal)
 }

@@ -3,7 +3,7 @@ use Prim.Native.Nat.{ℕ}
 use mathlib.Core.Path.{◌≡◌, refl, ap, subst}
 use mathlib.Core.Bool.{false}
 use lib.Dec.{ltb}
-use Rattle.definition.specs.declared.Answer.{Answer}
+use Rattle.definition.specs.Status.{Answer}
 use Rattle.definition.specs.Status.{pick, ◌then◌}
 use Rattle.endpoint.proofs.answer.Rules.{refuse_off}
 use Rattle.definition.specs.declared.Disposition.{Disposition}

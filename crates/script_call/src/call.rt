@@ -70,7 +70,7 @@ pub fn call(
     if !crate::record::is_body(tag, body.len()) {
         return Step {
             pair: p,
-            answer: Answer::Refused(Status::InvalidArgs),
+            answer: Err(Status::InvalidArgs),
         };
     }
     match tag {

@@ -15,14 +15,14 @@ fn put(memory: &mut [u8], address: u64, bytes: &[u8]) -> Answer
     ensures { (result ≡ fill_answer (length memory.old) address (length bytes.now)) × (memory.new ≡ filled address bytes.now memory.old) }
 {
     if address < BASE {
-        return Answer::Refused(Status::InvalidArgs);
+        return Err(Status::InvalidArgs);
     }
     let at = (address - BASE) as usize;
     if text::has_room(memory.len(), at, bytes.len()) {
         text::copy(memory, at, bytes);
-        return Answer::Done(Record::Count(bytes.len() as u32));
+        return Ok(Record::Count(bytes.len() as u32));
     }
-    Answer::Refused(Status::InvalidArgs)
+    Err(Status::InvalidArgs)
 }
 
 // The bytes stand in the body behind their address. With a body that is not right for a fill nothing is put.
@@ -30,7 +30,7 @@ pub fn fill(memory: &mut [u8], body: &[u8]) -> Answer
     ensures { FillMade memory.old body.now memory.new result }
 {
     if !crate::record::is_body(11, body.len()) {
-        return Answer::Refused(Status::InvalidArgs);
+        return Err(Status::InvalidArgs);
     }
     let address = fields::u64_at(body, 0);
     put(memory, address, &body[8..])

@@ -7,8 +7,8 @@ use native.Mathlib.Omega.{arith}
 use lib.ListN.{length}
 use lib.Dec.{eqb, ltb}
 use borrow.Author.Tests.{eqb-true, leb-true}
-use Rattle.definition.specs.declared.Answer.{Answer}
-use Rattle.definition.specs.declared.Answer.TheVariants.{Done}
+use Rattle.definition.specs.Status.{Answer}
+use Rattle.std.specs.declared.result.Result.TheVariants.{Ok}
 use Rattle.definition.specs.declared.Record.TheVariants.{Count}
 use Rattle.definition.specs.declared.Status.TheVariants.{NotFound}
 use Rattle.definition.specs.declared.Pair.{Pair}
@@ -35,7 +35,7 @@ leaves asked p h key =
     }
 
 abbrev answered : Answer → (removed : ℕ) → Answer
-answered x n = x then refuse_if (eqb n 0) NotFound then Done (Count n)
+answered x n = x then refuse_if (eqb n 0) NotFound then Ok (Count n)
 
 -- the pair with its own places
 own-places : (p : Pair) → with_places p.places p ≡ p
@@ -83,24 +83,24 @@ cancel-steps p h key o d n q x l fo fd fn fq fx = rw (fq, fx, fn, fd, fo) (by (i
 
 -- ---- a cancel that takes one place out of at most 8
 
-passed-one : Done (Count 1) ≡ (refuse_if (eqb 1 0) NotFound then Done (Count 1))
+passed-one : Ok (Count 1) ≡ (refuse_if (eqb 1 0) NotFound then Ok (Count 1))
 unfolding refuse_if ◌then◌
 passed-one = refl
 
 pub one-steps : (p : Pair) (h key k : ℕ) (q : Pair) → length p.places.table ≡ 128
     → k ≡ only_match (is_done (opening_test (ends_of p) h)) (is_one h) key p.places → ltb k 8 ≡ true
     → q ≡ with_places (pick (is_among_eight k p.places) (without_place k p.places) p.places) p
-    → Steps p (cancel_answer p h key) (cancelled (is_one h) key p) (record { pair = q; answer = Done (Count 1) })
+    → Steps p (cancel_answer p h key) (cancelled (is_one h) key p) (record { pair = q; answer = Ok (Count 1) })
 unfolding cancel_answer cancelled pick is_done
 one-steps p h key k q l e b f =
     let t = p.places in
     let w = only_one (is_done (opening_test (ends_of p) h)) (is_one h) key t k l e b in
-    let a : Done (Count 1) ≡ cancel_answer p h key =
-    then_go (opening_test (ends_of p) h) (opening_test (ends_of p) h) _ (Done (Count 1)) refl w.done (counted-one (matching (is_one h) key t) w.count) in
+    let a : Ok (Count 1) ≡ cancel_answer p h key =
+    then_go (opening_test (ends_of p) h) (opening_test (ends_of p) h) _ (Ok (Count 1)) refl w.done (counted-one (matching (is_one h) key t) w.count) in
     record {
       answer = a;
       pair = f ∙ ap (λ (u : Places). with_places u p) w.left ∙ ap (λ (x : Answer). pick (is_done x) (with_places (cancelled_of (is_one h) key t) p) p) a;
     }
   where
-    counted-one : (n : ℕ) → n ≡ 1 → Done (Count 1) ≡ (refuse_if (eqb n 0) NotFound then Done (Count n))
+    counted-one : (n : ℕ) → n ≡ 1 → Ok (Count 1) ≡ (refuse_if (eqb n 0) NotFound then Ok (Count n))
     counted-one n e = rw e passed-one

@@ -1,7 +1,7 @@
 -- A call that is lent nothing, put together from its answer and its next pair. Assumes nothing.
 use mathlib.Core.Path.{◌≡◌, refl, sym, ap, ◌∙◌}
 use mathlib.Core.Bool.{Bool, true, false}
-use Rattle.definition.specs.declared.Answer.{Answer}
+use Rattle.definition.specs.Status.{Answer}
 use Rattle.definition.specs.Status.{pick, is_done}
 use Rattle.endpoint.proofs.answer.Rules.{pick-on, pick_off}
 use Rattle.definition.specs.declared.Pair.{Pair}

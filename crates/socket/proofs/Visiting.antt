@@ -8,7 +8,7 @@ use denote.Laws.{Is}
 use denote.Struct.Laws as LL
 use native.Mathlib.Omega.{arith}
 use lib.ListN.{length, drop}
-use Rattle.definition.specs.declared.Answer.{Answer}
+use Rattle.definition.specs.Status.{Answer}
 use Rattle.definition.specs.Status.{pick}
 use Rattle.endpoint.proofs.answer.Chains.{neither}
 use Rattle.definition.specs.declared.Places.{Places}

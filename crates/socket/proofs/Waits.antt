@@ -9,8 +9,8 @@ use lib.Dec.{eqb, leb}
 use borrow.Author.Tests.{eqb-false, leb-true, not-true}
 use Rattle.definition.specs.declared.Status.TheVariants.{ShouldWait}
 use Rattle.definition.specs.declared.Record.TheVariants.{Packet}
-use Rattle.definition.specs.declared.Answer.{Answer}
-use Rattle.definition.specs.declared.Answer.TheVariants.{Done}
+use Rattle.definition.specs.Status.{Answer}
+use Rattle.std.specs.declared.result.Result.TheVariants.{Ok}
 use Rattle.definition.specs.Status.{pick, ◌and◌, is_done, refuse_if, ◌then◌}
 use Rattle.endpoint.proofs.answer.Chains.{both, then_both, refuse_passed}
 use Rattle.definition.specs.declared.Places.{Places}
@@ -76,7 +76,7 @@ few_registered asked t key mask edge p e =
 
 -- the answer of a sound table
 pub oldest_answer : (t : Places) → sound t ≡ true
-    → (take_of t).answer ≡ (refuse_if (eqb t.packets 0) ShouldWait then Done (Packet (packet_of (get_or (packets_of t) 0 free))))
+    → (take_of t).answer ≡ (refuse_if (eqb t.packets 0) ShouldWait then Ok (Packet (packet_of (get_or (packets_of t) 0 free))))
 unfolding take_of pick refused refuse_if ◌then◌
 oldest_answer t s =
     ⊎_elim

@@ -1,7 +1,7 @@
 // Cancel.
 ghost use Rattle.std.specs.Prelude.{◌≡◌, eqb, ltb, length};
 ghost use Rattle.definition.specs.Status.{pick, is_done, refuse_if, ◌then◌};
-ghost use Rattle.definition.specs.declared.Answer.TheVariants.{Done};
+ghost use Rattle.std.specs.declared.result.Result.TheVariants.{Ok};
 ghost use Rattle.definition.specs.declared.Record.TheVariants.{Count};
 ghost use Rattle.definition.specs.declared.Status.TheVariants.{NotFound};
 ghost use Rattle.definition.specs.Pair.{is_one, ends_of, with_places};
@@ -16,15 +16,15 @@ use endpoint::answer::is_done;
 
 // The answer of a cancel, by that of the first tests and by how many waits and packets were removed.
 fn cancel_answer(opened: Answer, removed: u32) -> Answer
-    ensures { result ≡ (opened then refuse_if (eqb removed 0) NotFound then Done (Count removed)) }
+    ensures { result ≡ (opened then refuse_if (eqb removed 0) NotFound then Ok (Count removed)) }
 {
     if !is_done(opened) {
         return opened;
     }
     if removed == 0 {
-        return Answer::Refused(Status::NotFound);
+        return Err(Status::NotFound);
     }
-    Answer::Done(Record::Count(removed))
+    Ok(Record::Count(removed))
 }
 
 // Removes the waits of an end that have a key, and the packets that such waits made. Where nothing matches, the table comes back as it was.

@@ -69,7 +69,7 @@ impl SocketPair {
     {
         let p = self.inner;
         if !is_handle(handle) {
-            return SignalWord::Closed;
+            return None;
         }
         let e = own(p, handle == 1);
         endpoint::end::shown(e)

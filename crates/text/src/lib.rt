@@ -182,8 +182,8 @@ pub fn word(out: &mut [u8], at: usize, a: Answer) -> usize
 {
     if has_room(out.len(), at, 21) {
         match a {
-            Answer::Done(_) => decimal(out, at, endpoint::answer::count_of(a) as u64),
-            Answer::Refused(s) => negative(out, at, status_number(s)),
+            Ok(_) => decimal(out, at, endpoint::answer::count_of(a) as u64),
+            Err(s) => negative(out, at, status_number(s)),
         }
     } else {
         at

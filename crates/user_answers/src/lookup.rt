@@ -37,9 +37,9 @@ pub fn lookup(p: Ends, handle: u32, right: u16) -> Answer
     }
     let e = endpoint::ends::own(p, handle == 1);
     if e.rights & right == 0 {
-        return Answer::Refused(Status::AccessDenied);
+        return Err(Status::AccessDenied);
     }
-    Answer::Done(Record::Empty)
+    Ok(Record::Empty)
 }
 
 // What a number asks for an end's writing. A number above 2 asks for nothing: each call by numbers refuses it.
@@ -64,10 +64,10 @@ pub fn dispose_answer(p: Ends, handle: u32, disposition: u32, peer_disposition: 
         return sound;
     }
     if disposition > 2 {
-        return Answer::Refused(Status::InvalidArgs);
+        return Err(Status::InvalidArgs);
     }
     if peer_disposition > 2 {
-        return Answer::Refused(Status::InvalidArgs);
+        return Err(Status::InvalidArgs);
     }
     let found = lookup(p, handle, RIGHT_MANAGE);
     if !endpoint::answer::is_done(found) {

@@ -45,20 +45,20 @@ pub fn read_answer(
         return lent;
     }
     if crate::memory::is_null(b.address, b.count) {
-        return Answer::Refused(Status::InvalidArgs);
+        return Err(Status::InvalidArgs);
     }
     if !has_read_options(options) {
-        return Answer::Refused(Status::InvalidArgs);
+        return Err(Status::InvalidArgs);
     }
     let found = lookup(p, handle, RIGHT_READ);
     if !endpoint::answer::is_done(found) {
         return found;
     }
     if !crate::memory::fits(b.base, b.size, b.address, b.count) {
-        return Answer::Refused(Status::InvalidArgs);
+        return Err(Status::InvalidArgs);
     }
     if !crate::memory::count_fits(b.base, b.size, b.count_at) {
-        return Answer::Refused(Status::InvalidArgs);
+        return Err(Status::InvalidArgs);
     }
     let first = endpoint::end::first_length(q, p.datagram, table);
     read_size(

@@ -18,10 +18,10 @@ fn write_ranges(b: Buffer, a: Answer) -> Answer
     }
     let m = endpoint::answer::count_of(a) as u64;
     if !crate::memory::fits(b.base, b.size, b.address, m) {
-        return Answer::Refused(Status::InvalidArgs);
+        return Err(Status::InvalidArgs);
     }
     if !crate::memory::count_fits(b.base, b.size, b.count_at) {
-        return Answer::Refused(Status::InvalidArgs);
+        return Err(Status::InvalidArgs);
     }
     a
 }
@@ -48,10 +48,10 @@ pub fn write_answer(
         return lent;
     }
     if options != 0 {
-        return Answer::Refused(Status::InvalidArgs);
+        return Err(Status::InvalidArgs);
     }
     if crate::memory::is_null(b.address, b.count) {
-        return Answer::Refused(Status::InvalidArgs);
+        return Err(Status::InvalidArgs);
     }
     let found = lookup(p, handle, RIGHT_WRITE);
     if !endpoint::answer::is_done(found) {

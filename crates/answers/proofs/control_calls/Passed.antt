@@ -4,7 +4,7 @@ use mathlib.Core.Path.{◌≡◌, sym, ap, ◌∙◌}
 use mathlib.Core.Bool.{true}
 use native.Mathlib.Omega.{arith}
 use borrow.Author.Tests.{leb-true, eqb-false}
-use Rattle.definition.specs.declared.Answer.{Answer}
+use Rattle.definition.specs.Status.{Answer}
 use Rattle.definition.specs.Status.{is_done}
 use Rattle.endpoint.proofs.answer.Chains.{then_both, refuse_passed}
 use Rattle.definition.specs.declared.Ends.{Ends}

@@ -5,8 +5,8 @@ use mathlib.Core.Bool.{Bool, true, false}
 use lib.Dec.{ltb}
 use Rattle.definition.specs.declared.Status.{Status}
 use Rattle.definition.specs.declared.Status.TheVariants.{InvalidArgs}
-use Rattle.definition.specs.declared.Answer.{Answer}
-use Rattle.definition.specs.declared.Answer.TheVariants.{Done, Refused}
+use Rattle.definition.specs.Status.{Answer}
+use Rattle.std.specs.declared.result.Result.TheVariants.{Ok, Err}
 use Rattle.definition.specs.Status.{pick, refuse_if, ◌then◌, is_done}
 use Rattle.definition.specs.Create.{numbers_answer, create_answer}
 use Rattle.answers.specs.create.Held.{held_rights}
@@ -14,13 +14,13 @@ use Rattle.answers.specs.create.Held.{held_rights}
 -- what a done chain of tests says of its first test and of the others
 first_done : (a b : Answer) → is_done (a then b) ≡ true → is_done a ≡ true
 unfolding is_done ◌then◌
-first_done (Done d) b e = refl
-first_done (Refused s) b e = e
+first_done (Ok d) b e = refl
+first_done (Err s) b e = e
 
 rest-done : (a b : Answer) → is_done (a then b) ≡ true → is_done b ≡ true
 unfolding is_done ◌then◌
-rest-done (Done d) b e = e
-rest-done (Refused s) b e = let z : ◌≡◌ {A = Bool} false true = e in (cc)
+rest-done (Ok d) b e = e
+rest-done (Err s) b e = let z : ◌≡◌ {A = Bool} false true = e in (cc)
 
 test_off : (b : Bool) (s : Status) → is_done (refuse_if b s) ≡ true → b ≡ false
 unfolding is_done refuse_if

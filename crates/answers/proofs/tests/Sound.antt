@@ -5,7 +5,7 @@ use mathlib.Core.Bool.{Bool, true, false, not, false≢true}
 use native.Mathlib.Omega.{arith}
 use lib.Dec.{leb, eqb}
 use borrow.Author.Tests.{ltb-true, ltb-false, leb-true, eqb-true, eqb-false}
-use Rattle.definition.specs.declared.Answer.{Answer}
+use Rattle.definition.specs.Status.{Answer}
 use Rattle.definition.specs.Status.{pick, is_done, ◌then◌}
 use Rattle.endpoint.proofs.answer.Chains.{both, both_off, neither, then_both, then_is, refuse_passed, unless_passed}
 use Rattle.definition.specs.declared.Queue.{Queue}

@@ -27,7 +27,7 @@ pub fn info_answer(p: Ends, handle: u32, table: &[u32]) -> Answer
         return opened;
     }
     let first = endpoint::end::first_length(q, p.datagram, table);
-    Answer::Done(Record::Info(get_info(
+    Ok(Record::Info(get_info(
         p.datagram,
         p.capacity,
         own,

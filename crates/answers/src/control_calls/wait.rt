@@ -14,10 +14,10 @@ pub fn wait_answer(p: Ends, handle: u32, edge: u8) -> Answer
         return a;
     }
     if 1 < edge {
-        return Answer::Refused(Status::InvalidArgs);
+        return Err(Status::InvalidArgs);
     }
     if p.packets + p.waits == 128 {
-        return Answer::Refused(Status::NoResources);
+        return Err(Status::NoResources);
     }
-    Answer::Done(Record::Empty)
+    Ok(Record::Empty)
 }

@@ -6,7 +6,7 @@ use Rattle.definition.specs.declared.Place.{Place}
 use Rattle.definition.specs.declared.Places.{Places}
 use Rattle.definition.specs.declared.Pair.{Pair}
 use Rattle.definition.specs.declared.Record.TheVariants.{Packet}
-use Rattle.definition.specs.declared.SignalWord.TheVariants.{Closed, Word}
+use Rattle.std.specs.declared.option.Option.TheVariants.{None, Some}
 use Rattle.definition.specs.Port.{free, table_of, matching, cancelled_of, cancelled}
 use Rattle.definition.specs.Calls.{wait, take_packet, cancel, close}
 use Rattle.definition.specs.cases.Lines.{lines_of}
@@ -21,7 +21,7 @@ cancel_scripts =
     -- the packets of a closed end cannot be cancelled, and can be taken
     ∷ script_of stream_kind 7 (c (wait 2 1 2 0) ∷ on (close 2) ∷ c (cancel 2 1) ∷ c (cancel 1 1) ∷ c take_packet ∷ [])
     (yes 0 0x2 0x2 ∷ yes1 0 0x4 ∷ no1 11 0x4 ∷ no1 25 0x4
-    ∷ line (pos 0) (Word 0x4) Closed [] (some (Packet (record { key = 1; trigger = 2; observed = 2; count = 1; timestamp = 0 })))
+    ∷ line (pos 0) (Some 0x4) None [] (some (Packet (record { key = 1; trigger = 2; observed = 2; count = 1; timestamp = 0 })))
     ∷ [])
     -- a closed end is −11 also where nothing matches; with a closed peer a wait can be cancelled, and then nothing matches
     ∷ script_of stream_kind 7 (c (wait 1 1 1 0) ∷ on (close 2) ∷ c (cancel 2 1) ∷ c (cancel 1 1) ∷ c (cancel 1 1) ∷ [])

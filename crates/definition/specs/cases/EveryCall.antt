@@ -1,7 +1,7 @@
 -- Every call, by handles 1, 2 and 3, and whether it is INTERNAL on a state. 01 "Status and answer word".
 use Rattle.std.specs.Prelude.{ℕ, true, false, Bool, List, [], ◌∷◌, map, ◌++◌, eqb}
-use Rattle.definition.specs.declared.Answer.{Answer}
-use Rattle.definition.specs.declared.Answer.TheVariants.{Done, Refused}
+use Rattle.definition.specs.Status.{Answer}
+use Rattle.std.specs.declared.result.Result.TheVariants.{Ok, Err}
 use Rattle.definition.specs.Calls.{set_disposition, shutdown, plain_disposition, plain_shutdown, set_read_threshold, set_write_threshold, get_thresholds, get_info, wait, Call, write, read, plain_write, plain_read, close, control, take_packet, cancel, State, answer_of}
 use Rattle.definition.specs.Status.{status_number}
 use Rattle.definition.specs.cases.Lines.{word_answered}
@@ -20,8 +20,8 @@ unfoldable pub every_call : List Call
 every_call = calls_by 1 ++ calls_by 2 ++ calls_by 3 ++ (control take_packet ∷ [])
 
 abbrev pub is_internal : Answer → Bool
-is_internal (Done d) = false
-is_internal (Refused e) = eqb (status_number e) 1
+is_internal (Ok d) = false
+is_internal (Err e) = eqb (status_number e) 1
 
 -- whether each call on a state is INTERNAL
 unfoldable pub internal : State → List Bool

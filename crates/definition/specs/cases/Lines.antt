@@ -2,10 +2,10 @@
 use Rattle.std.specs.Prelude.{ℕ, List, [], ◌∷◌, map, ℤ}
 use Rattle.std.proofs.Math.Option.{Option, none, some}
 use Rattle.definition.specs.declared.Record.{Record}
-use Rattle.definition.specs.declared.SignalWord.{SignalWord}
+use Rattle.definition.specs.Signal.{SignalWord}
 use Rattle.definition.specs.declared.Record.TheVariants.{Empty, Count, Info, Limits, Packet}
-use Rattle.definition.specs.declared.Answer.{Answer}
-use Rattle.definition.specs.declared.Answer.TheVariants.{Done, Refused}
+use Rattle.definition.specs.Status.{Answer}
+use Rattle.std.specs.declared.result.Result.TheVariants.{Ok, Err}
 use Rattle.definition.specs.Calls.{Seen, Outcome, Create, Input, Slices, seen_of, created_by, state_created, control_answer, answer_to, controlled, pair_after, memory_after, written, state_after, landed, delivered_in, after, outcome, outcomes, pair_created, State, answer_of}
 use Rattle.definition.specs.Status.{answer_word, status_number, record_count, count_of, is_done, refuse_if, refuse_unless, ◌then◌, pick, ◌and◌, ◌or◌}
 use Rattle.definition.specs.Ring.{position, front, put}
@@ -33,12 +33,12 @@ pub record ShownLine : Type 0 where
   pub holds : Option Record
 
 unfoldable pub record_shown : Answer → Option Record
-record_shown (Done Empty) = none
-record_shown (Done (Count n)) = none
-record_shown (Done (Info i)) = some (Info i)
-record_shown (Done (Limits t)) = some (Limits t)
-record_shown (Done (Packet k)) = some (Packet k)
-record_shown (Refused s) = none
+record_shown (Ok Empty) = none
+record_shown (Ok (Count n)) = none
+record_shown (Ok (Info i)) = some (Info i)
+record_shown (Ok (Limits t)) = some (Limits t)
+record_shown (Ok (Packet k)) = some (Packet k)
+record_shown (Err s) = none
 
 abbrev pub line_shown : Seen → List ℕ → ShownLine
 line_shown s bytes = record { word = answer_word s.answer; end1 = s.word1; end2 = s.word2; bytes = bytes; holds = record_shown s.answer }

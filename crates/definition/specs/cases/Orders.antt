@@ -3,18 +3,18 @@
 use Rattle.std.specs.Prelude.{ℕ, [], List, ◌∷◌, ◌++◌, map, ◌≡◌, pos, replicate}
 use Rattle.std.proofs.Math.Option.{some}
 use Rattle.definition.specs.declared.Record.TheVariants.{Limits, Info}
-use Rattle.definition.specs.declared.SignalWord.TheVariants.{Word, Closed}
+use Rattle.std.specs.declared.option.Option.TheVariants.{Some, None}
 use Rattle.definition.specs.Calls.{write, read, set_disposition, shutdown, plain_disposition, set_read_threshold, set_write_threshold, get_thresholds, get_info, close, Outcome, outcomes, state_created}
 use Rattle.definition.specs.cases.Lines.{ShownLine, lines_of}
 use Rattle.definition.specs.cases.Scripts.{line, stream_kind, datagram_kind, on, c, w, r, wp, rp, yes, no, got, yes1, no1, Script, script_of, create, new_slices, letters, Show}
 
 -- done with two thresholds; with the six numbers of info
 abbrev limits : (reading writing u v : ℕ) → ShownLine
-limits reading writing u v = line (pos 0) (Word u) (Word v) [] (some (Limits (record { read = reading; write = writing })))
+limits reading writing u v = line (pos 0) (Some u) (Some v) [] (some (Limits (record { read = reading; write = writing })))
 
 abbrev info : (options C queued available peerC peerQueued u v : ℕ) → ShownLine
 info options C queued available peerC peerQueued u v =
-    line (pos 0) (Word u) (Word v) []
+    line (pos 0) (Some u) (Some v) []
     (some
     (Info
     (record { options = options; rx_buf_max = C; rx_buf_size = queued; rx_buf_available = available; tx_buf_max = peerC; tx_buf_size = peerQueued })))
@@ -76,7 +76,7 @@ order_scripts =
     ∷ script_of stream_kind 7 (w 1 4096 5 ∷ on (close 2) ∷ c (get_info 1) ∷ c (get_info 2) ∷ [])
     (yes 5 0x2 0x3
     ∷ yes1 0 0x4
-    ∷ line (pos 0) (Word 0x4) Closed [] (some (Info (record { options = 0; rx_buf_max = 8; rx_buf_size = 0; rx_buf_available = 0; tx_buf_max = 0; tx_buf_size = 0 })))
+    ∷ line (pos 0) (Some 0x4) None [] (some (Info (record { options = 0; rx_buf_max = 8; rx_buf_size = 0; rx_buf_available = 0; tx_buf_max = 0; tx_buf_size = 0 })))
     ∷ no1 11 0x4
     ∷ [])
     -- peer enable looks at this end, also with a closed peer; own enable is done with bytes queued at the peer, where PEER_WRITE_DISABLED is not set

@@ -2,7 +2,7 @@
 use Rattle.std.specs.Prelude.{ℕ, [], List, ◌∷◌, ◌++◌, pos, replicate}
 use Rattle.std.proofs.Math.Option.{some}
 use Rattle.definition.specs.declared.Record.TheVariants.{Packet}
-use Rattle.definition.specs.declared.SignalWord.TheVariants.{Closed, Word}
+use Rattle.std.specs.declared.option.Option.TheVariants.{None, Some}
 use Rattle.definition.specs.cases.Lines.{ShownLine}
 use Rattle.definition.specs.cases.Scripts.{line, stream_kind, on, c, w, yes, no, yes1, no1, packet_line, Script, script_of, Show}
 use Rattle.definition.specs.Calls.{set_disposition, set_read_threshold, wait, take_packet, close}
@@ -10,7 +10,7 @@ use Rattle.definition.specs.Calls.{set_disposition, set_read_threshold, wait, ta
 -- a packet taken with end 2 closed
 abbrev took1 : (key trigger observed u : ℕ) → ShownLine
 took1 key trigger observed u =
-    line (pos 0) (Word u) Closed [] (some (Packet (record { key = key; trigger = trigger; observed = observed; count = 1; timestamp = 0 })))
+    line (pos 0) (Some u) None [] (some (Packet (record { key = key; trigger = trigger; observed = observed; count = 1; timestamp = 0 })))
 
 unfoldable pub packet_scripts : List Script
 packet_scripts =

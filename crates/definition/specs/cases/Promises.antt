@@ -1,8 +1,8 @@
 -- What the records of a write and a read say, on one state: the 3 bytes `abc` queued at both ends, from place 7 of 8 on and then from the ring's
 -- start; and one change of a word. 01 "Delivered bytes", "Calls over user memory", "Signal word and packets".
 use Rattle.std.specs.Prelude.{ℕ, true, false, List, [], ◌∷◌, ◌≡◌}
-use Rattle.definition.specs.declared.Answer.{Answer}
-use Rattle.definition.specs.declared.Answer.TheVariants.{Done, Refused}
+use Rattle.definition.specs.Status.{Answer}
+use Rattle.std.specs.declared.result.Result.TheVariants.{Ok, Err}
 use Rattle.definition.specs.declared.Record.TheVariants.{Count}
 use Rattle.definition.specs.declared.Status.TheVariants.{InvalidArgs}
 use Rattle.definition.specs.declared.Pair.{Pair}
@@ -46,18 +46,18 @@ step p a = record { pair = p; answer = a }
 
 pub record Promises : Type 0 where
   -- a write of `cde` puts its bytes and its length behind those queued
-  pub written : Writes three 1 (99 ∷ 100 ∷ 101 ∷ []) ring_abc ring_both table_abc table_both (step (pair_written three 1 3) (Done (Count 3)))
+  pub written : Writes three 1 (99 ∷ 100 ∷ 101 ∷ []) ring_abc ring_both table_abc table_both (step (pair_written three 1 3) (Ok (Count 3)))
   -- over user memory it takes them from its address, and its count lands
-  pub user_written : UserWrites three 1 4096 0 4098 3 4104 letters counted ring_abc ring_both table_abc table_both (step (pair_written three 1 3) (Done (Count 3)))
+  pub user_written : UserWrites three 1 4096 0 4098 3 4104 letters counted ring_abc ring_both table_abc table_both (step (pair_written three 1 3) (Ok (Count 3)))
   -- refused, it changes nothing
-  pub user_refused : UserWrites three 1 4096 0 4098 3 4105 letters letters ring_abc ring_abc table_abc table_abc (step three (Refused InvalidArgs))
+  pub user_refused : UserWrites three 1 4096 0 4098 3 4105 letters letters ring_abc ring_abc table_abc table_abc (step three (Err InvalidArgs))
   -- a read into 2 bytes delivers the first 2, and the whole datagram leaves
-  pub read : Reads three 2 false ring_abc table_abc (0 ∷ 0 ∷ []) (97 ∷ 98 ∷ []) (step (pair_read three 2 false 3 2) (Done (Count 2)))
+  pub read : Reads three 2 false ring_abc table_abc (0 ∷ 0 ∷ []) (97 ∷ 98 ∷ []) (step (pair_read three 2 false 3 2) (Ok (Count 2)))
   -- over user memory its bytes land first, the count over them
-  pub bytes_read : BytesRead three 2 4096 0 4106 3 4104 ring_abc table_abc letters landed_abc (step (pair_read three 2 false 3 3) (Done (Count 3)))
-  pub user_read : UserReads three 2 4096 0 4106 3 4104 ring_abc table_abc letters counted (step (pair_read three 2 false 3 3) (Done (Count 3)))
+  pub bytes_read : BytesRead three 2 4096 0 4106 3 4104 ring_abc table_abc letters landed_abc (step (pair_read three 2 false 3 3) (Ok (Count 3)))
+  pub user_read : UserReads three 2 4096 0 4106 3 4104 ring_abc table_abc letters counted (step (pair_read three 2 false 3 3) (Ok (Count 3)))
   -- refused, it changes nothing
-  pub user_unread : UserReads three 2 4096 0 4106 3 4105 ring_abc table_abc letters letters (step three (Refused InvalidArgs))
+  pub user_unread : UserReads three 2 4096 0 4106 3 4105 ring_abc table_abc letters letters (step three (Err InvalidArgs))
   -- a change clears, then sets: a bit that is in both is set. No call makes such a change.
   pub changed : changed_word 0x3 0x1 0x6 ≡ 0x5
 

@@ -3,8 +3,8 @@
 use Rattle.std.specs.Prelude.{ℕ, List, [], ◌∷◌, map, false, ◌≡◌, replicate, ℤ, pos, neg_ℤ}
 use Rattle.std.proofs.Math.Option.{Option, none, some}
 use Rattle.definition.specs.declared.Record.{Record}
-use Rattle.definition.specs.declared.SignalWord.{SignalWord}
-use Rattle.definition.specs.declared.SignalWord.TheVariants.{Word, Closed}
+use Rattle.definition.specs.Signal.{SignalWord}
+use Rattle.std.specs.declared.option.Option.TheVariants.{Some, None}
 use Rattle.definition.specs.declared.Record.TheVariants.{Packet}
 use Rattle.definition.specs.Calls.{Call, Input, input, Control, control, write, read, plain_write, plain_read, Create, Slices}
 use Rattle.definition.specs.cases.Lines.{ShownLine, lines_of}
@@ -47,27 +47,27 @@ line n u v bytes d = record { word = n; end1 = u; end2 = v; bytes = bytes; holds
 
 -- done with n
 abbrev pub yes : (n u v : ℕ) → ShownLine
-yes n u v = line (pos n) (Word u) (Word v) [] none
+yes n u v = line (pos n) (Some u) (Some v) [] none
 
 -- refused with −n
 abbrev pub no : (n u v : ℕ) → ShownLine
-no n u v = line (neg_ℤ (pos n)) (Word u) (Word v) [] none
+no n u v = line (neg_ℤ (pos n)) (Some u) (Some v) [] none
 
 -- a read that delivers these bytes
 abbrev pub got : (n u v : ℕ) → List ℕ → ShownLine
-got n u v bytes = line (pos n) (Word u) (Word v) bytes none
+got n u v bytes = line (pos n) (Some u) (Some v) bytes none
 
 -- a packet of this key, trigger and observed word
 abbrev pub packet_line : (key trigger observed u v : ℕ) → ShownLine
 packet_line key trigger observed u v =
-    line (pos 0) (Word u) (Word v) [] (some (Packet (record { key = key; trigger = trigger; observed = observed; count = 1; timestamp = 0 })))
+    line (pos 0) (Some u) (Some v) [] (some (Packet (record { key = key; trigger = trigger; observed = observed; count = 1; timestamp = 0 })))
 
 -- the same with end 2 closed
 abbrev pub yes1 : (n u : ℕ) → ShownLine
-yes1 n u = line (pos n) (Word u) Closed [] none
+yes1 n u = line (pos n) (Some u) None [] none
 
 abbrev pub no1 : (n u : ℕ) → ShownLine
-no1 n u = line (neg_ℤ (pos n)) (Word u) Closed [] none
+no1 n u = line (neg_ℤ (pos n)) (Some u) None [] none
 
 -- ---- scripts
 

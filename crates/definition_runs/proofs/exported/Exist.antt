@@ -5,7 +5,7 @@ use mathlib.Core.List.{List, [], ◌∷◌}
 use lib.Dec.{eqb}
 use lib.ListN.{length, drop}
 use Rattle.definition.specs.declared.Record.{Record}
-use Rattle.definition.specs.declared.Answer.{Answer}
+use Rattle.definition.specs.Status.{Answer}
 use Rattle.definition.specs.Status.{pick, answer_word, count_of, is_done}
 use Rattle.definition.specs.Tests.{first_length, lent_of, Steps}
 use Rattle.definition.specs.declared.Pair.{Pair}

@@ -7,8 +7,8 @@ use native.Mathlib.Omega.{arith}
 use lib.IntN.{ℤ}
 use lib.ListN.{take, drop}
 use Rattle.definition.specs.declared.Status.{Status}
-use Rattle.definition.specs.declared.Answer.{Answer}
-use Rattle.definition.specs.declared.Answer.TheVariants.{Done, Refused}
+use Rattle.definition.specs.Status.{Answer}
+use Rattle.std.specs.declared.result.Result.TheVariants.{Ok, Err}
 use Rattle.definition.specs.Status.{answer_word, count_of, is_done}
 use Rattle.definition.specs.declared.Pair.{Pair}
 use Rattle.definition.specs.declared.Step.{Step}
@@ -86,7 +86,7 @@ calls_are_steps s x s' y (murgwethan_user_shutdown {p = p} {w = w} k) = plain s 
 
 -- ---- refused calls
 
-record-kept : (c : Control) (e : Status) (out : List ℕ) → record_in c (Refused e) out ≡ out
+record-kept : (c : Control) (e : Status) (out : List ℕ) → record_in c (Err e) out ≡ out
 unfolding record_in array_of
 record-kept (set_disposition h a b) e out = refl
 record-kept (shutdown h o) e out = refl
@@ -100,7 +100,7 @@ record-kept (wait h key mask edge) e out = refl
 record-kept take_packet e out = refl
 record-kept (cancel h key) e out = refl
 
-array-kept : (c : Call) (e : Status) (out : List ℕ) → array_after c (Refused e) out ≡ out
+array-kept : (c : Call) (e : Status) (out : List ℕ) → array_after c (Err e) out ≡ out
 unfolding array_after
 array-kept (write h o a n at) e out = refl
 array-kept (read h o a n at) e out = refl
@@ -110,10 +110,10 @@ array-kept (close h) e out = refl
 array-kept (control c) e out = record-kept c e out
 
 -- an answer that is not done has a status
-status_of : (a : Answer) → is_done a ≡ false → (e : Status) × (a ≡ Refused e)
+status_of : (a : Answer) → is_done a ≡ false → (e : Status) × (a ≡ Err e)
 unfolding is_done
-status_of (Done d) f = let z : ◌≡◌ {A = ℕ} 0 1 = cc in absurd (omega arith)
-status_of (Refused e) f = (e, refl)
+status_of (Ok d) f = let z : ◌≡◌ {A = ℕ} 0 1 = cc in absurd (omega arith)
+status_of (Err e) f = (e, refl)
 
 pub refused_leaves : ExportedRefusedChangesNothing
 refused_leaves s x s' y d f =

@@ -2,7 +2,7 @@
 use mathlib.Core.Path.{◌≡◌, refl, sym, ap, ap₂, ◌∙◌}
 use mathlib.Core.List.{List, [], map, map-map}
 use mathlib.Core.Option.{some}
-use Rattle.definition.specs.declared.Answer.{Answer}
+use Rattle.definition.specs.Status.{Answer}
 use Rattle.definition.specs.Status.{answer_word}
 use Rattle.definition.specs.declared.Pair.{Pair}
 use Rattle.definition_runs.specs.Exported.{signal_number, inputs, arrays_in, pairs_of, arrays_after, CreatesAlike, ExportedTwoRuns}

@@ -4,8 +4,8 @@ use mathlib.Core.Bool.{false}
 use lib.IntN.{pos, neg_ℤ}
 use Rattle.definition.specs.declared.Status.{Status}
 use Rattle.definition.specs.declared.Status.TheVariants.{Internal, NoResources, InvalidArgs, BadHandle, OutOfRange, BadState, ShouldWait, PeerClosed, NotFound, AccessDenied}
-use Rattle.definition.specs.declared.Answer.{Answer}
-use Rattle.definition.specs.declared.Answer.TheVariants.{Done, Refused}
+use Rattle.definition.specs.Status.{Answer}
+use Rattle.std.specs.declared.result.Result.TheVariants.{Ok, Err}
 use Rattle.definition.specs.Status.{status_number, answer_word, count_of, is_done}
 use Rattle.definition_runs.specs.Exported.{is_count, count_in}
 
@@ -37,10 +37,10 @@ status_refused AccessDenied = refl
 
 pub count_in_lem : (a : Answer) → count_in (answer_word a) ≡ count_of a
 unfolding answer_word count_of count_in
-count_in_lem (Done d) = refl
-count_in_lem (Refused e) = status_count e
+count_in_lem (Ok d) = refl
+count_in_lem (Err e) = status_count e
 
 pub is_count_lem : (a : Answer) → is_count (answer_word a) ≡ is_done a
 unfolding answer_word is_done is_count
-is_count_lem (Done d) = refl
-is_count_lem (Refused e) = status_refused e
+is_count_lem (Ok d) = refl
+is_count_lem (Err e) = status_refused e

@@ -5,7 +5,7 @@ use mathlib.Core.Bool.{Bool, true, false}
 use mathlib.Core.List.{List, []}
 use lib.ListN.{length, take, drop}
 use lib.Seq.{paste}
-use Rattle.definition.specs.declared.Answer.{Answer}
+use Rattle.definition.specs.Status.{Answer}
 use Rattle.definition.specs.Status.{pick, count_of, is_done}
 use Rattle.definition.specs.Tests.{first_length, Lent, lent_of, Steps}
 use Rattle.definition.specs.declared.Pair.{Pair}

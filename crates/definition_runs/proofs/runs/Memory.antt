@@ -9,7 +9,7 @@ use lib.ListN.{length, take, drop}
 use lib.Seq.{paste, paste-zero, take_all, drop_at, take_at, length-take-le}
 use lib.Dec.{eqb}
 use borrow.Author.Tests.{eqb-true, eqb-false}
-use Rattle.definition.specs.declared.Answer.{Answer}
+use Rattle.definition.specs.Status.{Answer}
 use Rattle.definition.specs.Status.{pick, count_of}
 use Rattle.definition.specs.Ring.{front}
 use Rattle.ring.proofs.copy.Laws.{length_front}

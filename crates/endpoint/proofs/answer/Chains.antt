@@ -2,8 +2,8 @@
 use mathlib.Core.Path.{◌≡◌, refl}
 use mathlib.Core.Bool.{Bool, true, false, false≢true, true≢false}
 use Rattle.definition.specs.declared.Status.{Status}
-use Rattle.definition.specs.declared.Answer.{Answer}
-use Rattle.definition.specs.declared.Answer.TheVariants.{Done, Refused}
+use Rattle.definition.specs.Status.{Answer}
+use Rattle.std.specs.declared.result.Result.TheVariants.{Ok, Err}
 use Rattle.definition.specs.Status.{◌and◌, ◌or◌, refuse_if, refuse_unless, ◌then◌, is_done, count_of}
 
 pub both : (a b : Bool) → (a and b) ≡ true → (a ≡ true) × (b ≡ true)
@@ -24,14 +24,14 @@ neither false b e = (refl, e)
 -- both parts of a chain passed
 pub then_both : (g a : Answer) → is_done (g then a) ≡ true → (is_done g ≡ true) × (is_done a ≡ true)
 unfolding is_done ◌then◌
-then_both (Done d) a e = (refl, e)
-then_both (Refused s) a e = absurd (false≢true e)
+then_both (Ok d) a e = (refl, e)
+then_both (Err s) a e = absurd (false≢true e)
 
 -- past a test that passed, the chain is the rest
 pub then_is : (g a : Answer) → is_done g ≡ true → (g then a) ≡ a
 unfolding is_done ◌then◌
-then_is (Done d) a e = refl
-then_is (Refused s) a e = absurd (false≢true e)
+then_is (Ok d) a e = refl
+then_is (Err s) a e = absurd (false≢true e)
 
 pub refuse_passed : (b : Bool) (s : Status) → is_done (refuse_if b s) ≡ true → b ≡ false
 unfolding is_done refuse_if
@@ -46,5 +46,5 @@ unless_passed false s e = absurd (false≢true e)
 -- an answer with a count is done
 pub counted : (a : Answer) → (count_of a ≡ 0 → ⊥) → is_done a ≡ true
 unfolding is_done count_of
-counted (Done d) z = refl
-counted (Refused s) z = absurd (z refl)
+counted (Ok d) z = refl
+counted (Err s) z = absurd (z refl)

@@ -5,27 +5,30 @@ use mathlib.Core.Path.{◌≡◌, refl, sym, ap, ◌∙◌}
 use mathlib.Core.Bool.{Bool, true, false, not}
 use lib.Dec.{T}
 use borrow.Author.Tests.{lt-ltb, le-ltb, le-leb, lt-leb, eq-eqb, ne_eqb, not-true, not-false}
+use Rattle.std.specs.Result.{IsErr, IsErrAnd}
+use Rattle.std.proofs.lemmas.Result.{err_from_is_err_and}
 use Rattle.definition.specs.declared.Status.{Status}
-use Rattle.definition.specs.declared.Answer.{Answer}
-use Rattle.definition.specs.declared.Answer.TheVariants.{Done, Refused}
+use Rattle.definition.specs.declared.Record.{Record}
+use Rattle.definition.specs.Status.{Answer}
+use Rattle.std.specs.declared.result.Result.TheVariants.{Ok, Err}
 use Rattle.definition.specs.declared.Record.TheVariants.{Empty, Count}
 use Rattle.definition.specs.Status.{pick, ◌and◌, ◌or◌, refuse_if, refuse_unless, ◌then◌, is_done}
 
 -- a test that holds, and one that does not, at the front of a chain
-pub refuse_on : (b : Bool) (s : Status) (a : Answer) → b ≡ true → Refused s ≡ (refuse_if b s then a)
+pub refuse_on : (b : Bool) (s : Status) (a : Answer) → b ≡ true → Err s ≡ (refuse_if b s then a)
 unfolding refuse_if ◌then◌
 refuse_on b s a e = rw e refl
 
 -- where the status is itself chosen
-pub refuse_as : (b : Bool) (s t : Status) (a : Answer) → b ≡ true → t ≡ s → Refused t ≡ (refuse_if b s then a)
+pub refuse_as : (b : Bool) (s t : Status) (a : Answer) → b ≡ true → t ≡ s → Err t ≡ (refuse_if b s then a)
 unfolding refuse_if ◌then◌
-refuse_as b s t a e f = rw e (ap Refused f)
+refuse_as b s t a e f = rw e (ap Err f)
 
 pub refuse_off : (b : Bool) (s : Status) (a x : Answer) → b ≡ false → x ≡ a → x ≡ (refuse_if b s then a)
 unfolding refuse_if ◌then◌
 refuse_off b s a x e f = rw e f
 
-pub unless_on : (b : Bool) (s : Status) (a : Answer) → b ≡ false → Refused s ≡ (refuse_unless b s then a)
+pub unless_on : (b : Bool) (s : Status) (a : Answer) → b ≡ false → Err s ≡ (refuse_unless b s then a)
 unfolding refuse_unless ◌then◌
 unless_on b s a e = rw e refl
 
@@ -34,36 +37,45 @@ unfolding refuse_unless ◌then◌
 unless_off b s a x e f = rw e f
 
 -- the last test of a chain
-pub refuse_last : (b : Bool) (s : Status) → b ≡ true → Refused s ≡ refuse_if b s
+pub refuse_last : (b : Bool) (s : Status) → b ≡ true → Err s ≡ refuse_if b s
 unfolding refuse_if
 refuse_last b s e = rw e refl
 
-pub pass_last : (b : Bool) (s : Status) → b ≡ false → Done Empty ≡ refuse_if b s
+pub pass_last : (b : Bool) (s : Status) → b ≡ false → Ok Empty ≡ refuse_if b s
 unfolding refuse_if
 pass_last b s e = rw e refl
 
-pub unless_last : (b : Bool) (s : Status) → b ≡ false → Refused s ≡ refuse_unless b s
+pub unless_last : (b : Bool) (s : Status) → b ≡ false → Err s ≡ refuse_unless b s
 unfolding refuse_unless
 unless_last b s e = rw e refl
 
-pub pass_unless : (b : Bool) (s : Status) → b ≡ true → Done Empty ≡ refuse_unless b s
+pub pass_unless : (b : Bool) (s : Status) → b ≡ true → Ok Empty ≡ refuse_unless b s
 unfolding refuse_unless
 pass_unless b s e = rw e refl
 
 -- a count that a call gave
-pub count_as : (m n : ℕ) → m ≡ n → Done (Count m) ≡ Done (Count n)
-count_as m n e = ap (λ (k : ℕ). Done (Count k)) e
+pub count_as : (m n : ℕ) → m ≡ n → ◌≡◌ {A = Answer} (Ok (Count m)) (Ok (Count n))
+count_as m n e = rw e refl
+
+-- a `?` that leaves with the refusal s of the call that gave x, and one that goes on
+pub left : (x g a r : Answer) (s : Status) → x ≡ g → x ≡ Err s → IsErr r × IsErrAnd r (λ t. t ≡ s) → r ≡ (g then a)
+unfolding ◌then◌
+left x g a r s e f h = let p = err_from_is_err_and r h.1 in rw (← e, f, p.1, p.2) refl
+
+pub passed : (x g a y : Answer) (d : Record) → x ≡ g → x ≡ Ok d → y ≡ a → y ≡ (g then a)
+unfolding ◌then◌
+passed x g a y d e f h = rw (← e, f) h
 
 -- several tests made by a call that gave x
 pub then_stop : (x g a : Answer) → x ≡ g → is_done x ≡ false → x ≡ (g then a)
 unfolding is_done ◌then◌
-then_stop (Done d) g a e f = let z : ◌≡◌ {A = Bool} true false = f in (cc)
-then_stop (Refused s) g a e f = rw (← e) refl
+then_stop (Ok d) g a e f = let z : ◌≡◌ {A = Bool} true false = f in (cc)
+then_stop (Err s) g a e f = rw (← e) refl
 
 pub then_go : (x g a y : Answer) → x ≡ g → is_done x ≡ true → y ≡ a → y ≡ (g then a)
 unfolding is_done ◌then◌
-then_go (Done d) g a y e f h = rw (← e) h
-then_go (Refused s) g a y e f h = let z : ◌≡◌ {A = Bool} false true = f in (cc)
+then_go (Ok d) g a y e f h = rw (← e) h
+then_go (Err s) g a y e f h = let z : ◌≡◌ {A = Bool} false true = f in (cc)
 
 pub pick-on : (X : Type 0) (b : Bool) (x y z : X) → b ≡ true → x ≡ y → x ≡ pick b y z
 unfolding pick

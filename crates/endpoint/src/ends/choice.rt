@@ -3,42 +3,15 @@
 ghost use Rattle.std.specs.Prelude.{◌≡◌};
 ghost use Rattle.definition.specs.Status.{pick};
 
-use crate::signal::word_if;
+use crate::choice::pick;
 use definition::{Endpoint, Queue, Span, Thresholds};
-
-fn flag_if(test: bool, yes: bool, no: bool) -> bool
-    ensures { result ≡ pick test yes no }
-{
-    if test {
-        return yes;
-    }
-    no
-}
-
-fn rights_if(test: bool, yes: u16, no: u16) -> u16
-    ensures { result ≡ pick test yes no }
-{
-    if test {
-        return yes;
-    }
-    no
-}
-
-fn number_if(test: bool, yes: u64, no: u64) -> u64
-    ensures { result ≡ pick test yes no }
-{
-    if test {
-        return yes;
-    }
-    no
-}
 
 fn thresholds_if(test: bool, yes: Thresholds, no: Thresholds) -> Thresholds
     ensures { result ≡ pick test yes no }
 {
     Thresholds {
-        read: number_if(test, yes.read, no.read),
-        write: number_if(test, yes.write, no.write),
+        read: pick(test, yes.read, no.read),
+        write: pick(test, yes.write, no.write),
     }
 }
 
@@ -46,8 +19,8 @@ fn span_if(test: bool, yes: Span, no: Span) -> Span
     ensures { result ≡ pick test yes no }
 {
     Span {
-        start: word_if(test, yes.start, no.start),
-        count: word_if(test, yes.count, no.count),
+        start: pick(test, yes.start, no.start),
+        count: pick(test, yes.count, no.count),
     }
 }
 
@@ -67,10 +40,10 @@ pub fn end_if(test: bool, yes: Endpoint, no: Endpoint) -> Endpoint
     let thresholds = thresholds_if(test, yes.thresholds, no.thresholds);
     let queue = queue_if(test, yes.queue, no.queue);
     Endpoint {
-        closed: flag_if(test, yes.closed, no.closed),
-        read_disabled: flag_if(test, yes.read_disabled, no.read_disabled),
-        rights: rights_if(test, yes.rights, no.rights),
-        signals: word_if(test, yes.signals, no.signals),
+        closed: pick(test, yes.closed, no.closed),
+        read_disabled: pick(test, yes.read_disabled, no.read_disabled),
+        rights: pick(test, yes.rights, no.rights),
+        signals: pick(test, yes.signals, no.signals),
         thresholds,
         queue,
     }

@@ -1,7 +1,7 @@
 use Rattle.endpoint.proofs.answer.Rules.{via}
-use Rattle.definition.specs.declared.Answer.TheVariants.{Done}
+use Rattle.std.specs.declared.result.Result.TheVariants.{Ok}
 use Rattle.definition.specs.declared.Record.TheVariants.{Count}
-use Rattle.definition.specs.declared.Answer.TheVariants.{Done}
+use Rattle.std.specs.declared.result.Result.TheVariants.{Ok}
 use Rattle.definition.specs.declared.Record.TheVariants.{Count}
 use Rattle.socket.proofs.Cancels.{one-steps}
 use mathlib.Core.Path.{refl}
@@ -13,7 +13,7 @@ unfolding answer_word record_count
 returns-then-is_found c =
     let a = c.args in
     record {
-      answer = Done (Count 1);
+      answer = Ok (Count 1);
       word = refl;
       kept = one-steps a.p.now a.handle a.key c.only_match-k.result _ c.only_match-k.ensures.size c.only_match-k.ensures.place
           (via c.is_found.ensures c.if-is_found.true) c.without_place.ensures;

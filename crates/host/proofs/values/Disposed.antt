@@ -7,8 +7,8 @@ use lib.Dec.{ltb}
 use lib.ListN.{length}
 use Rattle.definition.specs.declared.Status.{Status}
 use Rattle.definition.specs.declared.Status.TheVariants.{InvalidArgs}
-use Rattle.definition.specs.declared.Answer.{Answer}
-use Rattle.definition.specs.declared.Answer.TheVariants.{Done, Refused}
+use Rattle.definition.specs.Status.{Answer}
+use Rattle.std.specs.declared.result.Result.TheVariants.{Ok, Err}
 use Rattle.definition.specs.declared.Ends.{Ends}
 use Rattle.definition.specs.declared.Pair.{Pair}
 use Rattle.definition.specs.Status.{pick, is_done, ◌then◌}
@@ -24,19 +24,19 @@ use Rattle.control.specs.ByEffect.{moved_if}
 use Rattle.socket.specs.Deferred.{settled_step}
 use Rattle.socket.proofs.Controlled.{call-whole}
 
-pub never_done : (g : Answer) (s : Status) → is_done (g then Refused s) ≡ false
+pub never_done : (g : Answer) (s : Status) → is_done (g then Err s) ≡ false
 unfolding is_done ◌then◌
-never_done (Done d) s = refl
-never_done (Refused t) s = refl
+never_done (Ok d) s = refl
+never_done (Err t) s = refl
 
 -- ---- the answer
 
 module _ (e : Ends) (h a b : ℕ) where
-  pub first_above : ltb 2 a ≡ true → (opening_test e h then Refused InvalidArgs) ≡ plain_dispose_answer e h a b
+  pub first_above : ltb 2 a ≡ true → (opening_test e h then Err InvalidArgs) ≡ plain_dispose_answer e h a b
   unfolding plain_dispose_answer
   first_above w = ap (λ (x : Answer). opening_test e h then x) (refuse_on _ _ _ w)
 
-  pub second_above : ltb 2 a ≡ false → ltb 2 b ≡ true → (opening_test e h then Refused InvalidArgs) ≡ plain_dispose_answer e h a b
+  pub second_above : ltb 2 a ≡ false → ltb 2 b ≡ true → (opening_test e h then Err InvalidArgs) ≡ plain_dispose_answer e h a b
   unfolding plain_dispose_answer
   second_above v w = ap (λ (x : Answer). opening_test e h then x) (refuse_off _ _ _ _ v (refuse_on _ _ _ w))
 

@@ -4,7 +4,7 @@ use mathlib.Core.Bool.{Bool, true, false}
 use mathlib.Core.List.{List}
 use Prim.Native.Nat.{ℕ}
 use Rattle.definition.specs.declared.Record.{Record}
-use Rattle.definition.specs.declared.Answer.{Answer}
+use Rattle.definition.specs.Status.{Answer}
 use Rattle.definition.specs.Status.{pick, is_done}
 use Rattle.definition.specs.declared.Pair.{Pair}
 use Rattle.definition.specs.declared.Step.{Step}

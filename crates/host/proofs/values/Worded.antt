@@ -7,8 +7,8 @@ use mir.Syntax.{w64}
 use mir.Val.{to_z, of_z}
 use Rattle.definition.specs.declared.Status.{Status}
 use Rattle.definition.specs.declared.Status.TheVariants.{Internal, NoResources, InvalidArgs, BadHandle, OutOfRange, BadState, ShouldWait, PeerClosed, NotFound, AccessDenied}
-use Rattle.definition.specs.declared.Answer.{Answer}
-use Rattle.definition.specs.declared.Answer.TheVariants.{Done, Refused}
+use Rattle.definition.specs.Status.{Answer}
+use Rattle.std.specs.declared.result.Result.TheVariants.{Ok, Err}
 use Rattle.definition.specs.Status.{status_number, answer_word, is_done}
 use Rattle.endpoint.proofs.answer.Rules.{pick-on, pick_off}
 use Rattle.definition.specs.declared.Endpoint.{Endpoint}
@@ -34,8 +34,8 @@ status_back AccessDenied = refl
 
 pub word_back : (a : Answer) → is_done a ≡ false → to_z w64 (of_z w64 (answer_word a)) ≡ answer_word a
 unfolding is_done answer_word
-word_back (Done d) e = absurd (false≢true (sym e))
-word_back (Refused s) e = status_back s
+word_back (Ok d) e = absurd (false≢true (sym e))
+word_back (Err s) e = status_back s
 
 module _ (p : Pair) (h : ℕ) (e : Ends) (a : Answer) (f : e ≡ ends_of p) (g : a ≡ opening_test e h) where
   told : a ≡ opening_test (ends_of p) h

@@ -3,7 +3,7 @@ use Prim.Native.Nat.{ℕ}
 use mathlib.Core.Path.{◌≡◌, refl, sym, ap, ◌∙◌}
 use mathlib.Core.Bool.{Bool, true, not}
 use lib.Dec.{T, eqb}
-use Rattle.definition.specs.declared.Answer.{Answer}
+use Rattle.definition.specs.Status.{Answer}
 use Rattle.definition.specs.Status.{pick, is_done}
 use Rattle.endpoint.proofs.answer.Rules.{on-pick, off_pick, pick-on}
 use Rattle.port.specs.places.Table.{unused}

@@ -4,8 +4,8 @@ use native.Mathlib.Omega.{arith}
 use mathlib.Core.Path.{◌≡◌, ap, ◌∙◌, subst}
 use mathlib.Core.List.{List}
 use lib.ListN.{length, take, drop, length-take, length-drop}
-use Rattle.definition.specs.declared.Answer.{Answer}
-use Rattle.definition.specs.declared.SignalWord.{SignalWord}
+use Rattle.definition.specs.Status.{Answer}
+use Rattle.definition.specs.Signal.{SignalWord}
 use Rattle.definition_script.specs.Record.{eight}
 use Rattle.line.specs.line.LineDone.{LineDone}
 use Rattle.definition_script.specs.Call.{BASE, delivered_count, delivered}

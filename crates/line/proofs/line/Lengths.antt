@@ -8,11 +8,11 @@ use lib.IntN.{ℤ, pos, negsuc}
 use Rattle.definition.specs.declared.SocketInfo.{SocketInfo}
 use Rattle.definition.specs.declared.PortPacket.{PortPacket}
 use Rattle.definition.specs.declared.Record.TheVariants.{Empty, Count, Info, Limits, Packet}
-use Rattle.definition.specs.declared.Answer.{Answer}
-use Rattle.definition.specs.declared.Answer.TheVariants.{Done, Refused}
+use Rattle.definition.specs.Status.{Answer}
+use Rattle.std.specs.declared.result.Result.TheVariants.{Ok, Err}
 use Rattle.definition.specs.Status.{answer_word}
-use Rattle.definition.specs.declared.SignalWord.{SignalWord}
-use Rattle.definition.specs.declared.SignalWord.TheVariants.{Closed, Word}
+use Rattle.definition.specs.Signal.{SignalWord}
+use Rattle.std.specs.declared.option.Option.TheVariants.{None, Some}
 use Rattle.definition_script.specs.Line.{width_of, decimal_of, hex_of, signed_of, word_of, stop_of, number_text, hex_text, signal_text, own_text, rest_text, info_text, packet_text, bytes_text, record_text, added_text, front_text, signals_text, line_of}
 use Rattle.text.proofs.Spelling.{digits_length, width_most, hex_bytes-length}
 use Rattle.line.specs.line.LineDone.{LINE}
@@ -43,8 +43,8 @@ front-most number a =
 
 signal_most : (w : SignalWord) → length (signal_text w) ≤ 8
 unfolding signal_text
-signal_most Closed = omega arith
-signal_most (Word w) = omega (arith, hex-length 8 w)
+signal_most None = omega arith
+signal_most (Some w) = omega (arith, hex-length 8 w)
 
 signals-most : (one two : SignalWord) → length (signals_text one two) ≤ 17
 unfolding signals_text
@@ -92,12 +92,12 @@ bytes_most (b ∷ bs) = omega (arith, hex_bytes-length (b ∷ bs))
 
 added-most : (a : Answer) (bs : List ℕ) → length bs ≤ 4096 → length (added_text a bs) ≤ 8193
 unfolding added_text record_text
-added-most (Done Empty) bs h = omega arith
-added-most (Done (Count n)) bs h = omega (arith, bytes_most bs)
-added-most (Done (Info i)) bs h = omega (arith, info-most i)
-added-most (Done (Limits t)) bs h = omega arith
-added-most (Done (Packet k)) bs h = omega (arith, packet_most k)
-added-most (Refused s) bs h = omega arith
+added-most (Ok Empty) bs h = omega arith
+added-most (Ok (Count n)) bs h = omega (arith, bytes_most bs)
+added-most (Ok (Info i)) bs h = omega (arith, info-most i)
+added-most (Ok (Limits t)) bs h = omega arith
+added-most (Ok (Packet k)) bs h = omega (arith, packet_most k)
+added-most (Err s) bs h = omega arith
 
 pub line-most : (number : ℕ) (a : Answer) (one two : SignalWord) (bs : List ℕ) → length bs ≤ 4096 → length (line_of number a one two bs) ≤ LINE
 unfolding line_of

@@ -4,8 +4,8 @@ use native.Mathlib.Omega.{arith}
 use mathlib.Core.Path.{◌≡◌, refl}
 use mathlib.Core.List.{List, [], ◌∷◌}
 use lib.ListN.{length}
-use Rattle.definition.specs.declared.Answer.{Answer}
-use Rattle.definition.specs.declared.SignalWord.{SignalWord}
+use Rattle.definition.specs.Status.{Answer}
+use Rattle.definition.specs.Signal.{SignalWord}
 use Rattle.text.specs.Put.{Written}
 use Rattle.definition_script.specs.Line.{hex_bytes_of, bytes_text, line_of}
 use Rattle.line.specs.line.LineDone.{LINE, LineDone}

@@ -1,7 +1,7 @@
 -- What the function says that puts a line. The line is defined in crates/definition_script/specs/Line.
 use Rattle.std.specs.Prelude.{ℕ, ◌≤◌, ◌<◌, ◌≡◌, List, length}
-use Rattle.definition.specs.declared.Answer.{Answer}
-use Rattle.definition.specs.declared.SignalWord.{SignalWord}
+use Rattle.definition.specs.Status.{Answer}
+use Rattle.definition.specs.Signal.{SignalWord}
 use Rattle.text.specs.Put.{Written}
 use Rattle.definition_script.specs.Line.{line_of}
 

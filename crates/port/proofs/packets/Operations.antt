@@ -10,7 +10,7 @@ use borrow.Author.Tests.{leb-true, eq-eqb, ne_eqb, eqb-true, eqb-false, not-true
 use Rattle.definition.specs.Status.{pick, ◌and◌}
 use Rattle.definition.specs.declared.Status.TheVariants.{Internal, ShouldWait}
 use Rattle.definition.specs.declared.Record.TheVariants.{Packet}
-use Rattle.definition.specs.declared.Answer.TheVariants.{Done}
+use Rattle.std.specs.declared.result.Result.TheVariants.{Ok}
 use Rattle.endpoint.proofs.answer.Chains.{both, both_off}
 use Rattle.definition.specs.declared.Places.{Places}
 use Rattle.definition.specs.Port.{free, used, sound, packets_of, packet_of, refused, taken_of, take_of}
@@ -26,7 +26,7 @@ unfolding take_of pick
 take_none t e s = rw (e, eq-eqb t.packets 0 s) refl
 
 pub take_done : (t : Places) → sound t ≡ true → 0 < t.packets
-    → take_of t ≡ record { places = taken_of t; answer = Done (Packet (packet_of (get_or (packets_of t) 0 free))) }
+    → take_of t ≡ record { places = taken_of t; answer = Ok (Packet (packet_of (get_or (packets_of t) 0 free))) }
 unfolding take_of pick
 take_done t e h = rw (e, ne_eqb t.packets 0 (λ s. omega arith)) refl
 

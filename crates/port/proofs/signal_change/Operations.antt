@@ -7,14 +7,14 @@ use lib.Dec.{eqb}
 use borrow.Author.Tests.{eq-eqb}
 use Rattle.definition.specs.Status.{pick, ok, refuse_unless}
 use Rattle.definition.specs.declared.Status.TheVariants.{Internal}
-use Rattle.definition.specs.declared.Answer.TheVariants.{Refused}
+use Rattle.std.specs.declared.result.Result.TheVariants.{Err}
 use Rattle.definition.specs.declared.Places.{Places}
 use Rattle.definition.specs.declared.Change.{Change}
 use Rattle.definition.specs.Signal.{changed_word}
 use Rattle.definition.specs.Port.{sound, fired_of, change_of}
 use Rattle.port.proofs.places.Lists.{either}
 
-pub change_unsound : (one : Bool) (w clear set : ℕ) (t : Places) → sound t ≡ false → change_of one w clear set t ≡ record { places = t; word = w; answer = Refused Internal }
+pub change_unsound : (one : Bool) (w clear set : ℕ) (t : Places) → sound t ≡ false → change_of one w clear set t ≡ record { places = t; word = w; answer = Err Internal }
 unfolding change_of pick
 change_unsound one w clear set t e = rw e refl
 

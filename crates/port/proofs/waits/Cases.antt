@@ -5,7 +5,7 @@ use mathlib.Core.Bool.{false}
 use mathlib.Core.List.{List, [], ◌∷◌, map}
 use Rattle.definition.specs.Status.{pick, ◌and◌}
 use Rattle.definition.specs.declared.Status.TheVariants.{NoResources}
-use Rattle.definition.specs.declared.Answer.TheVariants.{Done, Refused}
+use Rattle.std.specs.declared.result.Result.TheVariants.{Ok, Err}
 use Rattle.definition.specs.declared.Record.TheVariants.{Packet}
 use Rattle.definition.specs.declared.Place.{Place}
 use Rattle.definition.specs.declared.Places.{Places}
@@ -29,7 +29,7 @@ newest_first = refl
 
 -- the first packet taken then has the mask as its trigger and the new word as observed
 pub first_taken : (take_of (change_of false WRITABLE 0 READABLE (wait 2 (wait 1 new_places))).places).answer
-    ≡ Done (Packet (record { key = 2; trigger = READABLE; observed = 3; count = 1; timestamp = 0 }))
+    ≡ Ok (Packet (record { key = 2; trigger = READABLE; observed = 3; count = 1; timestamp = 0 }))
 unfolding pick ◌and◌ filter changed_word meets packets_of waits_of unused_of table_of end_number observe fires fired kept fired_of change_of packet_of take_of wait new_places
 first_taken = refl
 
@@ -49,7 +49,7 @@ keys_from k zero = []
 keys_from k (suc n) = k ∷ keys_from (suc k) n
 
 -- with 128 waits registered, the next is refused
-pub full : (register_of false WRITABLE 9 READABLE false (waits 128 new_places)).answer ≡ Refused NoResources
+pub full : (register_of false WRITABLE 9 READABLE false (waits 128 new_places)).answer ≡ Err NoResources
 unfolding waits wait new_places register_of refused
 full = refl
 

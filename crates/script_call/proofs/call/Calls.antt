@@ -5,8 +5,8 @@ use mathlib.Core.Bool.{true, false}
 use mathlib.Core.List.{List}
 use lib.ListN.{length, drop}
 use borrow.Author.Tests.{ne_eqb}
-use Rattle.definition.specs.declared.Answer.{Answer}
-use Rattle.definition.specs.declared.Answer.TheVariants.{Refused}
+use Rattle.definition.specs.Status.{Answer}
+use Rattle.std.specs.declared.result.Result.TheVariants.{Err}
 use Rattle.definition.specs.declared.Status.TheVariants.{InvalidArgs}
 use Rattle.definition.specs.Status.{pick, count_of, is_done}
 use Rattle.definition.specs.declared.Pair.{Pair}
@@ -115,5 +115,5 @@ module _ {memory : List ℕ} {z : Rings} {p : Pair} {tag : ℕ} {b : List ℕ} w
       → CallMade memory z p tag b memory' z' r
   made e d = record { made = λ f. d; none = λ f. absurd (never (sym f ∙ e)) }
 
-  pub no_call : {r : Step} → is_body tag (length b) ≡ false → r ≡ mk p (Refused InvalidArgs) → CallMade memory z p tag b memory z r
+  pub no_call : {r : Step} → is_body tag (length b) ≡ false → r ≡ mk p (Err InvalidArgs) → CallMade memory z p tag b memory z r
   no_call e g = record { made = λ f. absurd (never (sym e ∙ f)); none = λ f. (g, refl, refl) }

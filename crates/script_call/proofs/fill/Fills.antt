@@ -8,8 +8,8 @@ use lib.ListN.{length, take, drop, length-drop}
 use lib.Seq.{take_all}
 use lib.Dec.{ltb, leb, eqb}
 use borrow.Author.Tests.{ltb-false, leb-true, ne_eqb, le-leb, lt-leb}
-use Rattle.definition.specs.declared.Answer.{Answer}
-use Rattle.definition.specs.declared.Answer.TheVariants.{Done, Refused}
+use Rattle.definition.specs.Status.{Answer}
+use Rattle.std.specs.declared.result.Result.TheVariants.{Ok, Err}
 use Rattle.definition.specs.declared.Status.TheVariants.{InvalidArgs}
 use Rattle.definition.specs.declared.Record.TheVariants.{Count}
 use Rattle.definition.specs.Status.{pick, ◌and◌, ◌or◌, refuse_unless, ◌then◌}
@@ -41,12 +41,12 @@ module _ (size address n : ℕ) (some : 1 ≤ n) where
 
 -- both facts of a fill, by whether its range fits
 pub fill-no : (address : ℕ) (bs memory : List ℕ) → fits BASE (length memory) address (length bs) ≡ false
-    → (Refused InvalidArgs ≡ fill_answer (length memory) address (length bs)) × (memory ≡ filled address bs memory)
+    → (Err InvalidArgs ≡ fill_answer (length memory) address (length bs)) × (memory ≡ filled address bs memory)
 unfolding fill_answer filled pick refuse_unless ◌then◌
 fill-no address bs memory e = (rw e refl, rw e refl)
 
 pub fill-yes : (address : ℕ) (bs memory : List ℕ) → fits BASE (length memory) address (length bs) ≡ true
-    → (Done (Count (length bs)) ≡ fill_answer (length memory) address (length bs)) × (written_at (address - BASE) bs memory ≡ filled address bs memory)
+    → (Ok (Count (length bs)) ≡ fill_answer (length memory) address (length bs)) × (written_at (address - BASE) bs memory ≡ filled address bs memory)
 unfolding fill_answer filled pick refuse_unless ◌then◌
 fill-yes address bs memory e = (rw e refl, rw e refl)
 
@@ -73,5 +73,5 @@ fill-made {memory} {b} {memory'} {address} {r} e a w =
     let l = part_all 8 b (omega (arith, fill-body (length b) e)) in
     record { made = λ f. rw (a, l) at w; none = λ f. absurd (never (sym f ∙ e)) }
 
-pub fill_none : {memory b : List ℕ} → is_body 11 (length b) ≡ false → FillMade memory b memory (Refused InvalidArgs)
+pub fill_none : {memory b : List ℕ} → is_body 11 (length b) ≡ false → FillMade memory b memory (Err InvalidArgs)
 fill_none e = record { made = λ f. absurd (never (sym e ∙ f)); none = λ f. (refl, refl) }

@@ -8,8 +8,8 @@ use lib.ListN.{length}
 use lib.Dec.{ltb, eqb}
 use borrow.Author.Tests.{ltb-false, lt-ltb, eqb-false}
 use Rattle.definition.specs.declared.Record.TheVariants.{Count}
-use Rattle.definition.specs.declared.Answer.{Answer}
-use Rattle.definition.specs.declared.Answer.TheVariants.{Done}
+use Rattle.definition.specs.Status.{Answer}
+use Rattle.std.specs.declared.result.Result.TheVariants.{Ok}
 use Rattle.definition.specs.Status.{pick, ◌and◌, ◌or◌, is_done, count_of, record_count}
 use Rattle.endpoint.proofs.answer.Chains.{neither, then_both, counted}
 use Rattle.definition.specs.declared.Endpoint.{Endpoint}
@@ -27,8 +27,8 @@ unfolding empty_answer is_done
 not_empty o e d = false≢true (then_both _ _ (then_both _ _ d).1).1
 
 -- the queue is not empty, and the count is the smaller of n and what is available
-read_by : (b : Bool) (o e : Endpoint) (m : ℕ) → is_done (pick b (empty_answer o e) (Done (Count m))) ≡ true
-    → (b ≡ false) × (count_of (pick b (empty_answer o e) (Done (Count m))) ≡ m)
+read_by : (b : Bool) (o e : Endpoint) (m : ℕ) → is_done (pick b (empty_answer o e) (Ok (Count m))) ≡ true
+    → (b ≡ false) × (count_of (pick b (empty_answer o e) (Ok (Count m))) ≡ m)
 unfolding pick count_of record_count
 read_by true o e m d = absurd (not_empty o e d)
 read_by false o e m d = (refl, refl)

@@ -7,8 +7,8 @@ use native.Mathlib.Omega.{arith}
 use lib.ListN.{length}
 use borrow.Author.Tests.{ltb-false, leb-false}
 use Rattle.definition.specs.declared.Record.TheVariants.{Count}
-use Rattle.definition.specs.declared.Answer.{Answer}
-use Rattle.definition.specs.declared.Answer.TheVariants.{Done}
+use Rattle.definition.specs.Status.{Answer}
+use Rattle.std.specs.declared.result.Result.TheVariants.{Ok}
 use Rattle.definition.specs.Status.{pick, is_done, count_of, record_count}
 use Rattle.endpoint.proofs.answer.Chains.{then_both, then_is, refuse_passed, counted}
 use Rattle.definition.specs.declared.Endpoint.{Endpoint}
@@ -29,9 +29,9 @@ datagram_fits C space n e =
     (ap count_of (then_is _ _ a.0 ∙ then_is _ _ b.0 ∙ then_is _ _ c.0), ltb-false _ _ (refuse_passed _ _ b.0))
 
 -- of either kind
-kind_fits : (datagram : Bool) (C space n : ℕ) → is_done (pick datagram (datagram_size C space n) (Done (Count (min n space)))) ≡ true
-    → (count_of (pick datagram (datagram_size C space n) (Done (Count (min n space)))) ≤ n)
-    × (count_of (pick datagram (datagram_size C space n) (Done (Count (min n space)))) ≤ space)
+kind_fits : (datagram : Bool) (C space n : ℕ) → is_done (pick datagram (datagram_size C space n) (Ok (Count (min n space)))) ≡ true
+    → (count_of (pick datagram (datagram_size C space n) (Ok (Count (min n space)))) ≤ n)
+    × (count_of (pick datagram (datagram_size C space n) (Ok (Count (min n space)))) ≤ space)
 unfolding pick count_of record_count
 kind_fits true C space n d = let w = datagram_fits C space n d in (omega (arith, w.0), omega (arith, w.0, w.1))
 kind_fits false C space n d = (min-left n space, min-right n space)

@@ -1,7 +1,7 @@
 -- How the code goes: a write and a read give what changes, a `Transfer`, which stands for an effect; the outcome of the call is made of that effect.
 -- 01 "Delivered bytes", write, read.
 use Rattle.std.specs.Prelude.{ℕ, Bool, true, false, ◌≡◌}
-use Rattle.definition.specs.declared.Answer.{Answer}
+use Rattle.definition.specs.Status.{Answer}
 use Rattle.definition.specs.declared.Ends.{Ends}
 use Rattle.definition.specs.declared.Queue.{Queue}
 use Rattle.definition.specs.Effect.{Effect}

@@ -4,24 +4,24 @@ use Rattle.host.proofs.values.put_info.Goals as goal
 
 pub returns-in-Empty : goal.returns-in-Empty
 unfolding array_of info_numbers
-returns-in-Empty c = rw (c.in-Done.is, c.in-Empty.is) refl
+returns-in-Empty c = rw (c.in-Ok.is, c.in-Empty.is) refl
 
 pub returns-in-Count : goal.returns-in-Count
 unfolding array_of info_numbers
-returns-in-Count c = rw (c.in-Done.is, c.in-Count.is) refl
+returns-in-Count c = rw (c.in-Ok.is, c.in-Count.is) refl
 
 pub returns-in-Info : goal.returns-in-Info
 unfolding array_of info_numbers
-returns-in-Info c = rw (c.in-Done.is, c.in-Info.is) refl
+returns-in-Info c = rw (c.in-Ok.is, c.in-Info.is) refl
 
 pub returns-in-Limits : goal.returns-in-Limits
 unfolding array_of info_numbers
-returns-in-Limits c = rw (c.in-Done.is, c.in-Limits.is) refl
+returns-in-Limits c = rw (c.in-Ok.is, c.in-Limits.is) refl
 
 pub returns-in-Packet : goal.returns-in-Packet
 unfolding array_of info_numbers
-returns-in-Packet c = rw (c.in-Done.is, c.in-Packet.is) refl
+returns-in-Packet c = rw (c.in-Ok.is, c.in-Packet.is) refl
 
-pub returns-in-Refused : goal.returns-in-Refused
+pub returns-in-Err : goal.returns-in-Err
 unfolding array_of info_numbers
-returns-in-Refused c = rw c.in-Refused.is refl
+returns-in-Err c = rw c.in-Err.is refl

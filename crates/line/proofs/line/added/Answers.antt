@@ -2,10 +2,10 @@ use Rattle.definition_script.specs.Line.{added_text}
 use Rattle.text.proofs.Place.{nothing}
 use Rattle.line.proofs.line.added.Goals as goal
 
-pub returns-in-Done : goal.returns-in-Done
+pub returns-in-Ok : goal.returns-in-Ok
 unfolding added_text
-returns-in-Done c = rw c.in-Done.is c.done.ensures
+returns-in-Ok c = rw c.in-Ok.is c.done.ensures
 
-pub returns-in-Refused : goal.returns-in-Refused
+pub returns-in-Err : goal.returns-in-Err
 unfolding added_text
-returns-in-Refused c = rw c.in-Refused.is (nothing 8193 c.args.at c.args.out.now)
+returns-in-Err c = rw c.in-Err.is (nothing 8193 c.args.at c.args.out.now)

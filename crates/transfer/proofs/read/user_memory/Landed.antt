@@ -8,8 +8,8 @@ use lib.ListN.{length}
 use lib.Seq.{length-paste}
 use lib.Dec.{eqb}
 use borrow.Author.Tests.{eq-eqb, eqb-true, eqb-false}
-use Rattle.definition.specs.declared.Answer.{Answer}
-use Rattle.definition.specs.declared.Answer.TheVariants.{Done, Refused}
+use Rattle.definition.specs.Status.{Answer}
+use Rattle.std.specs.declared.result.Result.TheVariants.{Ok, Err}
 use Rattle.definition.specs.declared.Ends.{Ends}
 use Rattle.definition.specs.declared.Pair.{Pair}
 use Rattle.definition.specs.Memory.{count_fits, count_landed, count_put}
@@ -28,8 +28,8 @@ use Rattle.transfer.proofs.read.user_memory.Passed.{read-passed}
 -- a refused call moves nothing
 none-moved : (a : Answer) → is_done a ≡ false → count_of a ≡ 0
 unfolding is_done count_of
-none-moved (Done d) e = let z : ◌≡◌ {A = Bool} true false = e in (cc)
-none-moved (Refused s) e = refl
+none-moved (Ok d) e = let z : ◌≡◌ {A = Bool} true false = e in (cc)
+none-moved (Err s) e = refl
 
 -- where nothing is delivered, no byte lands
 pub none-landed : (p : Pair) (h base address k : ℕ) (ring memory : List ℕ) → k ≡ 0 → bytes_landed p h base address k ring memory ≡ memory
