@@ -12,20 +12,7 @@ const BLOCK: usize = 4096;
 fn fits(capacity: usize, at: usize, n: usize, size: usize) -> bool
     ensures { result ≡ ring_fits capacity at n size }
 {
-    if capacity <= at {
-        return false;
-    }
-    if capacity < n {
-        return false;
-    }
-    capacity <= size
-}
-
-// The lesser of two numbers.
-fn least(a: usize, b: usize) -> usize
-    ensures { result ≡ min a b }
-{
-    if a <= b { a } else { b }
+    at < capacity && n <= capacity && capacity <= size
 }
 
 // Copies all of src, at most BLOCK bytes, to the start of dst. The bytes pass through a local array, which neither slice can overlap, so that
@@ -48,12 +35,9 @@ fn copy(dst: &mut [u8], src: &[u8])
     requires { length src.now ≤ length dst.old }
     ensures { dst.new ≡ paste dst.old 0 src.now (length src.now) }
 {
-    let mut i = 0;
-    while i < src.len() {
-        let n = least(src.len() - i, BLOCK);
-        let end = i + n;
+    for i in (0..src.len()).step_by(BLOCK) {
+        let end = i + BLOCK.min(src.len() - i);
         copy_block(&mut dst[i..], &src[i..end]);
-        i = end;
     }
 }
 
@@ -62,7 +46,7 @@ fn before_end(capacity: usize, at: usize, n: usize) -> usize
     requires { at < capacity }
     ensures { result ≡ min n (capacity - at) }
 {
-    least(n, capacity - at)
+    n.min(capacity - at)
 }
 
 // Puts the first n bytes of src into the ring from the place `at` on: into the part up to the ring's end, then into the part before that place.

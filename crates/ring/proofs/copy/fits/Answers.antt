@@ -1,15 +1,13 @@
+use native.Mathlib.Omega.{arith}
+use Rattle.std.proofs.lemmas.Bool.Decides.{nat_tests}
 use Rattle.ring.specs.copy.Copies.{ring_fits}
-use Rattle.endpoint.proofs.answer.Rules.{chain}
+use Rattle.definition.specs.Status.{◌and◌}
 use Rattle.ring.proofs.copy.fits.Goals as goal
 
-pub returns-then-capacity-at : goal.returns-then-capacity-at
-unfolding ring_fits
-returns-then-capacity-at c = search chain
+pub returns-then-n-capacity : goal.returns-then-n-capacity
+unfolding ring_fits ◌and◌
+returns-then-n-capacity c = grind (arith, nat_tests)
 
-pub returns-then-capacity-n : goal.returns-then-capacity-n
-unfolding ring_fits
-returns-then-capacity-n c = search chain
-
-pub returns : goal.returns
-unfolding ring_fits
-returns c = search chain
+pub returns-else-n-capacity : goal.returns-else-n-capacity
+unfolding ring_fits ◌and◌
+returns-else-n-capacity c = grind (arith, nat_tests)
