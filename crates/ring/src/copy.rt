@@ -41,56 +41,43 @@ fn copy(dst: &mut [u8], src: &[u8])
     }
 }
 
-// How many of n entries from the place `at` on stand before the ring's end.
-fn before_end(capacity: usize, at: usize, n: usize) -> usize
-    requires { at < capacity }
-    ensures { result ≡ min n (capacity - at) }
+// Puts src into the ring from the place `at` on: into the part up to the ring's end, then into the part from its start.
+fn put(ring: &mut [u8], at: usize, src: &[u8])
+    requires { (at < length ring.old) × (length src.now ≤ length ring.old) }
+    ensures { ring.new ≡ put (length ring.old) at (length src.now) src.now ring.old }
 {
-    n.min(capacity - at)
+    let first = src.len().min(ring.len() - at);
+    copy(&mut ring[at..], &src[..first]);
+    copy(ring, &src[first..]);
 }
 
-// Puts the first n bytes of src into the ring from the place `at` on: into the part up to the ring's end, then into the part before that place.
-fn put(ring: &mut [u8], capacity: usize, at: usize, src: &[u8], n: usize)
-    requires { (at < capacity) × (n ≤ capacity) × (capacity ≤ length ring.old) × (n ≤ length src.now) }
-    ensures { ring.new ≡ put capacity at n src.now ring.old }
+// Fills dst with the bytes from the place `start` on: those up to the ring's end, then those from its start.
+fn get(ring: &[u8], start: usize, dst: &mut [u8])
+    requires { (start < length ring.now) × (length dst.old ≤ length ring.now) }
+    ensures { dst.new ≡ front (length ring.now) start (length dst.old) ring.now }
 {
-    let first = before_end(capacity, at, n);
-    copy(&mut ring[at..capacity], &src[0..first]);
-    copy(&mut ring[0..at], &src[first..n]);
-}
-
-// Copies the n bytes from the place `start` on to the start of dst: those up to the ring's end, then those from its start.
-fn get(ring: &[u8], capacity: usize, start: usize, n: usize, dst: &mut [u8])
-    requires { (start < capacity) × (n ≤ capacity) × (capacity ≤ length ring.now) × (n ≤ length dst.old) }
-    ensures { dst.new ≡ paste dst.old 0 (front capacity start n ring.now) n }
-{
-    let first = before_end(capacity, start, n);
+    let first = dst.len().min(ring.len() - start);
+    let rest = dst.len() - first;
     copy(dst, &ring[start..start + first]);
-    copy(&mut dst[first..], &ring[0..n - first]);
+    copy(&mut dst[first..], &ring[..rest]);
 }
 
 // Copies the first n bytes of src into the ring from the place `at` on. What does not fit is not copied.
+#[tactic(auto, using(crate::proofs::copy::Parts::fitting))]
 pub fn copy_in(ring: &mut [u8], capacity: usize, at: usize, src: &[u8], n: usize)
     ensures { ring.new ≡ copied_in capacity at n src.now ring.old }
 {
-    if !fits(capacity, at, n, ring.len()) {
-        return;
+    if fits(capacity, at, n, ring.len()) && n <= src.len() {
+        put(&mut ring[..capacity], at, &src[..n]);
     }
-    if src.len() < n {
-        return;
-    }
-    put(ring, capacity, at, src, n);
 }
 
 // Copies the n bytes from the place `start` on to the start of dst. What does not fit is not copied.
+#[tactic(auto, using(crate::proofs::copy::Parts::fitting))]
 pub fn copy_out(ring: &[u8], capacity: usize, start: usize, n: usize, dst: &mut [u8])
     ensures { dst.new ≡ copied_out capacity start n ring.now dst.old }
 {
-    if !fits(capacity, start, n, ring.len()) {
-        return;
+    if fits(capacity, start, n, ring.len()) && n <= dst.len() {
+        get(&ring[..capacity], start, &mut dst[..n]);
     }
-    if dst.len() < n {
-        return;
-    }
-    get(ring, capacity, start, n, dst);
 }
