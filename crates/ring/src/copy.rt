@@ -63,7 +63,6 @@ fn get(ring: &[u8], start: usize, dst: &mut [u8])
 }
 
 // Copies the first n bytes of src into the ring from the place `at` on. What does not fit is not copied.
-#[tactic(auto, using(crate::proofs::copy::Parts::fitting))]
 pub fn copy_in(ring: &mut [u8], capacity: usize, at: usize, src: &[u8], n: usize)
     ensures { ring.new ≡ copied_in capacity at n src.now ring.old }
 {
@@ -73,7 +72,6 @@ pub fn copy_in(ring: &mut [u8], capacity: usize, at: usize, src: &[u8], n: usize
 }
 
 // Copies the n bytes from the place `start` on to the start of dst. What does not fit is not copied.
-#[tactic(auto, using(crate::proofs::copy::Parts::fitting))]
 pub fn copy_out(ring: &[u8], capacity: usize, start: usize, n: usize, dst: &mut [u8])
     ensures { dst.new ≡ copied_out capacity start n ring.now dst.old }
 {

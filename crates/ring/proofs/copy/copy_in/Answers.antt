@@ -1,9 +1,6 @@
 use native.Mathlib.Omega.{arith}
 use lib.ListN.{length}
-use Rattle.std.proofs.lemmas.Bool.Decides.{nat_tests}
-use Rattle.definition.specs.Status.{pick, ◌and◌}
 use Rattle.endpoint.proofs.answer.Rules.{via}
-use Rattle.ring.specs.copy.Copies.{copied_in}
 use Rattle.ring.proofs.copy.Laws.{fits_facts, copied_in_lem}
 use Rattle.ring.proofs.copy.Parts.{put_within}
 use Rattle.ring.proofs.copy.copy_in.Goals as goal
@@ -14,7 +11,3 @@ returns-then-n-src c =
     let f = fits_facts a.capacity a.at a.n (length a.ring.now) (via c.fits.ensures c.if-fits.true) in
     rw (copied_in_lem a.capacity a.at a.n a.src.now a.ring.now f.0 f.1 f.2 (omega arith))
     (put_within a.capacity a.at a.n a.ring.now f.0 f.1 f.2 a.src.now _ (omega arith) c.put.ensures)
-
-pub returns-else-fits : goal.returns-else-fits
-unfolding copied_in pick ◌and◌
-returns-else-fits c = grind (arith, nat_tests)

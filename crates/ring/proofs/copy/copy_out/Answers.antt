@@ -1,9 +1,6 @@
 use native.Mathlib.Omega.{arith}
 use lib.ListN.{length}
-use Rattle.std.proofs.lemmas.Bool.Decides.{nat_tests}
-use Rattle.definition.specs.Status.{pick, ◌and◌}
 use Rattle.endpoint.proofs.answer.Rules.{via}
-use Rattle.ring.specs.copy.Copies.{copied_out}
 use Rattle.ring.proofs.copy.Laws.{fits_facts, copied_out_lem}
 use Rattle.ring.proofs.copy.Parts.{get_within}
 use Rattle.ring.proofs.copy.copy_out.Goals as goal
@@ -14,7 +11,3 @@ returns-then-n-dst c =
     let f = fits_facts a.capacity a.start a.n (length a.ring.now) (via c.fits.ensures c.if-fits.true) in
     rw (copied_out_lem a.capacity a.start a.n a.ring.now a.dst.now f.0 f.1 f.2 (omega arith))
     (get_within a.capacity a.start a.n a.ring.now f.0 f.1 f.2 a.dst.now _ (omega arith) c.get.ensures)
-
-pub returns-else-fits : goal.returns-else-fits
-unfolding copied_out pick ◌and◌
-returns-else-fits c = grind (arith, nat_tests)
