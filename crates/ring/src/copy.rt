@@ -23,11 +23,9 @@ fn copy_block(dst: &mut [u8], src: &[u8])
     ensures { dst.new ≡ paste dst.old 0 src.now (length src.now) }
 {
     let n = src.len();
-    let mut array = [0u8; BLOCK];
-    let block: &mut [u8] = &mut array;
-    block[0..n].copy_from_slice(src);
-    let filled: &[u8] = &block[..];
-    dst[0..n].copy_from_slice(&filled[0..n]);
+    let mut block = [0u8; BLOCK];
+    block[..n].copy_from_slice(src);
+    dst[..n].copy_from_slice(&block[..n]);
 }
 
 // Copies all of src to the start of dst, block by block.
