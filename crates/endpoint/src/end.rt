@@ -107,41 +107,42 @@ pub fn no_end() -> Endpoint
     }
 }
 
-pub fn with_queue(mut e: Endpoint, queue: Queue) -> Endpoint
+pub fn with_queue(e: Endpoint, queue: Queue) -> Endpoint
     ensures { result ≡ with_queue queue e }
 {
-    e.queue = queue;
-    e
+    Endpoint { queue, ..e }
 }
 
-pub fn with_signals(mut e: Endpoint, word: u32) -> Endpoint
+pub fn with_signals(e: Endpoint, word: u32) -> Endpoint
     ensures { result ≡ with_signals word e }
 {
-    e.signals = word;
-    e
+    Endpoint { signals: word, ..e }
 }
 
-pub fn with_read_disabled(mut e: Endpoint, off: bool) -> Endpoint
+pub fn with_read_disabled(e: Endpoint, off: bool) -> Endpoint
     ensures { result ≡ with_read_disabled off e }
 {
-    e.read_disabled = off;
-    e
+    Endpoint {
+        read_disabled: off,
+        ..e
+    }
 }
 
-pub fn with_thresholds(mut e: Endpoint, thresholds: Thresholds) -> Endpoint
+pub fn with_thresholds(e: Endpoint, thresholds: Thresholds) -> Endpoint
     ensures { result ≡ with_thresholds thresholds e }
 {
-    e.thresholds = thresholds;
-    e
+    Endpoint { thresholds, ..e }
 }
 
 // The same end closed: only its queue is gone.
-pub fn into_closed(mut e: Endpoint) -> Endpoint
+pub fn into_closed(e: Endpoint) -> Endpoint
     ensures { result ≡ closed_end e }
 {
-    e.closed = true;
-    e.queue = no_queue();
-    e
+    Endpoint {
+        closed: true,
+        queue: no_queue(),
+        ..e
+    }
 }
 
 // The word that the end shows.

@@ -61,6 +61,7 @@ fn get(ring: &[u8], start: usize, dst: &mut [u8])
 }
 
 // Copies the first n bytes of src into the ring from the place `at` on. What does not fit is not copied.
+// The slice, the capacity and the place come apart, as C passes them, and so in `copied_in` and `copied_out`, which ask nothing of them.
 pub fn copy_in(ring: &mut [u8], capacity: usize, at: usize, src: &[u8], n: usize)
     ensures { ring.new ≡ copied_in capacity at n src.now ring.old }
 {
