@@ -12,14 +12,14 @@ use definition::Endpoint;
 pub fn is_reached(threshold: u64, n: u32) -> bool
     ensures { result ≡ reached threshold n }
 {
-    0 < threshold && threshold <= n as u64
+    0 < threshold && threshold <= u64::from(n)
 }
 
 // Whether a threshold above 0 is not reached. No number is below a threshold of 0.
 pub fn is_missed(threshold: u64, n: u32) -> bool
     ensures { result ≡ missed threshold n }
 {
-    (n as u64) < threshold
+    u64::from(n) < threshold
 }
 
 pub fn bit_if(test: bool, bit: u32) -> u32

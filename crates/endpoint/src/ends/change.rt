@@ -42,9 +42,7 @@ fn any_fires(waits: usize, v: Visits, more: Visits) -> bool
 pub fn put_back(waits: usize, one: bool, answer: Answer, moved: Moved, more: Visits) -> EndsOutcome
     ensures { result ≡ outcome_of waits one answer moved more }
 {
-    let own = moved.own;
-    let peer = moved.peer;
-    let visits = moved.visits;
+    let Moved { own, peer, visits } = moved;
     EndsOutcome {
         one: end_if(one, own, peer),
         two: end_if(one, peer, own),
