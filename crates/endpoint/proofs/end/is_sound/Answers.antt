@@ -7,3 +7,7 @@ use Rattle.endpoint.proofs.end.is_sound.Goals as goal
 pub returns-then-not-datagram : goal.returns-then-not-datagram
 unfolding sound_queue pick ◌and◌
 returns-then-not-datagram c = grind (arith, nat_tests)
+
+pub returns-else-not-datagram : goal.returns-else-not-datagram
+unfolding sound_queue pick ◌and◌
+returns-else-not-datagram c = grind (arith, nat_tests)
