@@ -26,7 +26,7 @@ pub struct Visits {
     pub second: Pending,
 }
 
-// No change.
+// No change: one that clears and sets no bit of the word 0, as the definition `no_visit` says it.
 pub const NO_VISIT: Pending = Pending {
     one: true,
     word: 0,
@@ -44,6 +44,7 @@ pub struct Moved {
 
 // The two ends after a call, its answer, whether the waits are to be looked at, and the changes whose waits are then to be visited: those of
 // `visits`, then those of `more`, which only a disposition has. The waits are looked at where a wait can fire; by a close, where there are any.
+// The flag stands beside the changes, and is no Option of them, since the definition `outcome_of` has the changes of a call that fires no wait too.
 #[derive(Clone, Copy)]
 pub struct EndsOutcome {
     pub one: Endpoint,
