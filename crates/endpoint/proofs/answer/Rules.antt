@@ -129,3 +129,47 @@ on-pick b c x y e t = pick-on _ b x x y (via e (on c t)) refl
 
 pub off_pick : {A : Type 0} (b c : Bool) (x y : A) → c ≡ b → T (not c) → y ≡ pick b x y
 off_pick b c x y e t = pick_off _ b y x y (via e (off c t)) refl
+
+-- ---- the steps of a chain as equations, for `grind`
+
+pub on_ok : (d : Record) (a : Answer) → (◌then◌ (Ok d) a) ≡ a
+unfolding ◌then◌
+on_ok d a = refl
+
+pub on_err : (s : Status) (a : Answer) → (◌then◌ (Err s) a) ≡ Err s
+unfolding ◌then◌
+on_err s a = refl
+
+pub refuse_true : (s : Status) → refuse_if true s ≡ Err s
+unfolding refuse_if
+refuse_true s = refl
+
+pub refuse_false : (s : Status) → refuse_if false s ≡ Ok Empty
+unfolding refuse_if
+refuse_false s = refl
+
+pub unless_true : (s : Status) → refuse_unless true s ≡ Ok Empty
+unfolding refuse_unless
+unless_true s = refl
+
+pub unless_false : (s : Status) → refuse_unless false s ≡ Err s
+unfolding refuse_unless
+unless_false s = refl
+
+pub and_true : (b : Bool) → (◌and◌ true b) ≡ b
+unfolding ◌and◌
+and_true b = refl
+
+pub and_false : (b : Bool) → (◌and◌ false b) ≡ false
+unfolding ◌and◌
+and_false b = refl
+
+pub or_true : (b : Bool) → (◌or◌ true b) ≡ true
+unfolding ◌or◌
+or_true b = refl
+
+pub or_false : (b : Bool) → (◌or◌ false b) ≡ b
+unfolding ◌or◌
+or_false b = refl
+
+pub ruleset steps = (on_ok, on_err, refuse_true, refuse_false, unless_true, unless_false, and_true, and_false, or_true, or_false, lt-ltb, le-ltb, le-leb, lt-leb, eq-eqb, ne_eqb)
