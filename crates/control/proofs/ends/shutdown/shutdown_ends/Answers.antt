@@ -1,14 +1,14 @@
 use mathlib.Core.Path.{refl, ◌∙◌}
-use Rattle.endpoint.proofs.answer.Rules.{via_not, via_not-not}
+use Rattle.endpoint.proofs.answer.Steps.{err_refused, err_done}
 use Rattle.control.proofs.ends.Outcomes.{refused, done-two}
 use Rattle.definition.specs.Effect.{keeping_waits}
 use Rattle.definition.specs.Shutdown.{shut_effect}
 use Rattle.endpoint.specs.ends.AtOnce.{visits_of, first_two, more_by}
 use Rattle.control.proofs.ends.shutdown.shutdown_ends.Goals as goal
 
-pub returns-then-not-is_done : goal.returns-then-not-is_done
-returns-then-not-is_done c = c.unchanged.ensures ∙ refused _ _ _ _ _ c.opening_test-a.ensures (via_not c.is_done.ensures c.if-not-is_done.true-raw)
+pub returns-then-is_err : goal.returns-then-is_err
+returns-then-is_err c = c.unchanged.ensures ∙ refused _ _ _ _ _ c.opening_test-a.ensures (err_refused _ _ c.is_err.ensures.value c.if-is_err.true)
 
 pub returns : goal.returns
 unfolding shut_effect keeping_waits more_by visits_of first_two
-returns c = rw (c.shut_moved-moved.ensures, c.own.ensures, c.peer.ensures) at c.put_both.ensures ∙ done-two _ _ _ _ _ c.opening_test-a.ensures refl refl (via_not-not c.is_done.ensures c.if-not-is_done.false-raw)
+returns c = rw (c.shut_moved-moved.ensures, c.own.ensures, c.peer.ensures) at c.put_both.ensures ∙ done-two _ _ _ _ _ c.opening_test-a.ensures refl refl (err_done _ _ c.is_err.ensures.value c.if-is_err.false)
