@@ -14,10 +14,7 @@ pub fn fits(base: u64, size: usize, address: u64, n: u64) -> bool
         return false;
     }
     let from = address - base;
-    if (size as u64) < from {
-        return false;
-    }
-    n <= size as u64 - from
+    from <= size as u64 && n <= size as u64 - from
 }
 
 // Whether the count's 8 bytes lie in memory; address 0 asks for no count.

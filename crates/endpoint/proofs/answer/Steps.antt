@@ -1,11 +1,11 @@
 -- The steps of a chain of tests as equations: with `using(endpoint::proofs::answer::Steps::steps)` the check closes
 -- `answer ≡ (refuse_if .. then refuse_unless .. then ..)` from the tests on the way, and from each `?`, with no answer written. Assumes nothing.
 use Prim.Native.Nat.{ℕ}
-use mathlib.Core.Path.{◌≡◌, refl, sym, ◌∙◌}
-use mathlib.Core.Bool.{Bool, true, false}
+use mathlib.Core.Path.{◌≡◌, refl, sym, ap, ◌∙◌}
+use mathlib.Core.Bool.{Bool, true, false, not}
 use lib.Dec.{ltb}
 use borrow.Author.Tests.{lt-ltb, le-ltb, le-leb, lt-leb, eq-eqb, ne_eqb}
-use Rattle.std.specs.Result.{is_ok, is_err}
+use Rattle.std.specs.Result.{is_err}
 use Rattle.std.specs.declared.result.Result.{Result}
 use Rattle.std.specs.declared.result.Result.TheVariants.{Ok, Err}
 use Rattle.definition.specs.declared.Status.{Status}
@@ -62,22 +62,19 @@ or_false b = refl
 
 pub ruleset steps = (then_ok, then_err, refuse_true, refuse_false, unless_true, unless_false, and_true, and_false, or_true, or_false, lt-ltb, le-ltb, le-leb, lt-leb, eq-eqb, ne_eqb)
 
--- ---- an answer that `is_ok` or `is_err` tested: b is what the test gave
+-- ---- an answer that `is_ok` or `is_err` tests
 
-pub err_refused : (a : Answer) (b : Bool) → b ≡ is_err a → b ≡ true → is_done a ≡ false
+pub done_is : (a : Answer) → is_done a ≡ not (is_err a)
 unfolding is_done
-err_refused (Ok d) b e f = let z : ◌≡◌ {A = Bool} false true = sym e ∙ f in (cc)
-err_refused (Err s) b e f = refl
+done_is (Ok d) = refl
+done_is (Err s) = refl
+
+-- b is what the test gave
+pub err_refused : (a : Answer) (b : Bool) → b ≡ is_err a → b ≡ true → is_done a ≡ false
+err_refused a b e f = done_is a ∙ ap not (sym e ∙ f)
 
 pub err_done : (a : Answer) (b : Bool) → b ≡ is_err a → b ≡ false → is_done a ≡ true
-unfolding is_done
-err_done (Ok d) b e f = refl
-err_done (Err s) b e f = let z : ◌≡◌ {A = Bool} true false = sym e ∙ f in (cc)
-
-pub ok_is : (a : Answer) (b t : Bool) → b ≡ is_ok a → b ≡ t → is_done a ≡ t
-unfolding is_done
-ok_is (Ok d) b t e f = sym e ∙ f
-ok_is (Err s) b t e f = sym e ∙ f
+err_done a b e f = done_is a ∙ ap not (sym e ∙ f)
 
 -- ---- a number that `try_from` made a disposition: it is not above 2, and the disposition is the one that it names
 

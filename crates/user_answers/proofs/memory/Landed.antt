@@ -1,12 +1,12 @@
 -- The count in memory: its bytes, and where its range fits. Assumes nothing.
-use Prim.Native.Nat.{ℕ, suc, ◌+◌, ◌-◌, ◌/◌, ◌%◌, ◌≤◌, ◌<◌}
+use Prim.Native.Nat.{ℕ, ◌+◌, ◌-◌, ◌/◌, ◌≤◌}
 use mathlib.Core.Path.{◌≡◌, refl, sym}
 use mathlib.Core.Bool.{Bool, true, false}
 use mathlib.Core.List.{List}
 use native.Mathlib.Omega.{arith}
 use lib.Dec.{eqb}
-use lib.ListN.{length, set}
-use lib.Seq.{paste, paste-zero}
+use lib.ListN.{length}
+use lib.Seq.{paste}
 use borrow.Author.Tests.{leb-true, eq-eqb, ne_eqb}
 use Rattle.definition.specs.Status.{◌or◌}
 use Rattle.endpoint.proofs.answer.Rules.{pick-on, pick_off, or-on, or_off}

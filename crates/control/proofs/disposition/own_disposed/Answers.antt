@@ -1,5 +1,5 @@
 use mathlib.Core.Path.{◌∙◌}
-use Rattle.control.proofs.ends.Parts.{own-closed, own_open}
+use Rattle.control.proofs.ends.Parts.{own_open}
 use Rattle.control.proofs.disposition.own_disposed.Goals as goal
 
 pub returns : goal.returns

@@ -1,7 +1,5 @@
-use mathlib.Core.Path.{ap, ◌∙◌}
-use Rattle.definition.specs.declared.Endpoint.{Endpoint}
-use Rattle.endpoint.specs.ends.Outcome.{kept_ends}
-use Rattle.control.proofs.ends.Parts.{peer-closed, peer_open}
+use mathlib.Core.Path.{◌∙◌}
+use Rattle.control.proofs.ends.Parts.{peer_open}
 use Rattle.control.proofs.disposition.peer_disposed.Goals as goal
 
 pub returns : goal.returns

@@ -1,7 +1,6 @@
 use native.Mathlib.Omega.{arith}
-use mathlib.Core.Path.{refl, ◌∙◌}
-use Prim.Native.Nat.{◌+◌, ◌-◌}
-use Rattle.std.proofs.Common.{◌≡◌, ℕ}
+use mathlib.Core.Path.{◌∙◌}
+use Prim.Native.Nat.{◌-◌}
 use Rattle.std.proofs.lemmas.Slice.{put_mid-paste}
 use Rattle.endpoint.proofs.answer.Rules.{via}
 use Rattle.definition.specs.Memory.{little_endian}

@@ -1,14 +1,9 @@
 use mathlib.Core.Path.{refl, ◌∙◌}
 use Rattle.definition.specs.Close.{close_effect}
 use Rattle.endpoint.specs.ends.AtOnce.{visits_of, first_two, more_by}
-use Rattle.endpoint.proofs.answer.Steps.{err_refused, err_done}
-use Rattle.control.proofs.ends.Outcomes.{refused, done, by_dropped}
+use Rattle.endpoint.proofs.answer.Steps.{err_done}
+use Rattle.control.proofs.ends.Outcomes.{done, by_dropped}
 use Rattle.control.proofs.ends.close.close_ends.Goals as goal
-
-pub returns-then-is_err : goal.returns-then-is_err
-returns-then-is_err c =
-    c.unchanged.ensures
-    ∙ refused _ _ _ _ _ c.opening_test-a.ensures (err_refused _ _ c.is_err.ensures.value c.if-is_err.true)
 
 pub returns : goal.returns
 unfolding close_effect more_by visits_of first_two
