@@ -109,7 +109,7 @@ pub fn dispose_ends(
     ensures { result ≡ moved_if e handle (dispose_answer e handle disposition peer_disposition) (dispose_effect (own (is_one handle) e) (peer (is_one handle) e) disposition peer_disposition) }
 {
     let a = answers::control_calls::dispose_answer(e, handle, disposition, peer_disposition);
-    if !endpoint::answer::is_done(a) {
+    if a.is_err() {
         return endpoint::ends::unchanged(e, a);
     }
     disposed_ends(e, handle == 1, a, disposition, peer_disposition)
