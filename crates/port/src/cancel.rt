@@ -3,8 +3,9 @@ ghost use Rattle.std.specs.Prelude.{◌≡◌, true, ◌+◌, ◌≤◌, leb};
 ghost use Rattle.definition.specs.Status.{pick, ◌and◌};
 ghost use Rattle.definition.specs.Port.{matches, matching, cancelled_of};
 
-use crate::places::{FREE, both, count_if, end_number, is_sound};
+use crate::places::{FREE, both, end_number, is_sound};
 use definition::{Place, Places};
+use endpoint::choice::pick;
 
 // The table that a cancel leaves, and how many of its places were freed.
 #[derive(Clone, Copy)]
@@ -42,14 +43,14 @@ fn compacted(t: Places, one: bool, key: u64, asked: bool) -> Remaining
             let p = out.table[i];
             let free = FREE;
             out.table[i] = free;
-            m = count_if(i <= packets, n, m);
+            m = pick(i <= packets, n, m);
             i = i + 1;
             if !is_match(p, one, key) {
                 out.table[n] = p;
                 n = n + 1;
             }
         }
-        m = count_if(i <= packets, n, m);
+        m = pick(i <= packets, n, m);
         out.packets = m;
         out.waits = n - m;
         removed = (used - n) as u32;

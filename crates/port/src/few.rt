@@ -6,29 +6,19 @@ ghost use Rattle.definition.specs.Port.{free, wait_of, appended_of, matches};
 ghost use Rattle.port.specs.few.Few.{at_most_seven_used, only_match, removed_at, is_among_eight, without_place};
 
 use crate::cancel::is_match;
-use crate::places::{FREE, both, count_if, end_number, uses_at_most};
+use crate::places::{FREE, both, end_number, uses_at_most};
 use definition::{Place, Places};
-use endpoint::signal::word_if;
-
-// One of two keys, or of two numbers of ends.
-fn key_if(test: bool, yes: u64, no: u64) -> u64
-    ensures { result ≡ pick test yes no }
-{
-    if test {
-        return yes;
-    }
-    no
-}
+use endpoint::choice::pick;
 
 // One of two places.
 fn place_if(test: bool, yes: Place, no: Place) -> Place
     ensures { result ≡ pick test yes no }
 {
     Place {
-        key: key_if(test, yes.key, no.key),
-        mask: word_if(test, yes.mask, no.mask),
-        observed: word_if(test, yes.observed, no.observed),
-        end: key_if(test, yes.end, no.end),
+        key: pick(test, yes.key, no.key),
+        mask: pick(test, yes.mask, no.mask),
+        observed: pick(test, yes.observed, no.observed),
+        end: pick(test, yes.end, no.end),
     }
 }
 
@@ -80,8 +70,8 @@ pub fn appended(t: Places, asked: bool, one: bool, key: u64, mask: u32) -> Place
         end: end_number(one),
     };
     let room = both(asked, uses_at_most(packets, waits, 7));
-    let mut out = with_place(t, count_if(room, used_within(packets, waits, 7), 8), p);
-    out.waits = waits + count_if(room, 1, 0);
+    let mut out = with_place(t, pick(room, used_within(packets, waits, 7), 8), p);
+    out.waits = waits + pick(room, 1, 0);
     out
 }
 
@@ -108,10 +98,10 @@ pub fn only_match(t: Places, asked: bool, one: bool, key: u64) -> usize
         i = i - 1;
         let p = t.table[i];
         let hit = is_used_match(i < used, p, one, key);
-        n = count_if(hit, n + 1, n);
-        k = count_if(hit, i, k);
+        n = pick(hit, n + 1, n);
+        k = pick(hit, i, k);
     }
-    count_if(both(asked, n == 1), k, 8)
+    pick(both(asked, n == 1), k, 8)
 }
 
 // Whether i is at or above low and below high.
@@ -154,10 +144,10 @@ pub fn without_place(t: Places, k: usize) -> Places
     let is_used = k < used;
     let mut out = removed_at(
         t,
-        count_if(is_used, k, 8),
-        count_if(is_used, less_one(used), 8),
+        pick(is_used, k, 8),
+        pick(is_used, less_one(used), 8),
     );
-    out.packets = count_if(both(is_used, k < packets), less_one(packets), packets);
-    out.waits = count_if(both(is_used, packets <= k), less_one(waits), waits);
+    out.packets = pick(both(is_used, k < packets), less_one(packets), packets);
+    out.waits = pick(both(is_used, packets <= k), less_one(waits), waits);
     out
 }

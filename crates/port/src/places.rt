@@ -83,16 +83,6 @@ pub fn both(a: bool, b: bool) -> bool
     false
 }
 
-// One of two counts.
-pub fn count_if(test: bool, yes: usize, no: usize) -> usize
-    ensures { result ≡ pick test yes no }
-{
-    if test {
-        return yes;
-    }
-    no
-}
-
 // The number of an end in a place.
 pub fn end_number(one: bool) -> u64
     ensures { result ≡ end_number one }

@@ -6,10 +6,10 @@ ghost use Rattle.port.specs.places.Table.{unused};
 ghost use Rattle.definition.specs.Port.{inserted_of, appended_of, dropped_of, register_of, drop_of};
 
 use crate::places::{
-    FREE, both, count_if, end_number, is_sound, is_unused, sound_answer, uses_at_most,
+    FREE, both, end_number, is_sound, is_unused, sound_answer, uses_at_most,
 };
 use definition::{Next, Place, Places};
-use endpoint::signal::word_if;
+use endpoint::choice::pick;
 
 // Whether a place is to be used and fewer than 128 are. The sum of the two counts is never taken, as it can be too large.
 fn has_room(asked: bool, packets: usize, waits: usize) -> bool
@@ -53,8 +53,8 @@ fn placed(t: Places, p: Place, packet: bool, room: bool) -> Places
     let mut out = t;
     if room {
         let mut i = packets + waits;
-        let at = count_if(packet, packets, i);
-        let more = count_if(packet, 1, 0);
+        let at = pick(packet, packets, i);
+        let more = pick(packet, 1, 0);
         while at < i {
             let q = out.table[i - 1];
             out.table[i] = q;
@@ -83,7 +83,7 @@ pub fn registered(
     let p = Place {
         key: key,
         mask: mask,
-        observed: word_if(now, word, 0),
+        observed: pick(now, word, 0),
         end: end_number(one),
     };
     placed(t, p, now, has_room(asked, t.packets, t.waits))
@@ -106,11 +106,11 @@ pub fn first_registered(
     let p = Place {
         key: key,
         mask: mask,
-        observed: word_if(now, word, 0),
+        observed: pick(now, word, 0),
         end: end_number(one),
     };
-    let packets = count_if(now, 1, 0);
-    let waits = count_if(now, 0, 1);
+    let packets = pick(now, 1, 0);
+    let waits = pick(now, 0, 1);
     let mut out = t;
     if both(asked, is_unused(t.packets, t.waits)) {
         out.table[0] = p;

@@ -35,7 +35,7 @@ loop-i-preserved-then-not-is_match c =
           (ap not (sym c.is_match.ensures) ∙ c.if-not-is_match.true-raw),
       (
         (
-          λ (q : t.packets < o.i + 1). c.count_if-m.ensures
+          λ (q : t.packets < o.i + 1). c.pick-m.ensures
               ∙ kept-packets f t.table t.packets u o.out.table o.m o.n o.i o.invariant.0 o.invariant.1.0.0 (omega (arith, q)),
           o.invariant.1.0.1,
         ),
@@ -54,7 +54,7 @@ loop-i-preserved c =
           (ap not (sym c.is_match.ensures) ∙ c.if-not-is_match.false-raw),
       (
         (
-          λ (q : t.packets < o.i + 1). c.count_if-m.ensures
+          λ (q : t.packets < o.i + 1). c.pick-m.ensures
               ∙ kept-packets f t.table t.packets u o.out.table o.m o.n o.i o.invariant.0 o.invariant.1.0.0 (omega (arith, q)),
           o.invariant.1.0.1,
         ),
@@ -70,8 +70,8 @@ overflow_sub-out c =
     let u = t.packets + t.waits in
     let l : length t.table ≡ 128 = table_128 t _ c.well_formed.0 in
     let done : u ≤ o.i = c.loop-i-test.false in
-    let k = c.count_if-m-then-asked.ensures ∙ kept-packets (keeps a.one a.key) t.table t.packets u o.out.table o.m o.n o.i o.invariant.0 o.invariant.1.0.0 (omega arith) in
-    (cancelled_as a.one a.key t o.out.table c.count_if-m-then-asked.result o.n o.i (omega (arith, o.invariant.1.1, l)) o.invariant.0 done k).0
+    let k = c.pick-m-then-asked.ensures ∙ kept-packets (keeps a.one a.key) t.table t.packets u o.out.table o.m o.n o.i o.invariant.0 o.invariant.1.0.0 (omega arith) in
+    (cancelled_as a.one a.key t o.out.table c.pick-m-then-asked.result o.n o.i (omega (arith, o.invariant.1.1, l)) o.invariant.0 done k).0
 
 pub returns-after-loop-i : goal.returns-after-loop-i
 unfolding pick
@@ -82,8 +82,8 @@ returns-after-loop-i c =
     let u = t.packets + t.waits in
     let l : length t.table ≡ 128 = table_128 t _ c.well_formed.0 in
     let done : u ≤ o.i = c.loop-i-test.false in
-    let k = c.count_if-m-then-asked.ensures ∙ kept-packets (keeps a.one a.key) t.table t.packets u o.out.table o.m o.n o.i o.invariant.0 o.invariant.1.0.0 (omega arith) in
-    let w = cancelled_as a.one a.key t o.out.table c.count_if-m-then-asked.result o.n o.i (omega (arith, o.invariant.1.1, l)) o.invariant.0 done k in
+    let k = c.pick-m-then-asked.ensures ∙ kept-packets (keeps a.one a.key) t.table t.packets u o.out.table o.m o.n o.i o.invariant.0 o.invariant.1.0.0 (omega arith) in
+    let w = cancelled_as a.one a.key t o.out.table c.pick-m-then-asked.result o.n o.i (omega (arith, o.invariant.1.1, l)) o.invariant.0 done k in
     rw (c.if-asked.true, w.1.0, w.1.1) refl
 
 pub returns-else-asked : goal.returns-else-asked

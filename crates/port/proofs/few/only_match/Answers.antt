@@ -23,13 +23,13 @@ loop-i-preserved c =
     let l : length t.table ≡ 128 = table_128 t _ c.well_formed.0 in
     let e : (o.i - 1) + 1 ≡ o.i = omega (arith, some) in
     let f = matches c.args.one c.args.key in (
-      rw (c.count_if-n.ensures, c.count_if-k.ensures)
+      rw (c.pick-n.ensures, c.pick-k.ensures)
           (found_turn f t.table u (omega (arith, o.invariant.1.1, l)) (o.i - 1) o.n o.k free c.is_used_match-hit.result
           c.is_used_match-hit.ensures (subst (λ (j : ℕ). Found f t.table u j o.n o.k) (sym e) o.invariant.0)),
       (
         (
           omega (arith, some, o.invariant.1.0.0),
-          rw c.count_if-n.ensures (counted-most c.is_used_match-hit.result o.n o.i some o.invariant.1.0.1),
+          rw c.pick-n.ensures (counted-most c.is_used_match-hit.result o.n o.i some o.invariant.1.0.1),
         ),
         o.invariant.1.1,
       ),
@@ -41,7 +41,7 @@ returns c =
     let t = c.args.t in
     let none : o.i ≡ 0 = omega (arith, c.loop-i-test.false) in
     let u = c.used_within-used in
-    c.count_if.ensures
+    c.pick.ensures
     ∙ rw c.both.ensures
     (found_all c.args.asked c.args.one c.args.key t u.result o.n o.k (table_128 t _ c.well_formed.0) u.ensures
     (subst (λ (j : ℕ). Found (matches c.args.one c.args.key) t.table u.result j o.n o.k) none o.invariant.0))

@@ -9,10 +9,10 @@ unfolding unused
 returns-then-both c =
     let a = c.args in
     rw (
-      c.count_if-waits.ensures,
-      c.count_if-packets.ensures,
+      c.pick-waits.ensures,
+      c.pick-packets.ensures,
       c.end_number.ensures,
-      c.word_if.ensures,
+      c.pick.ensures,
       c.fires_at_once-now.ensures,
     )
     (registered_on a.asked a.t (table_128 a.t _ c.well_formed.0) a.one a.word a.key a.mask a.edge

@@ -19,29 +19,29 @@ pub loop-i-init : goal.loop-i-init
 loop-i-init c =
     let a = c.args in
     let t = a.t in
-    let at = c.count_if-at.result in
+    let at = c.pick-at.result in
     let l : length t.table ≡ 128 = table_128 t _ c.well_formed.0 in
     let h : t.packets + t.waits < 128 = c.requires c.if-room.true in
-    let k : at ≤ t.packets + t.waits = rw c.count_if-at.ensures (index_fits a.packet t.packets t.waits) in
-    (up_start t.table at (t.packets + t.waits) k (omega arith), (h, rw c.count_if-more.ensures (at_most_one a.packet)))
+    let k : at ≤ t.packets + t.waits = rw c.pick-at.ensures (index_fits a.packet t.packets t.waits) in
+    (up_start t.table at (t.packets + t.waits) k (omega arith), (h, rw c.pick-more.ensures (at_most_one a.packet)))
 
 pub loop-i-preserved : goal.loop-i-preserved
 loop-i-preserved c =
     let t = c.args.t in
     let o = c.loop-i in
-    (up_step t.table c.count_if-at.result (t.packets + t.waits) o.out.table o.i free o.invariant.0 c.loop-i-test.true, o.invariant.1)
+    (up_step t.table c.pick-at.result (t.packets + t.waits) o.out.table o.i free o.invariant.0 c.loop-i-test.true, o.invariant.1)
 
 pub returns-after-loop-i : goal.returns-after-loop-i
 unfolding pick
 returns-after-loop-i c =
     let a = c.args in
     let t = a.t in
-    let at = c.count_if-at.result in
+    let at = c.pick-at.result in
     let o = c.loop-i in
     let l : length t.table ≡ 128 = table_128 t _ c.well_formed.0 in
     rw c.if-room.true
     (same-places refl refl (up_all t.table at (t.packets + t.waits) o.out.table o.i a.p o.invariant.0 c.loop-i-test.false)
-    ∙ placed_as t a.p a.packet at c.count_if-more.result c.count_if-at.ensures c.count_if-more.ensures (omega (arith, o.invariant.1.0)))
+    ∙ placed_as t a.p a.packet at c.pick-more.result c.pick-at.ensures c.pick-more.ensures (omega (arith, o.invariant.1.0)))
 
 pub returns-else-room : goal.returns-else-room
 unfolding pick
