@@ -1,5 +1,5 @@
 -- Laws of lists, for any element type. Assumes nothing.
-use Prim.Native.Nat.{ℕ, zero, suc, ◌+◌, ◌≤◌, ◌<◌}
+use Prim.Native.Nat.{ℕ, zero, suc, ◌+◌, ◌-◌, ◌≤◌, ◌<◌}
 use mathlib.Core.Path.{◌≡◌, refl, sym, ap, ◌∙◌}
 use mathlib.Core.Bool.{Bool, true, false, not, false≢true}
 use mathlib.Core.List.{List, [], ◌∷◌, ◌++◌, map, reverse, reverse-cons, map-append}
@@ -7,6 +7,7 @@ use mathlib.Core.Logic.{◌⊎◌, inl, inr, ⊎_elim}
 use native.Mathlib.Omega.{arith}
 use lib.ListN.{length, take, drop, get_or, set, replicate, length-set, take-append-drop}
 use lib.Seq.{slice, take-suc, take-take, drop-set-lt, drop-cons, drop-drop, drop-append-le, get_or-drop, get_or-take, get_or-set_same, length-take-le}
+use Rattle.std.proofs.lemmas.List.{drop-take}
 use Rattle.definition.specs.Status.{pick, ◌or◌}
 use Rattle.definition.specs.Port.{filter, any}
 
@@ -128,6 +129,12 @@ module _ {A : Type 0} where
   -- the first u elements are the first p and those from p to u
   pub two_parts : (tab : List A) (p u : ℕ) → p ≤ u → take u tab ≡ take p tab ++ slice p u tab
   two_parts tab p u h = sym (take-append-drop p (take u tab)) ∙ rw (take-take p u tab h) refl
+
+  -- a part as a slice of the code has it
+  pub as_slice : (tab : List A) (p u : ℕ) → p ≤ u → take (u - p) (drop p tab) ≡ slice p u tab
+  as_slice tab p u h =
+      let e : p + (u - p) ≡ u = omega arith in
+      sym (drop-take p (u - p) tab) ∙ ap (λ (j : ℕ). drop p (take j tab)) e
 
   pub slice_snoc : (tab : List A) (p i : ℕ) (d : A) → p ≤ i → i < length tab → slice p (suc i) tab ≡ slice p i tab ++ (get_or tab i d ∷ [])
   slice_snoc tab p i d h k =

@@ -1,12 +1,14 @@
 -- The tests of the two counts without their sum. Assumes nothing.
 use Prim.Native.Nat.{ℕ, ◌+◌, ◌-◌, ◌≤◌, ◌<◌}
-use mathlib.Core.Path.{◌≡◌, sym, ◌∙◌}
-use mathlib.Core.Bool.{true, false}
+use mathlib.Core.Path.{◌≡◌, refl, sym, ◌∙◌}
+use mathlib.Core.Bool.{Bool, true, false}
 use mathlib.Core.Logic.{⊎_elim}
 use native.Mathlib.Omega.{arith}
 use lib.Dec.{leb, ltb}
 use borrow.Author.Tests.{le-leb, lt-leb, leb-true, leb-false, lt-ltb, le-ltb, ltb-true, ltb-false}
+use Rattle.definition.specs.Status.{◌and◌}
 use Rattle.definition.specs.declared.Places.{Places}
+use Rattle.endpoint.proofs.answer.Rules.{and_off}
 use Rattle.definition.specs.Port.{used, sound}
 use Rattle.port.proofs.places.Lists.{either}
 
@@ -27,3 +29,12 @@ room-ltb a b h =
 -- a table with no more than 128 used places is sound
 pub sound_below : (t : Places) → used t ≤ 128 → sound t ≡ true
 sound_below t h = le-leb (t.packets + t.waits) 128 h
+
+-- where the first of two tests fails, both come to what it gave
+pub first_fails : (a b x : Bool) → a ≡ false → x ≡ a → x ≡ (a and b)
+first_fails a b x e f = f ∙ e ∙ and_off a b e
+
+pub second_fails : (a b : Bool) → b ≡ false → (a and b) ≡ false
+unfolding ◌and◌
+second_fails true b e = e
+second_fails false b e = refl

@@ -21,7 +21,7 @@ loop-i-preserved c =
     let l : length t.table ≡ 128 = table_128 t _ c.well_formed.0 in
     let to = pick (ltb at 8) (set t.table at c.args.p) t.table in
     let size : length to ≡ length t.table = put-size t.table c.args.p free at (omega (arith, l)) in
-    let v = c.place_if-q.ensures ∙ put-at t.table c.args.p free at (omega (arith, l)) o.i below in (
+    let v = c.place_if.ensures ∙ put-at t.table c.args.p free at (omega (arith, l)) o.i below in (
       rw (v, o.invariant.0) (written_step to t.table o.i free (omega (arith, below, size, l)) (omega (arith, below, l))),
       (o.invariant.1.0, omega (arith, below)),
     )

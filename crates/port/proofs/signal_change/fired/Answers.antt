@@ -28,8 +28,8 @@ loop-i-preserved-then-is_fired c =
     let t = a.t in
     let o = c.loop-i in
     let m = c.is_fired in (
-      step_hit (fires a.one a.word) (observe a.word) t.table t.packets (t.packets + t.waits) o.out.table o.front o.back o.i free c.observed_at-q.result o.invariant.0
-          c.loop-i-test.true (sym m.ensures ∙ c.if-is_fired.true) c.observed_at-q.ensures,
+      step_hit (fires a.one a.word) (observe a.word) t.table t.packets (t.packets + t.waits) o.out.table o.front o.back o.i free c.observed_at.result o.invariant.0
+          c.loop-i-test.true (sym m.ensures ∙ c.if-is_fired.true) c.observed_at.ensures,
       o.invariant.1,
     )
 
