@@ -61,13 +61,15 @@ fn visited_only(t: Places, a: Pending) -> Places
     crate::signal_change::only_visited(t, a.one, a.word, a.clear, a.set)
 }
 
-// Visits the waits of all changes of a call, in a table whose only place used is a wait. Any other table stays as it is.
+// Visits the waits of all changes of a call, in a table whose only place used is a wait. Any other table stays as it is. The four changes stand one
+// by one: gone over as an array they are stored first, and a call that changes a word takes a third longer here.
 pub fn visited_alone(t: Places, r: EndsOutcome) -> Places
     ensures { result ≡ pick (only_wait t) (visited_each r t) t }
 {
     let mut u = t;
-    for a in changes(r) {
-        u = visited_only(u, a);
-    }
+    u = visited_only(u, r.visits.first);
+    u = visited_only(u, r.visits.second);
+    u = visited_only(u, r.more.first);
+    u = visited_only(u, r.more.second);
     u
 }
