@@ -1,6 +1,6 @@
 -- Whether an element of a list passes a test, looked for from its front. Assumes nothing.
 use Prim.Native.Nat.{ℕ, zero, suc, ◌+◌, ◌≤◌, ◌<◌, min}
-use mathlib.Core.Path.{◌≡◌, refl, sym, ap, ◌∙◌, subst}
+use mathlib.Core.Path.{◌≡◌, sym, ap, ◌∙◌, subst}
 use mathlib.Core.Bool.{Bool, true, false}
 use mathlib.Core.Logic.{⊎_elim}
 use mathlib.Core.List.{List, [], ◌∷◌, ◌++◌}
@@ -14,10 +14,6 @@ use Rattle.definition.specs.Port.{any}
 use Rattle.port.proofs.places.Lists.{either, any-yes, any-no}
 
 module _ {A : Type 0} (f : A → Bool) where
-  pub any_none : any f [] ≡ false
-  unfolding any
-  any_none = refl
-
   pub any_hit : (xs : List A) (i : ℕ) (d : A) → i < length xs → f (get_or xs i d) ≡ true → true ≡ any f xs
   unfolding any ◌or◌
   any_hit [] i d h e = absurd (omega (arith, h))

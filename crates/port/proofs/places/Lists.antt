@@ -6,7 +6,7 @@ use mathlib.Core.List.{List, [], ◌∷◌, ◌++◌, map, reverse, reverse-cons
 use mathlib.Core.Logic.{◌⊎◌, inl, inr, ⊎_elim}
 use native.Mathlib.Omega.{arith}
 use lib.ListN.{length, take, drop, get_or, set, replicate, length-set, take-append-drop}
-use lib.Seq.{slice, take-suc, take-take, drop-set-lt, drop-cons, drop-drop, drop-append-le, get_or-drop, get_or-take, get_or-set_same, length-take-le}
+use lib.Seq.{slice, take-suc, take-take, drop-set-lt, drop-cons, drop-drop, drop-append-le, get_or-drop, get_or-set_same, length-take-le}
 use Rattle.std.proofs.lemmas.List.{drop-take}
 use Rattle.definition.specs.Status.{pick, ◌or◌}
 use Rattle.definition.specs.Port.{filter, any}
@@ -122,9 +122,6 @@ module _ {A : Type 0} where
   -- two lists that agree from i on, or up to i, have the same element there
   pub read-from : (a b : List A) (i k : ℕ) (d : A) → drop i a ≡ drop i b → get_or a (i + k) d ≡ get_or b (i + k) d
   read-from a b i k d e = sym (get_or-drop i a k d) ∙ ap (λ (l : List A). get_or l k d) e ∙ get_or-drop i b k d
-
-  pub read_to : (a b : List A) (i k : ℕ) (d : A) → take i a ≡ take i b → k < i → get_or a k d ≡ get_or b k d
-  read_to a b i k d e h = sym (get_or-take i a k d h) ∙ ap (λ (l : List A). get_or l k d) e ∙ get_or-take i b k d h
 
   -- the first u elements are the first p and those from p to u
   pub two_parts : (tab : List A) (p u : ℕ) → p ≤ u → take u tab ≡ take p tab ++ slice p u tab

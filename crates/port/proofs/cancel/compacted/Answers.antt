@@ -11,11 +11,6 @@ use Rattle.port.proofs.cancel.Kept.{keeps, kept-packets, cancelled_as}
 use Rattle.port.proofs.cancel.compacted.Goals as goal
 use Rattle.port.proofs.cancel.compacted.Goals.{then-not-is_match, else-not-is_match}
 
-pub overflow_add-used : goal.overflow_add-used
-overflow_add-used c =
-    let h = c.requires c.if-asked.true in
-    omega (arith, h)
-
 pub loop-i-init : goal.loop-i-init
 loop-i-init c =
     let t = c.args.t in
@@ -71,7 +66,3 @@ returns-after-loop-i c =
     let k = c.pick-m-then-asked.ensures ∙ kept-packets (keeps a.one a.key) t.table t.packets u o.out.table o.m o.n u (rw whole at o.invariant.0) (rw whole at o.invariant.1.0.0) (omega arith) in
     let w = cancelled_as a.one a.key t o.out.table c.pick-m-then-asked.result o.n o.i (omega (arith, o.invariant.1.1, l)) o.invariant.0 done k in
     rw (c.if-asked.true, w.1.0, w.1.1) refl
-
-pub returns-else-asked : goal.returns-else-asked
-unfolding pick
-returns-else-asked c = rw c.if-asked.false refl

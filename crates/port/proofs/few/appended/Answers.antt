@@ -1,7 +1,5 @@
-use Prim.Native.Nat.{ℕ, ◌+◌, ◌≤◌}
+use Prim.Native.Nat.{ℕ, ◌+◌}
 use mathlib.Core.Path.{◌≡◌, ap, ◌∙◌}
-use mathlib.Core.Logic.{⊎_elim}
-use native.Mathlib.Omega.{arith}
 use lib.Dec.{leb}
 use Rattle.definition.specs.Status.{pick, ◌and◌}
 use Rattle.definition.specs.declared.Place.{Place}
@@ -10,7 +8,7 @@ use Rattle.port.specs.few.Few.{at_most_seven_used}
 use Rattle.endpoint.proofs.answer.Rules.{and-on}
 use Rattle.port.proofs.places.Size.{table_128}
 use Rattle.port.proofs.places.Tests.{first_fails}
-use Rattle.port.proofs.few.Whole.{appended_few, room_fits}
+use Rattle.port.proofs.few.Whole.{appended_few}
 use Rattle.port.proofs.few.appended.Goals as goal
 use Rattle.port.proofs.few.appended.Goals.{then-asked, else-asked}
 
@@ -21,13 +19,6 @@ room c =
       | then-asked w ↦ and-on _ _ _ w.if-asked.true (w.room-is ∙ w.uses_at_most-room.ensures)
       | else-asked w ↦ first_fails _ _ _ w.if-asked.false w.room-is
     ]
-
-pub overflow_add-out : goal.overflow_add-out
-overflow_add-out c =
-    let t = c.args.t in
-    let n = c.pick-2.result in
-    let h = room_fits c.args.asked c.if-asked.room t.packets t.waits n (room c) c.pick-2.ensures in
-    ⊎_elim (λ (e : n ≡ 0). omega (arith, e)) (λ (e : t.waits + n ≤ 8). omega (arith, e)) h
 
 pub returns : goal.returns
 unfolding wait_of

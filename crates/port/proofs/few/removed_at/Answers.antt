@@ -1,5 +1,5 @@
 use Prim.Native.Nat.{◌<◌}
-use mathlib.Core.Path.{◌≡◌, refl, ◌∙◌}
+use mathlib.Core.Path.{◌≡◌, ◌∙◌}
 use native.Mathlib.Omega.{arith}
 use lib.Dec.{leb, ltb}
 use lib.ListN.{length}
@@ -13,9 +13,6 @@ use Rattle.port.proofs.places.Size.{table_128, same-places}
 use Rattle.port.proofs.few.Lists.{written_step, written_all, chosen_element, taken_at, taken-size, taken-rest}
 use Rattle.port.proofs.few.removed_at.Goals as goal
 use Rattle.port.proofs.few.removed_at.Goals.{then-k-i, else-k-i}
-
-pub loop-i-init : goal.loop-i-init
-loop-i-init c = (refl, ((refl, refl), omega arith))
 
 pub loop-i-preserved : goal.loop-i-preserved
 loop-i-preserved c =

@@ -1,21 +1,12 @@
-use Prim.Native.Nat.{◌+◌}
 use mathlib.Core.Path.{◌≡◌}
 use lib.Dec.{leb, ltb}
 use borrow.Author.Tests.{lt-ltb, le-ltb}
 use Rattle.definition.specs.Status.{◌and◌}
 use Rattle.endpoint.proofs.answer.Rules.{and-on}
 use Rattle.port.proofs.places.Tests.{first_fails}
-use Rattle.port.proofs.few.Searches.{at-most-eight}
-use Rattle.port.proofs.few.Whole.{taken_needs, removed_few}
+use Rattle.port.proofs.few.Whole.{removed_few}
 use Rattle.port.proofs.few.without_place.Goals as goal
 use Rattle.port.proofs.few.without_place.Goals.{then-is_used, else-is_used, then-is_used-2, else-is_used-2}
-
-pub removed_at-out-requires : goal.removed_at-out-requires
-removed_at-out-requires c =
-    let u = c.used_within-used in
-    let t = c.args.t in
-    taken_needs c.args.k u.result c.pick.result c.pick-2.result (rw u.ensures (at-most-eight (t.packets + t.waits)))
-    c.pick.ensures (rw c.saturating_sub.ensures at c.pick-2.ensures)
 
 pub returns : goal.returns
 returns c =

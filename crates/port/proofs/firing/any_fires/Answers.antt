@@ -2,12 +2,9 @@ use mathlib.Core.Path.{sym, ap, ◌∙◌}
 use native.Mathlib.Omega.{arith}
 use Prim.Native.Nat.{◌+◌}
 use Rattle.definition.specs.Port.{any, free, waits_of, fires, any_fires}
-use Rattle.port.proofs.firing.Any.{any_none, any_hit, any_miss, any_not}
+use Rattle.port.proofs.firing.Any.{any_hit, any_miss, any_not}
 use Rattle.port.proofs.places.Lists.{as_slice}
 use Rattle.port.proofs.firing.any_fires.Goals as goal
-
-pub loop-p-init : goal.loop-p-init
-loop-p-init c = any_none (fires c.args.one c.args.word)
 
 pub loop-p-preserved : goal.loop-p-preserved
 loop-p-preserved c =

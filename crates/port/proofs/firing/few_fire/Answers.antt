@@ -1,18 +1,13 @@
-use Prim.Native.Nat.{◌≤◌, min}
+use Prim.Native.Nat.{◌≤◌}
 use mathlib.Core.Path.{◌≡◌, sym, ap, ◌∙◌}
 use native.Mathlib.Omega.{arith}
 use lib.ListN.{length}
 use Rattle.definition.specs.Port.{any, free, fires, any_fires}
-use Rattle.port.proofs.firing.Any.{any_none, few_hit, few_miss, few_past, few_not}
+use Rattle.port.proofs.firing.Any.{few_hit, few_miss, few_past, few_not}
 use Rattle.port.proofs.places.Size.{table_128}
 use Rattle.port.proofs.places.Views.{first_waits}
 use Rattle.port.proofs.firing.few_fire.Goals as goal
 use Rattle.port.proofs.firing.few_fire.Goals.{else-i-t-via-then-i-t+else-is_fired, else-i-t-via-else-i-t}
-
-pub loop-i-init : goal.loop-i-init
-loop-i-init c =
-    let none : min 0 c.args.t.waits ≡ 0 = omega arith in
-    rw none (any_none (fires c.args.one c.args.word))
 
 pub returns-then-is_fired : goal.returns-then-is_fired
 unfolding any_fires

@@ -5,7 +5,7 @@ use lib.ListN.{length, take, length-drop}
 use lib.Seq.{slice, length-slice, length-take-le}
 use Rattle.definition.specs.Port.{free, packets_of, waits_of, unused_of, table_of, taken_of}
 use Rattle.endpoint.proofs.answer.Rules.{via}
-use Rattle.port.proofs.packets.Operations.{take_possible, take_if_on, take_if_off}
+use Rattle.port.proofs.packets.Operations.{take_possible, take_if_on}
 use Rattle.port.proofs.places.Shift.{moved_down}
 use Rattle.port.proofs.places.Size.{table_128, same-places}
 use Rattle.port.proofs.packets.taken.Goals as goal
@@ -27,8 +27,3 @@ returns-then-has_packet c =
     rw c.copy_within.ensures.after
     (same-places (omega (arith, length-drop 1 (take p t.table))) (omega arith) (moved_down t.table p u free some (omega arith) (omega arith)))
     ∙ take_if_on a.asked t e
-
-pub returns-else-has_packet : goal.returns-else-has_packet
-returns-else-has_packet c =
-    let a = c.args in
-    take_if_off a.asked a.t (via c.has_packet.ensures c.if-has_packet.false)

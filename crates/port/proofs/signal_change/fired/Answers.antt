@@ -8,12 +8,6 @@ use lib.ListN.{length}
 use mathlib.Core.Path.{◌≡◌, refl, sym, ◌∙◌}
 use Rattle.port.proofs.signal_change.fired.Goals as goal
 
-pub overflow_add-used : goal.overflow_add-used
-overflow_add-used c =
-    let t = c.args.t in
-    let h : t.packets + t.waits ≤ 128 = c.requires c.if-visit.true in
-    omega arith
-
 pub loop-i-init : goal.loop-i-init
 loop-i-init c =
     let a = c.args in
@@ -60,7 +54,3 @@ returns-after-loop-i c =
       partition-front f g t.table t.packets u o.out.table o.front o.back o.i o.invariant.0 done,
       partition-all f g t.table t.packets u o.out.table o.front o.back o.i o.invariant.0 done,
     ) refl
-
-pub returns-else-visit : goal.returns-else-visit
-unfolding pick
-returns-else-visit c = rw c.if-visit.false refl

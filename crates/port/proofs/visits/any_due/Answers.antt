@@ -3,12 +3,9 @@ use native.Mathlib.Omega.{arith}
 use Rattle.definition.specs.Port.{any}
 use Rattle.endpoint.specs.declared.ends.Pending.{Pending}
 use Rattle.port.specs.visits.Visits.{due}
-use Rattle.port.proofs.firing.Any.{any_none, any_hit, any_miss, any_not}
+use Rattle.port.proofs.firing.Any.{any_hit, any_miss, any_not}
 use Rattle.port.proofs.visits.Visiting.{all-due, four-changes}
 use Rattle.port.proofs.visits.any_due.Goals as goal
-
-pub loop-a-init : goal.loop-a-init
-loop-a-init c = any_none (λ (a : Pending). due a c.args.t)
 
 pub loop-a-preserved : goal.loop-a-preserved
 loop-a-preserved c =

@@ -1,25 +1,12 @@
-use mathlib.Core.Path.{refl, sym, ap, ◌∙◌}
+use mathlib.Core.Path.{ap, ◌∙◌}
 use native.Mathlib.Omega.{arith}
-use mathlib.Core.Bool.{false}
 use Rattle.definition.specs.declared.Places.{Places}
 use Rattle.endpoint.specs.declared.ends.Pending.{Pending}
 use Rattle.std.specs.List.{fold}
 use Rattle.std.proofs.lemmas.List.{take_all}
-use Rattle.std.proofs.lemmas.List.Sums.{fold_more}
 use Rattle.port.specs.visits.Visits.{visited}
 use Rattle.port.proofs.visits.Visiting.{four-changes, all-visited}
 use Rattle.port.proofs.visits.visited_all.Goals as goal
-
-pub loop-a-init : goal.loop-a-init
-loop-a-init c = refl
-
-pub loop-a-preserved : goal.loop-a-preserved
-loop-a-preserved c =
-    let s = c.changes-a-items in
-    let n = four-changes c.args.r s.result s.ensures in
-    let d : Pending = record { one = false; word = 0; clear = 0; set = 0 } in
-    (rw c.loop-a.invariant at c.visited-u.ensures)
-    ∙ sym (fold_more (λ (u : Places) (a : Pending). visited a u) c.args.t s.result c.loop-a.a-index d (omega (arith, n, c.loop-a-test.true)))
 
 pub returns : goal.returns
 returns c =

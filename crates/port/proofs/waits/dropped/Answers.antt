@@ -12,12 +12,6 @@ use lib.ListN.{length, take}
 use Rattle.port.proofs.waits.dropped.Goals as goal
 use Rattle.port.proofs.waits.dropped.Goals.{then-p-end, else-p-end}
 
-pub overflow_add-used : goal.overflow_add-used
-overflow_add-used c =
-    let t = c.args.t in
-    let h : t.packets + t.waits ≤ 128 = c.requires c.if-sound.true in
-    omega arith
-
 pub loop-i-init : goal.loop-i-init
 loop-i-init c =
     let t = c.args.t in
@@ -60,7 +54,3 @@ returns-after-loop-i c =
     let size : length (take p t.table) ≡ p = length-take-le p t.table (omega arith) in
     let gone : u - o.n ≡ t.waits - length (filter f (slice p u t.table)) = omega arith in
     rw c.if-sound.true (same-places (o.invariant.1.0 ∙ sym size) (omega arith) (rw (← gone) (compact_all f free t.table p u o.out.table o.n o.i o.invariant.0 done)))
-
-pub returns-else-sound : goal.returns-else-sound
-unfolding pick
-returns-else-sound c = rw c.if-sound.false refl
