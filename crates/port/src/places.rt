@@ -29,10 +29,7 @@ pub fn new_places() -> Places
 pub fn uses_at_most(packets: usize, waits: usize, most: usize) -> bool
     ensures { result ≡ leb (packets + waits) most }
 {
-    if most < packets {
-        return false;
-    }
-    waits <= most - packets
+    packets <= most && waits <= most - packets
 }
 
 // Whether no more than 128 places are used.
@@ -42,55 +39,25 @@ pub fn is_sound(packets: usize, waits: usize) -> bool
     uses_at_most(packets, waits, 128)
 }
 
-// Whether so many packets and so many waits are used.
-fn counts_are(packets: usize, waits: usize, some_packets: usize, some_waits: usize) -> bool
-    ensures { result ≡ (eqb packets some_packets and eqb waits some_waits) }
-{
-    if packets != some_packets {
-        return false;
-    }
-    waits == some_waits
-}
-
 // Whether no place is used.
 pub fn is_unused(packets: usize, waits: usize) -> bool
     ensures { result ≡ (eqb packets 0 and eqb waits 0) }
 {
-    counts_are(packets, waits, 0, 0)
+    packets == 0 && waits == 0
 }
 
 // Whether the only place used is a wait.
 pub fn is_only_wait(packets: usize, waits: usize) -> bool
     ensures { result ≡ (eqb packets 0 and eqb waits 1) }
 {
-    counts_are(packets, waits, 0, 1)
+    packets == 0 && waits == 1
 }
 
 // Whether the only place used is a packet.
 pub fn is_only_packet(packets: usize, waits: usize) -> bool
     ensures { result ≡ (eqb packets 1 and eqb waits 0) }
 {
-    counts_are(packets, waits, 1, 0)
-}
-
-// Whether both hold.
-pub fn both(a: bool, b: bool) -> bool
-    ensures { result ≡ (a and b) }
-{
-    if a {
-        return b;
-    }
-    false
-}
-
-// One of two counts.
-pub fn count_if(test: bool, yes: usize, no: usize) -> usize
-    ensures { result ≡ pick test yes no }
-{
-    if test {
-        return yes;
-    }
-    no
+    packets == 1 && waits == 0
 }
 
 // The number of an end in a place.
