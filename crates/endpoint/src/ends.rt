@@ -1,6 +1,6 @@
 // Both ends of a pair without its table of places, and what a call leaves of the two ends. After `Socket` of ipc/socket.rs.
 ghost use Rattle.std.specs.Prelude.{◌≡◌};
-ghost use Rattle.definition.specs.Pair.{own, peer};
+ghost use Rattle.definition.specs.Pair.{is_one, own, peer};
 
 use definition::{Answer, Endpoint, Ends};
 
@@ -53,6 +53,26 @@ pub struct EndsOutcome {
     pub fires: bool,
     pub visits: Visits,
     pub more: Visits,
+}
+
+// The two ends as the caller of a call sees them: whether its handle is that of end 1, its own end, and the peer.
+#[derive(Clone, Copy)]
+pub struct Sides {
+    pub one: bool,
+    pub own: Endpoint,
+    pub peer: Endpoint,
+}
+
+// The two ends as the end of a handle sees them.
+pub fn sides_of(e: Ends, handle: u32) -> Sides
+    ensures { result ≡ record { one = is_one handle; own = own (is_one handle) e; peer = peer (is_one handle) e } }
+{
+    let one = handle == 1;
+    Sides {
+        one,
+        own: own(e, one),
+        peer: peer(e, one),
+    }
 }
 
 pub fn own(e: Ends, one: bool) -> Endpoint

@@ -8,5 +8,5 @@ use Rattle.control.proofs.ends.close.close_ends.Goals as goal
 pub returns : goal.returns
 unfolding close_effect more_by visits_of first_two
 returns c =
-    by_dropped _ _ _ _ _ refl (rw (c.close_moved-moved.ensures, c.own.ensures, c.peer.ensures) at c.put_both-r.ensures)
+    by_dropped _ _ _ _ _ refl (rw (c.close_moved.ensures, c.sides_of-s.ensures) at c.put_both-r.ensures)
     ∙ done _ _ _ _ _ c.opening_test-a.ensures (err_done _ _ c.is_err.ensures.value c.if-is_err.false)
