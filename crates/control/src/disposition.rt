@@ -62,6 +62,7 @@ fn peer_disposed(one: bool, own: Endpoint, peer: Endpoint, off: bool) -> Moved
     crate::ends::with_visits(next, next_peer, first, second)
 }
 
+// By the target. The cases are matched here and in `peer_moved`, each once: the two change different ends, and what they share is above.
 fn own_moved(one: bool, own: Endpoint, peer: Endpoint, d: Disposition) -> Moved
     ensures { result ≡ moved_by one (dispose_effect own peer d Unchanged) }
 {
