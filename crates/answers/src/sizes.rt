@@ -42,7 +42,8 @@ fn unless_closed(closed: bool, n: u32) -> u64
     pick(closed, 0, n) as u64
 }
 
-// What a socket says of its queue and its peer's.
+// What a socket says of its queue and its peer's. Like the sizes, it is given just the parts of a pair that it looks at, one by one, as `info_of`
+// of the definition is.
 pub fn get_info(
     datagram: bool,
     capacity: u32,

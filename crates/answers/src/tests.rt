@@ -31,7 +31,7 @@ pub fn sound_test(p: Ends) -> Answer
     Ok(Record::Empty)
 }
 
-// Whether a handle names an end.
+// Whether a handle names an end. A handle is a number, since every other number is refused (`handle_test` of the definition).
 pub fn is_handle(handle: u32) -> bool
     ensures { result ≡ is_handle handle }
 {

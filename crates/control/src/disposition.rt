@@ -63,6 +63,7 @@ fn peer_disposed(s: Sides, off: bool) -> Moved
     crate::ends::with_visits(next, next_peer, first, second)
 }
 
+// By the target. The cases are matched here and in `peer_moved`, each once: the two change different ends, and what they share is above.
 fn own_moved(s: Sides, d: Disposition) -> Moved
     ensures { result ≡ moved_by s.one (dispose_effect s.own s.peer d Unchanged) }
 {

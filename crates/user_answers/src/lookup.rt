@@ -10,7 +10,8 @@ use answers::tests::{handle_test, sound_test};
 use definition::{Answer, Disposition, Ends, Record, Status};
 use endpoint::end::dispose_checks;
 
-// The rights of an end, as bits of its rights word.
+// The rights of an end, as bits of its rights word: bits and no enum, since create is given that word as one number (`create_answer` of the
+// definition).
 pub const RIGHT_READ: u16 = 1;
 
 pub const RIGHT_WRITE: u16 = 2;

@@ -17,7 +17,8 @@ pub fn fits(base: u64, size: usize, address: u64, n: u64) -> bool
     from <= size as u64 && n <= size as u64 - from
 }
 
-// Whether the count's 8 bytes lie in memory; address 0 asks for no count.
+// Whether the count's 8 bytes lie in memory; address 0 asks for no count. The address is a number, and no `Option`, since that is how a caller
+// hands it over (`count_fits` of the definition).
 pub fn count_fits(base: u64, size: usize, count_at: u64) -> bool
     ensures { result ≡ count_fits base size count_at }
 {

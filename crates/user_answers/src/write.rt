@@ -15,10 +15,9 @@ fn write_ranges(b: Buffer, a: Answer) -> Answer
 {
     a?;
     let m = endpoint::answer::count_of(a) as u64;
-    if !crate::memory::fits(b.base, b.size, b.address, m) {
-        return Err(Status::InvalidArgs);
-    }
-    if !crate::memory::count_fits(b.base, b.size, b.count_at) {
+    if !crate::memory::fits(b.base, b.size, b.address, m)
+        || !crate::memory::count_fits(b.base, b.size, b.count_at)
+    {
         return Err(Status::InvalidArgs);
     }
     a
