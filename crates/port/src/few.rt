@@ -2,7 +2,7 @@
 // and a place is chosen field by field, so that each place is read and changed where it stands; for an index that is computed it copies the table.
 ghost use Rattle.std.specs.Prelude.{◌≡◌, true, false, ◌+◌, ◌-◌, ◌≤◌, leb, ltb, set};
 ghost use Rattle.definition.specs.Status.{pick, ◌and◌};
-ghost use Rattle.definition.specs.Port.{free, wait_of, appended_of, matches};
+ghost use Rattle.definition.specs.Port.{free, wait_of, appended_of};
 ghost use Rattle.port.specs.few.Few.{at_most_seven_used, only_match, removed_at, is_among_eight, without_place};
 
 use crate::cancel::is_match;
@@ -10,7 +10,7 @@ use crate::places::{FREE, end_number, uses_at_most};
 use definition::{Place, Places};
 use endpoint::choice::pick;
 
-// One of two places.
+// One of two places. Chosen whole, both are copied.
 fn place_if(test: bool, yes: Place, no: Place) -> Place
     ensures { result ≡ pick test yes no }
 {
@@ -27,9 +27,10 @@ fn used_within(packets: usize, waits: usize, most: usize) -> usize
     ensures { result ≡ pick (leb (packets + waits) most) (packets + waits) 0 }
 {
     if uses_at_most(packets, waits, most) {
-        return packets + waits;
+        packets + waits
+    } else {
+        0
     }
-    0
 }
 
 // The table with this place at `at`, if that is one of the first 8; else as it was.
@@ -50,8 +51,8 @@ pub fn appended(t: Places, asked: bool, one: bool, key: u64, mask: u32) -> Place
     let packets = t.packets;
     let waits = t.waits;
     let p = Place {
-        key: key,
-        mask: mask,
+        key,
+        mask,
         observed: 0,
         end: end_number(one),
     };

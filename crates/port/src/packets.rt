@@ -54,14 +54,13 @@ pub fn oldest(t: Places) -> Answer
         return Err(Status::ShouldWait);
     }
     let p = t.table[0];
-    let packet = PortPacket {
+    Ok(Record::Packet(PortPacket {
         key: p.key,
         trigger: p.mask,
         observed: p.observed,
         count: 1,
         timestamp: 0,
-    };
-    Ok(Record::Packet(packet))
+    }))
 }
 
 // Takes the oldest packet.

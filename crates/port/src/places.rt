@@ -1,10 +1,13 @@
-// The table of places in which waits stand until they fire and packets until they are taken. After signal/port.rs.
+// The table of places in which waits stand until they fire and packets until they are taken. After signal/port.rs. The tests take the two counts and no
+// table: `Ends` has the counts alone, and the compiler copies a table that is passed whole. A table of at most 128 used places has no type of its own:
+// the record is C's, which may hand over any counts, and a copy into another type is one more of 3 KB; so each function that needs such a table requires it.
 ghost use Rattle.std.specs.Prelude.{◌≡◌, ◌+◌, leb, eqb};
 ghost use Rattle.definition.specs.Status.{pick, ◌and◌, refuse_unless};
 ghost use Rattle.definition.specs.declared.Status.TheVariants.{Internal};
 ghost use Rattle.definition.specs.Port.{end_number, new_places};
 
 use definition::{Answer, Place, Places, Record, Status};
+use endpoint::choice::pick;
 
 // A place that is not used.
 pub const FREE: Place = Place {
@@ -64,10 +67,7 @@ pub fn is_only_packet(packets: usize, waits: usize) -> bool
 pub fn end_number(one: bool) -> u64
     ensures { result ≡ end_number one }
 {
-    if one {
-        return 1;
-    }
-    2
+    pick(one, 1, 2)
 }
 
 // The answer to an operation that every sound table allows.
@@ -75,7 +75,8 @@ pub fn sound_answer(sound: bool) -> Answer
     ensures { result ≡ refuse_unless sound Internal }
 {
     if sound {
-        return Ok(Record::Empty);
+        Ok(Record::Empty)
+    } else {
+        Err(Status::Internal)
     }
-    Err(Status::Internal)
 }

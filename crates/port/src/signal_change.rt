@@ -15,10 +15,8 @@ fn observed_at(p: Place, word: u32) -> Place
     ensures { result ≡ observe word p }
 {
     Place {
-        key: p.key,
-        mask: p.mask,
         observed: word,
-        end: p.end,
+        ..p
     }
 }
 

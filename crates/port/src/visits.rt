@@ -1,8 +1,7 @@
 // The visits of the waits after a call has changed words, over the table of places alone. The changes stand in the call's `EndsOutcome`.
-ghost use Rattle.std.specs.Prelude.{◌≡◌, ◌<◌, get_or};
+ghost use Rattle.std.specs.Prelude.{◌≡◌};
 ghost use Rattle.definition.specs.Status.{pick};
 ghost use Rattle.port.specs.places.Table.{only_wait};
-ghost use Rattle.endpoint.specs.ends.Outcome.{no_visit};
 ghost use Rattle.port.specs.visits.Visits.{changes_of, due, any_due, visited, visited_each};
 
 use definition::Places;

@@ -3,7 +3,7 @@ ghost use Rattle.std.specs.Prelude.{◌≡◌, true, not, ◌+◌, ◌≤◌, �
 ghost use Rattle.definition.specs.Status.{pick, ◌and◌};
 ghost use Rattle.definition.specs.Signal.{meets};
 ghost use Rattle.port.specs.places.Table.{unused};
-ghost use Rattle.definition.specs.Port.{inserted_of, appended_of, dropped_of, register_of, drop_of};
+ghost use Rattle.definition.specs.Port.{end_number, inserted_of, appended_of, dropped_of, register_of, drop_of};
 
 use crate::places::{FREE, end_number, is_sound, is_unused, sound_answer, uses_at_most};
 use definition::{Next, Place, Places};
@@ -50,6 +50,18 @@ fn placed(t: Places, p: Place, packet: bool, room: bool) -> Places
     out
 }
 
+// A wait as it is registered, or the packet that it becomes now.
+fn new_place(one: bool, word: u32, key: u64, mask: u32, now: bool) -> Place
+    ensures { result ≡ record { key = key; mask = mask; observed = pick now word 0; end = end_number one } }
+{
+    Place {
+        key,
+        mask,
+        observed: pick(now, word, 0),
+        end: end_number(one),
+    }
+}
+
 // The table with a wait more, or with its packet where it fires at once, if that is asked and there is room.
 pub fn registered(
     t: Places,
@@ -63,12 +75,7 @@ pub fn registered(
     ensures { result ≡ pick asked (register_of one word key mask edge t).places t }
 {
     let now = fires_at_once(word, mask, edge);
-    let p = Place {
-        key: key,
-        mask: mask,
-        observed: pick(now, word, 0),
-        end: end_number(one),
-    };
+    let p = new_place(one, word, key, mask, now);
     placed(t, p, now, has_room(asked, t.packets, t.waits))
 }
 
@@ -86,12 +93,7 @@ pub fn first_registered(
     ensures { result ≡ pick (asked and unused t) (register_of one word key mask edge t).places t }
 {
     let now = fires_at_once(word, mask, edge);
-    let p = Place {
-        key: key,
-        mask: mask,
-        observed: pick(now, word, 0),
-        end: end_number(one),
-    };
+    let p = new_place(one, word, key, mask, now);
     let packets = pick(now, 1, 0);
     let waits = pick(now, 0, 1);
     let mut out = t;

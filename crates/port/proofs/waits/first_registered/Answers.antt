@@ -12,8 +12,7 @@ returns-then-is_unused c =
     rw (
       c.pick-waits.ensures,
       c.pick-packets.ensures,
-      c.end_number.ensures,
-      c.pick.ensures,
+      c.new_place-p.ensures,
       c.fires_at_once-now.ensures,
     )
     (registered_on a.asked a.t (table_128 a.t _ c.well_formed.0) a.one a.word a.key a.mask a.edge

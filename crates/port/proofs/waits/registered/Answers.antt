@@ -7,7 +7,6 @@ returns c =
     rw (
       c.placed.ensures,
       c.has_room.ensures,
-      c.end_number.ensures,
-      c.pick.ensures,
+      c.new_place-p.ensures,
       c.fires_at_once-now.ensures,
     ) (register_if a.asked a.one a.word a.key a.mask a.edge a.t)
