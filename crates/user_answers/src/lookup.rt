@@ -18,11 +18,11 @@ pub const RIGHT_WRITE: u16 = 2;
 
 pub const RIGHT_MANAGE: u16 = 4;
 
-// Where the bytes and the count of a write or read lie: `count` bytes from an address on, in memory of `size` bytes.
+// Where the bytes and the count of a write or read lie in user memory that begins at `base`: `count` bytes from an address on, and the count of those
+// moved at `count_at`, 0 for none.
 #[derive(Clone, Copy)]
 pub struct Buffer {
     pub base: u64,
-    pub size: usize,
     pub address: u64,
     pub count: u64,
     pub count_at: u64,

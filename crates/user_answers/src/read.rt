@@ -20,16 +20,17 @@ fn has_read_options(options: u32) -> bool
     options == 0 || options == SOCKET_PEEK
 }
 
-// The tests of a read or peek. The range of all the bytes asked for is tested, also where fewer are queued.
+// The tests of a read or peek over user memory of `size` bytes. The range of all the bytes asked for is tested, also where fewer are queued.
 pub fn read_answer(
     p: Ends,
     handle: u32,
     options: u32,
     b: Buffer,
+    size: usize,
     ring: &[u8],
     table: &[u32],
 ) -> Answer
-    ensures { result ≡ user_read_answer p (lent_of p.datagram (own (is_one handle) p).queue ring.now table.now) handle b.base b.size options b.address b.count b.count_at }
+    ensures { result ≡ user_read_answer p (lent_of p.datagram (own (is_one handle) p).queue ring.now table.now) handle b.base size options b.address b.count b.count_at }
 {
     sound_test(p)?;
     let from = endpoint::ends::own(p, handle == 1);
@@ -39,8 +40,8 @@ pub fn read_answer(
         return Err(Status::InvalidArgs);
     }
     lookup(p, handle, RIGHT_READ)?;
-    if !crate::memory::fits(b.base, b.size, b.address, b.count)
-        || !crate::memory::count_fits(b.base, b.size, b.count_at)
+    if !crate::memory::fits(b.base, size, b.address, b.count)
+        || !crate::memory::count_fits(b.base, size, b.count_at)
     {
         return Err(Status::InvalidArgs);
     }

@@ -15,26 +15,15 @@ pub fn read_bytes_transfer(
     p: Ends,
     handle: u32,
     options: u32,
-    base: u64,
+    b: Buffer,
     memory: &mut [u8],
-    address: u64,
-    count: u64,
-    count_at: u64,
     ring: &[u8],
     table: &[u32],
 ) -> Transfer
-    ensures { UserBytesRead p handle base options address count count_at ring.now table.now
+    ensures { UserBytesRead p handle b.base options b.address b.count b.count_at ring.now table.now
         memory.old memory.new result }
 {
-    let size = memory.len();
-    let b = Buffer {
-        base,
-        size,
-        address,
-        count,
-        count_at,
-    };
-    let answer = user_answers::read::read_answer(p, handle, options, b, ring, table);
+    let answer = user_answers::read::read_answer(p, handle, options, b, memory.len(), ring, table);
     let k = endpoint::answer::count_of(answer);
     if k == 0 {
         return kept(answer);
@@ -42,7 +31,7 @@ pub fn read_bytes_transfer(
     let one = handle == 1;
     let q = endpoint::ends::own(p, one).queue;
     let first = endpoint::end::first_length(q, p.datagram, table);
-    let from = (address - base) as usize;
+    let from = (b.address - b.base) as usize;
     let to = from + k as usize;
     deliver(p.capacity, q.bytes.start, k, ring, &mut memory[from..to]);
     let peek = options == SOCKET_PEEK;
@@ -55,22 +44,22 @@ pub fn read_transfer(
     p: Ends,
     handle: u32,
     options: u32,
-    base: u64,
+    b: Buffer,
     memory: &mut [u8],
-    address: u64,
-    count: u64,
-    count_at: u64,
     ring: &[u8],
     table: &[u32],
 ) -> Transfer
-    ensures { UserRead p handle base options address count count_at ring.now table.now
+    ensures { UserRead p handle b.base options b.address b.count b.count_at ring.now table.now
         memory.old memory.new result }
 {
-    let t = read_bytes_transfer(
-        p, handle, options, base, memory, address, count, count_at, ring, table,
-    );
+    let t = read_bytes_transfer(p, handle, options, b, memory, ring, table);
     if t.answer.is_ok() {
-        land_count(memory, base, count_at, endpoint::answer::count_of(t.answer));
+        land_count(
+            memory,
+            b.base,
+            b.count_at,
+            endpoint::answer::count_of(t.answer),
+        );
     }
     t
 }
