@@ -12,15 +12,12 @@ ghost use Rattle.socket.specs.Step.{inner_step};
 
 use crate::{SocketPair, SocketStep, parts};
 use definition::{Answer, Pair, Record, Status, Step};
-use endpoint::answer::is_done;
 
 // The answer of a cancel, by that of the first tests and by how many waits and packets were removed.
 fn cancel_answer(opened: Answer, removed: u32) -> Answer
     ensures { result ≡ (opened then refuse_if (eqb removed 0) NotFound then Ok (Count removed)) }
 {
-    if !is_done(opened) {
-        return opened;
-    }
+    opened?;
     if removed == 0 {
         return Err(Status::NotFound);
     }
@@ -32,11 +29,9 @@ pub fn cancelled(p: Pair, handle: u32, key: u64) -> Step
     ensures { Cancels p handle key result }
 {
     let opened = answers::tests::opening_test(parts::ends_of(p), handle);
-    let places = p.places;
-    let left = port::cancel::cancelled(places, is_done(opened), handle == 1, key);
-    let next = left.places;
+    let left = port::cancel::cancelled(p.places, opened.is_ok(), handle == 1, key);
     Step {
-        pair: parts::with_places(p, next),
+        pair: parts::with_places(p, left.places),
         answer: cancel_answer(opened, left.removed),
     }
 }
@@ -47,8 +42,7 @@ pub fn only_match(p: Pair, handle: u32, key: u64) -> usize
     ensures place { result ≡ only_match (is_done (opening_test (ends_of p) handle)) (is_one handle) key p.places }
 {
     let opened = answers::tests::opening_test(parts::ends_of(p), handle);
-    let places = p.places;
-    port::few::only_match(places, is_done(opened), handle == 1, key)
+    port::few::only_match(p.places, opened.is_ok(), handle == 1, key)
 }
 
 // Whether `only_match` found a place: it gives 8 where it found none.
@@ -62,9 +56,7 @@ pub fn is_found(k: usize) -> bool
 pub fn without_place(p: Pair, k: usize) -> Pair
     ensures { result ≡ with_places (pick (is_among_eight k p.places) (without_place k p.places) p.places) p }
 {
-    let places = p.places;
-    let next = port::few::without_place(places, k);
-    parts::with_first_places(p, next)
+    parts::with_first_places(p, port::few::without_place(p.places, k))
 }
 
 impl SocketPair {
@@ -72,7 +64,6 @@ impl SocketPair {
     pub fn cancel(self, handle: u32, key: u64) -> SocketStep
         ensures { Cancels self.inner handle key (inner_step result) }
     {
-        let p = self.inner;
-        parts::stepped(cancelled(p, handle, key))
+        cancelled(self.inner, handle, key).into()
     }
 }
