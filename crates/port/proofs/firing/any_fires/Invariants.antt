@@ -1,11 +1,9 @@
-use Rattle.definition.specs.Port.{fires}
-use Rattle.port.proofs.firing.Any.{Searched}
-use Prim.Native.Nat.{◌-◌}
+use mathlib.Core.Path.{◌≡◌}
+use mathlib.Core.Bool.{false}
+use lib.ListN.{take}
+use Rattle.definition.specs.Port.{any, fires}
 use Rattle.port.proofs.firing.any_fires.Given as goal
 
--- No wait below i fires.
-abbrev pub invariant-loop-i : goal.invariant-loop-i
-invariant-loop-i l = Searched (fires l.one l.word) l.t.table l.t.packets l.used l.i
-
-abbrev pub decreases-loop-i : goal.decreases-loop-i
-decreases-loop-i l = l.used - l.i
+-- No wait that was looked at fires.
+abbrev pub invariant-loop-p : goal.invariant-loop-p
+invariant-loop-p l = any (fires l.one l.word) (take l.p-index l.p-items) ≡ false
