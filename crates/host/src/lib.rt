@@ -123,8 +123,7 @@ pub fn murgwethan_wait(p: &mut Pair, handle: u32, key: u64, mask: u32, edge: u8)
 pub fn murgwethan_cancel(p: &mut Pair, handle: u32, key: u64) -> i64
     ensures { Answered (Cancels p.old handle key) p.new result }
 {
-    let k = socket::only_match(*p, handle, key);
-    if socket::is_found(k) {
+    if let Some(k) = socket::only_match(*p, handle, key) {
         *p = socket::without_place(*p, k);
         1
     } else {

@@ -1,5 +1,5 @@
 // Cancel.
-ghost use Rattle.std.specs.Prelude.{◌≡◌, eqb, ltb, length};
+ghost use Rattle.std.specs.Prelude.{◌≡◌, eqb, ltb, length, Some, None};
 ghost use Rattle.definition.specs.Status.{pick, is_done, refuse_if, ◌then◌};
 ghost use Rattle.std.specs.declared.result.Result.TheVariants.{Ok};
 ghost use Rattle.definition.specs.declared.Record.TheVariants.{Count};
@@ -36,20 +36,14 @@ pub fn cancelled(p: Pair, handle: u32, key: u64) -> Step
     }
 }
 
-// Where the only place that a cancel matches stands; 8 if it does not pass its first tests, if more than 8 places are used, or if none or several match.
-pub fn only_match(p: Pair, handle: u32, key: u64) -> usize
+// Where the only place that a cancel matches stands; `None` if it does not pass its first tests, if more than 8 places are used, or if none or several
+// match. The first clause says of the pair what a caller that keeps it behind a reference cannot read off it.
+pub fn only_match(p: Pair, handle: u32, key: u64) -> Option<usize>
     ensures size { length p.places.table ≡ 128 }
-    ensures place { result ≡ only_match (is_done (opening_test (ends_of p) handle)) (is_one handle) key p.places }
+    ensures place { let k = only_match (is_done (opening_test (ends_of p) handle)) (is_one handle) key p.places in result ≡ pick (ltb k 8) (Some k) None }
 {
     let opened = answers::tests::opening_test(parts::ends_of(p), handle);
     port::few::only_match(p.places, opened.is_ok(), handle == 1, key)
-}
-
-// Whether `only_match` found a place: it gives 8 where it found none.
-pub fn is_found(k: usize) -> bool
-    ensures { result ≡ ltb k 8 }
-{
-    k < 8
 }
 
 // The pair without the place at k, if that is used and at most 8 are; else as it was.

@@ -36,12 +36,7 @@ pub fn needs_visit(p: Pair, r: EndsOutcome) -> bool
 pub fn visit_each(p: Pair, r: EndsOutcome) -> Pair
     ensures { result ≡ visited_all r p }
 {
-    let mut t = p.places;
-    t = port::visits::visited(t, r.visits.first);
-    t = port::visits::visited(t, r.visits.second);
-    t = port::visits::visited(t, r.more.first);
-    t = port::visits::visited(t, r.more.second);
-    parts::with_places(p, t)
+    parts::with_places(p, port::visits::visited_all(p.places, r))
 }
 
 // The same for a pair whose only place used is a wait. It stands apart for speed: the first place alone is stored, and not the table.
@@ -130,10 +125,5 @@ pub fn close_waits(p: Pair, handle: u32, r: EndsOutcome) -> Pair
     ensures { result ≡ visited_all r (without_waits (is_one handle) p) }
 {
     let n = port::waits::drop_waits(p.places, handle == 1);
-    let mut t = n.places;
-    t = port::visits::visited(t, r.visits.first);
-    t = port::visits::visited(t, r.visits.second);
-    t = port::visits::visited(t, r.more.first);
-    t = port::visits::visited(t, r.more.second);
-    parts::with_places(p, t)
+    parts::with_places(p, port::visits::visited_all(n.places, r))
 }

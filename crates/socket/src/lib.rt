@@ -9,7 +9,7 @@ port::specs::places::Table::unused, port::specs::places::Table::only_wait, port:
 // and how many
 port::specs::few::Few::at_most_seven_used,
 // the waits of a call, visited last
-crate::specs::Deferred::needs_visit, crate::specs::Deferred::visited_pair, crate::specs::Deferred::visited_all,
+port::specs::visits::Visits::visited_each, crate::specs::Deferred::needs_visit, crate::specs::Deferred::visited_pair, crate::specs::Deferred::visited_all,
 // its ends, and a close
 crate::specs::Deferred::with_ends, crate::specs::Deferred::without_waits,
 // a wait more
@@ -32,7 +32,7 @@ mod threshold;
 mod wait;
 mod write;
 
-pub use cancel::{cancelled, is_found, only_match, without_place};
+pub use cancel::{cancelled, only_match, without_place};
 pub use create::new_pair;
 pub use deferred::{
     close_waits, has_only_wait, needs_visit, settle, visit_each, visit_only, with_outcome,
