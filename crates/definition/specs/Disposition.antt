@@ -4,6 +4,9 @@ use Rattle.definition.specs.declared.Disposition.{Disposition}
 use Rattle.definition.specs.declared.Disposition.TheVariants.{Unchanged, Disable, Enable}
 use Rattle.definition.specs.declared.Endpoint.{Endpoint}
 use Rattle.definition.specs.declared.Status.TheVariants.{BadState, InvalidArgs}
+use Rattle.definition.specs.declared.Status.{Status}
+use Rattle.std.specs.declared.result.Result.{Result}
+use Rattle.std.specs.declared.result.Result.TheVariants.{Ok, Err}
 use Rattle.definition.specs.Status.{Answer}
 use Rattle.definition.specs.declared.Ends.{Ends}
 use Rattle.definition.specs.declared.Pair.{Pair}
@@ -88,6 +91,10 @@ disposed t a b p = applied t (dispose_effect (own t (ends_of p)) (peer t (ends_o
 -- 01 "Delivered bytes", disposition: 0 leaves an end's writing unchanged, 1 disables it, 2 enables it. Every call by numbers refuses those above 2.
 unfoldable pub disposition_of : ℕ → Disposition
 disposition_of n = pick (eqb n 1) Disable (pick (eqb n 2) Enable Unchanged)
+
+-- the same with its refusal
+unfoldable pub numbered_disposition : ℕ → Result Disposition Status
+numbered_disposition n = pick (ltb 2 n) (Err InvalidArgs) (Ok (disposition_of n))
 
 -- 01 "Delivered bytes", disposition: the number of each case
 unfoldable pub disposition_number : Disposition → ℕ

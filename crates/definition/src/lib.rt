@@ -1,6 +1,9 @@
-// Every record and enum of the pair and its calls. There is no function here: what the calls do is defined in specs/, one file for each
-// paragraph or call of documents 01 and 02 (i), and the functions of the other crates are proved to do it.
+// Every record and enum of the pair and its calls. There is no function here but the conversion of a number to a disposition: what the calls do is
+// defined in specs/, one file for each paragraph or call of documents 01 and 02 (i), and the functions of the other crates are proved to do it.
 #![tactic(auto)]
+
+ghost use Rattle.std.specs.Prelude.{◌≡◌};
+ghost use Rattle.definition.specs.Disposition.{numbered_disposition};
 
 // Why a call is refused, with the number of each: the status is that number with a minus sign.
 #[derive(Clone, Copy)]
@@ -98,6 +101,23 @@ pub enum Disposition {
     Unchanged,
     Disable,
     Enable,
+}
+
+// By its number; one above 2 is refused.
+#[tactic(auto, unfolding(crate::specs::Disposition::numbered_disposition, crate::specs::Disposition::disposition_of, crate::specs::Status::pick))]
+impl TryFrom<u32> for Disposition {
+    type Error = Status;
+
+    ghost try_from_gives = { λ n r. r ≡ numbered_disposition n };
+
+    fn try_from(n: u32) -> Result<Disposition, Status> {
+        match n {
+            0 => Ok(Disposition::Unchanged),
+            1 => Ok(Disposition::Disable),
+            2 => Ok(Disposition::Enable),
+            _ => Err(Status::InvalidArgs),
+        }
+    }
 }
 
 // A wait or its packet. `observed` is the word at which the wait fired, and 0 until then.

@@ -10,7 +10,8 @@ ghost use Rattle.kept.specs.transferred.Transferred.{transferred_pair, wrote_pai
 
 use definition::{Endpoint, Pair, Queue};
 use endpoint::ends::{EndsOutcome, queue_if};
-use endpoint::signal::{changed, word_if};
+use endpoint::choice::pick;
+use endpoint::signal::changed;
 use transfer::change::Transfer;
 
 // The end with its word changed, and with this queue if it takes it.
@@ -31,15 +32,15 @@ fn with_transfer(p: Pair, one: bool, takes: bool, t: Transfer) -> Pair
         p.one,
         takes,
         t.queue,
-        word_if(one, t.lost, 0),
-        word_if(one, 0, t.gained),
+        pick(one, t.lost, 0),
+        pick(one, 0, t.gained),
     );
     let second = end_with(
         p.two,
         !takes,
         t.queue,
-        word_if(one, 0, t.lost),
-        word_if(one, t.gained, 0),
+        pick(one, 0, t.lost),
+        pick(one, t.gained, 0),
     );
     Pair {
         datagram: p.datagram,

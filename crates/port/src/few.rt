@@ -8,7 +8,7 @@ ghost use Rattle.port.specs.few.Few.{at_most_seven_used, only_match, removed_at,
 use crate::cancel::is_match;
 use crate::places::{FREE, both, count_if, end_number, uses_at_most};
 use definition::{Place, Places};
-use endpoint::signal::word_if;
+use endpoint::choice::pick;
 
 // One of two keys, or of two numbers of ends.
 fn key_if(test: bool, yes: u64, no: u64) -> u64
@@ -26,8 +26,8 @@ fn place_if(test: bool, yes: Place, no: Place) -> Place
 {
     Place {
         key: key_if(test, yes.key, no.key),
-        mask: word_if(test, yes.mask, no.mask),
-        observed: word_if(test, yes.observed, no.observed),
+        mask: pick(test, yes.mask, no.mask),
+        observed: pick(test, yes.observed, no.observed),
         end: key_if(test, yes.end, no.end),
     }
 }

@@ -7,7 +7,8 @@ ghost use Rattle.port.specs.places.Table.{only_wait};
 use crate::firing::is_fired;
 use crate::places::{is_only_wait, is_sound, sound_answer};
 use definition::{Change, Place, Places};
-use endpoint::signal::{changed, word_if};
+use endpoint::choice::pick;
+use endpoint::signal::changed;
 
 // The wait as a packet.
 fn observed_at(p: Place, word: u32) -> Place
@@ -88,7 +89,7 @@ pub fn change(t: Places, one: bool, word: u32, clear: u32, set: u32) -> Change
     ensures { result ≡ change_of one word clear set t }
 {
     let sound = is_sound(t.packets, t.waits);
-    let next = word_if(sound, changed(word, clear, set), word);
+    let next = pick(sound, changed(word, clear, set), word);
     Change {
         places: fired(t, one, next, next != word),
         word: next,

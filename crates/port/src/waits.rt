@@ -9,7 +9,7 @@ use crate::places::{
     FREE, both, count_if, end_number, is_sound, is_unused, sound_answer, uses_at_most,
 };
 use definition::{Next, Place, Places};
-use endpoint::signal::word_if;
+use endpoint::choice::pick;
 
 // Whether a place is to be used and fewer than 128 are. The sum of the two counts is never taken, as it can be too large.
 fn has_room(asked: bool, packets: usize, waits: usize) -> bool
@@ -83,7 +83,7 @@ pub fn registered(
     let p = Place {
         key: key,
         mask: mask,
-        observed: word_if(now, word, 0),
+        observed: pick(now, word, 0),
         end: end_number(one),
     };
     placed(t, p, now, has_room(asked, t.packets, t.waits))
@@ -106,7 +106,7 @@ pub fn first_registered(
     let p = Place {
         key: key,
         mask: mask,
-        observed: word_if(now, word, 0),
+        observed: pick(now, word, 0),
         end: end_number(one),
     };
     let packets = count_if(now, 1, 0);

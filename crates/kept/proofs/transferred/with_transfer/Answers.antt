@@ -5,4 +5,4 @@ use Rattle.kept.proofs.transferred.with_transfer.Goals as goal
 
 pub returns : goal.returns
 unfolding transferred_pair with_ends
-returns c = rw (← c.word_if.ensures, ← c.word_if-2.ensures, ← c.end_with-first.ensures, ← c.word_if-3.ensures, ← c.word_if-4.ensures, ← c.end_with-second.ensures) refl
+returns c = rw (← c.pick.ensures, ← c.pick-2.ensures, ← c.end_with-first.ensures, ← c.pick-3.ensures, ← c.pick-4.ensures, ← c.end_with-second.ensures) refl

@@ -6,7 +6,7 @@ use Rattle.port.proofs.signal_change.change.Goals as goal
 pub fired-requires : goal.fired-requires
 fired-requires c e =
     let a = c.args in
-    leb-true _ _ (sym c.is_sound-sound.ensures ∙ other_word c.is_sound-sound.result c.changed.result a.word (rw c.word_if-next.ensures at e))
+    leb-true _ _ (sym c.is_sound-sound.ensures ∙ other_word c.is_sound-sound.result c.changed.result a.word (rw c.pick-next.ensures at e))
 
 pub returns : goal.returns
 returns c =
@@ -14,7 +14,7 @@ returns c =
     rw (
       c.fired.ensures,
       c.sound_answer.ensures,
-      c.word_if-next.ensures,
+      c.pick-next.ensures,
       c.changed.ensures,
       c.is_sound-sound.ensures,
     ) (change_as a.one a.word a.clear a.set a.t)

@@ -12,7 +12,7 @@ returns-then-both c =
       c.count_if-waits.ensures,
       c.count_if-packets.ensures,
       c.end_number.ensures,
-      c.word_if.ensures,
+      c.pick.ensures,
       c.fires_at_once-now.ensures,
     )
     (registered_on a.asked a.t (table_128 a.t _ c.well_formed.0) a.one a.word a.key a.mask a.edge

@@ -14,6 +14,6 @@ returns c =
       c.placed.ensures,
       c.has_room.ensures,
       c.end_number.ensures,
-      c.word_if.ensures,
+      c.pick.ensures,
       c.fires_at_once-now.ensures,
     ) (register_if a.asked a.one a.word a.key a.mask a.edge a.t)
