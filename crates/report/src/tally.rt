@@ -26,7 +26,7 @@ pub struct MissedEntry {
 const FULL: u64 = 1 << 63;
 
 // How many entries were run, how many agree, and the first that does not.
-#[derive(Clone, Copy)]
+#[derive(Clone, Copy, Default)]
 pub struct Tally {
     pub total: u64,
     pub agree: u64,
@@ -34,13 +34,6 @@ pub struct Tally {
 }
 
 impl Tally {
-    // No entry was run.
-    pub const NONE: Tally = Tally {
-        total: 0,
-        agree: 0,
-        first: None,
-    };
-
     // An entry is counted that does not agree, whose name begins and ends at the two places.
     #[tactic(auto, unfolding(definition::specs::Status::pick, crate::specs::tally::Count::missed_entry))]
     fn missed(self, from: usize, to: usize, miss: Miss) -> Tally
