@@ -21,7 +21,7 @@ fn tell_failed_write(rt: &HostRuntime, done: bool) {
 }
 
 // Reads standard input until the buffer is full, the input ends or a read fails, and says how many bytes stand at the front of the buffer. A read that a
-// signal interrupts before a byte came has not failed, and is made again.
+// signal interrupts before a byte came has not failed, and is made again. `read_exact` would not say how many bytes came before the input ended.
 fn read_full(rt: &HostRuntime, buffer: &mut [u8]) -> usize
     ensures { result ≤ length buffer.new }
 {
@@ -54,7 +54,8 @@ fn first_name(s: &[u8], t: Tally) -> &[u8]
     }
 }
 
-// Runs the entries in the bytes in use, and writes the report of what was found, which is put into the same buffer after the runs.
+// Runs the entries in the bytes in use, and writes the report of what was found, which is put into the same buffer after the runs. The whole buffer goes in
+// beside how much of it is in use, since `Replays` tells whether the input fills it.
 fn replay(rt: &HostRuntime, input: &[u8], used: usize, out: &mut [u8])
     requires { ReplayMay input.now used out.old }
     ensures { Replays input.now used out.old out.new }

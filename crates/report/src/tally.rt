@@ -58,7 +58,6 @@ impl Tally {
     }
 
     // One entry more is counted, whose name begins and ends at the two places. A full tally is left as it is.
-    #[tactic(auto, unfolding(definition::specs::Status::pick, crate::specs::tally::Count::is_full, crate::specs::tally::Count::counted_of))]
     pub fn counted(self, from: usize, to: usize, o: Comparison) -> Tally
         ensures { result ≡ pick (is_full self) self (counted_of self from to o) }
     {

@@ -103,10 +103,7 @@ nothing k at l = record { put = λ h. record { next = omega arith; most = omega 
 pub same : {k at r : ℕ} {xs l l' : List ℕ} (ys : List ℕ) → xs ≡ ys → Fit k at xs r l l' → Fit k at ys r l l'
 same {k} {at} {r} {xs} {l} {l'} ys e p = subst (λ (z : List ℕ). Fit k at z r l l') e p
 
--- a writer that had no room, and one that had
-pub no_room : (k at : ℕ) (xs l : List ℕ) → length l < at + k → Written k at xs at l l
-no_room k at xs l h = record { fit = record { put = λ g. absurd (let z : ⊥ = omega arith in z) }; kept = λ g. (refl, refl) }
-
+-- a writer that had room
 pub had_room : {k at r : ℕ} {xs l l' : List ℕ} → at + k ≤ length l → Fit k at xs r l l' → Written k at xs r l l'
 had_room h p = record { fit = p; kept = λ g. absurd (let z : ⊥ = omega arith in z) }
 
