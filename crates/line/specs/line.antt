@@ -1,1 +1,2 @@
 pub mod LineDone
+pub mod LineWritten

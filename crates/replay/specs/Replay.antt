@@ -1,21 +1,32 @@
 -- The stored entries run and counted, the first that does not agree, and the report in the buffer. It stands for no paragraph of 01.
 use Rattle.std.specs.Prelude.{ℕ, ◌-◌, ◌+◌, ◌≤◌, ◌<◌, List, ◌≡◌, take, drop, length, ltb, eqb}
 use Rattle.report.specs.declared.tally.Tally.{Tally}
-use Rattle.report.specs.declared.tally.Comparison.TheVariants.{Agrees}
-use Rattle.report.specs.declared.tally.Comparison.{Comparison}
+use Rattle.report.specs.declared.tally.MissedEntry.{MissedEntry}
+use Rattle.std.specs.Prelude.{Option, []}
+use Rattle.std.specs.declared.option.Option.TheVariants.{None, Some}
+use Rattle.std.specs.declared.result.Result.TheVariants.{Err}
 use Rattle.replay.specs.declared.entry.Replayed.{Replayed}
-use Rattle.report.specs.tally.Count.{counted_of}
+use Rattle.report.specs.tally.Count.{Comparison, counted_of}
 use Rattle.replay.specs.Entry.{EntryIn, EntryRun, Agreed, entry_bytes, Agreement, entry_end}
 use Rattle.report.specs.report.Report.{REPORT, report_text}
 use Rattle.definition_script.specs.Call.{written_at}
 
--- the bytes between the two places of a tally: the name of the first entry that does not agree
+-- the bytes between the two places of an entry that does not agree, which are its name; none where no entry misses
+unfoldable pub missed_name : List ℕ → Option MissedEntry → List ℕ
+missed_name s None = []
+missed_name s (Some m) = take (m.to - m.from) (drop m.from s)
+
+-- the name of the first entry that does not agree
 unfoldable pub first_name : List ℕ → Tally → List ℕ
-first_name s t = take (t.to - t.from) (drop t.from s)
+first_name s t = missed_name s t.first
+
+-- that name lies within the input
+abbrev pub NameWithin : List ℕ → Tally → Type 0
+NameWithin s t = (m : MissedEntry) → t.first ≡ Some m → (m.from ≤ m.to) × (m.to ≤ length s)
 
 -- the tally before any entry
 unfoldable pub no_tally : Tally
-no_tally = record { total = 0; agree = 0; number = 0; from = 0; to = 0; first = Agrees }
+no_tally = record { total = 0; agree = 0; first = None }
 
 -- the tally of the entries before a place, and the buffer after them: each, from the first on, is run and counted. Its name lies behind its length
 pub data Tallied (s out₀ : List ℕ) : ℕ → Tally → List ℕ → Type 0 where
@@ -31,26 +42,27 @@ pub data AllAgree (s : List ℕ) : (number at : ℕ) → Type 0 where
       {number at nameEnd script_end end : ℕ} → AllAgree s number at → EntryIn s at nameEnd script_end end → Agreed s nameEnd script_end end
       → AllAgree s (number + 1) end
 
--- the tally holds an entry whose comparison is not `Agrees`: as many as its number says lie before it, and agree, its name lies between the two places of the
--- tally, and its comparison says where it differs, or that another line might not have had room
+-- the tally holds an entry that does not agree: as many as its number says lie before it, and agree, its name lies between its two places, and its
+-- comparison says where it differs, or that another line might not have had room
 pub record FirstMissed (room : ℕ) (s : List ℕ) (t : Tally) : Type 0 where
+  pub missed : MissedEntry
+  pub held : t.first ≡ Some missed
   pub at : ℕ
   pub script_end : ℕ
   pub end : ℕ
-  pub before : AllAgree s t.number at
-  pub entry : EntryIn s at t.to script_end end
-  pub name : first_name s t ≡ entry_bytes s at t.to
-  pub comparison : Agreement room s t.to script_end end t.first
-  pub misses : t.first ≡ Agrees → ⊥
+  pub before : AllAgree s missed.number at
+  pub entry : EntryIn s at missed.to script_end end
+  pub name : first_name s t ≡ entry_bytes s at missed.to
+  pub comparison : Agreement room s missed.to script_end end (Err missed.miss)
 
--- the entries that were run end at a place, and are counted; no more agree than were run. If as many do, all agree and the tally holds no entry
--- and no name, else it holds the first that does not. Behind the place the input ends, or an entry is cut
+-- the entries that were run end at a place, and are counted; no more agree than were run. If as many do, all agree and the tally holds no entry,
+-- else it holds the first that does not. Behind the place the input ends, or an entry is cut
 pub record AgreeTo (s out out' : List ℕ) (r : Replayed) : Type 0 where
   pub within : r.at ≤ length s
   pub tally : Tallied s out r.at r.tally out'
   pub most : r.tally.agree ≤ r.tally.total
   pub all : r.tally.agree ≡ r.tally.total → AllAgree s r.tally.total r.at
-  pub none_missed : r.tally.agree ≡ r.tally.total → (r.tally.first ≡ Agrees) × (r.tally.from ≡ r.tally.to)
+  pub none_missed : r.tally.agree ≡ r.tally.total → r.tally.first ≡ None
   pub first : r.tally.agree < r.tally.total → FirstMissed (length out) s r.tally
   pub cut : r.at < length s → length s < entry_end s r.at
 

@@ -1,25 +1,17 @@
 // The stored entries, each a name, a script and its listing: where they lie in the input, whether they agree, how many do, and where the name of
 // the first lies that does not.
 ghost use Rattle.std.specs.Prelude.{◌+◌, ◌≤◌, ◌<◌, ◌≡◌, length};
-ghost use Rattle.definition_script.specs.Record.{four};
 ghost use Rattle.replay.specs.Entry.{FieldAt, EntryAt, ScriptIn, Compares, EntryRun};
 ghost use Rattle.replay.specs.Replay.{AgreeTo};
 
-use definition::Ends;
-use report::tally::{Comparison, Tally};
+use report::tally::{Comparison, Miss, Tally};
 
-// Where a field ends: its length and its bytes.
+// Where an entry's name ends, its script, and its listing.
 #[derive(Clone, Copy)]
-enum Field {
-    Ends(usize),
-    Cut,
-}
-
-// Where an entry's name ends, its script, and its listing; or the input does not hold all three.
-#[derive(Clone, Copy)]
-enum Found {
-    Whole(usize, usize, usize),
-    Cut,
+struct Entry {
+    name_end: usize,
+    script_end: usize,
+    end: usize,
 }
 
 // The tally, and where in the input the entries end that were run.
@@ -29,117 +21,74 @@ pub struct Replayed {
     pub at: usize,
 }
 
-fn wide(b: u8) -> usize
-    ensures { (result ≡ b) × (result < 256) }
-{
-    b as usize
-}
-
-fn read_length(s: &[u8], at: usize) -> usize
-    requires { at + 4 ≤ length s.now }
-    ensures { (result ≡ four s.now at) × (result < 4294967296) }
-{
-    let a = wide(s[at]);
-    let b = wide(s[at + 1]);
-    let c = wide(s[at + 2]);
-    let d = wide(s[at + 3]);
-    a + 256 * (b + 256 * (c + 256 * d))
-}
-
-fn field_at(s: &[u8], at: usize) -> Field
+// Where a field ends, which is its length and its bytes; or the input cuts it.
+fn field_at(s: &[u8], at: usize) -> Option<usize>
     requires { at ≤ length s.now }
     ensures { FieldAt s.now at result }
 {
-    let left = s.len() - at;
-    if left < 4 {
-        return Field::Cut;
+    if s.len() - at < 4 {
+        return None;
     }
-    let n = read_length(s, at);
-    if left - 4 < n {
-        return Field::Cut;
-    }
-    Field::Ends(at + 4 + n)
+    let length = u32::from_le_bytes([s[at], s[at + 1], s[at + 2], s[at + 3]]);
+    let end = at + 4 + length as usize;
+    (end <= s.len()).then_some(end)
 }
 
-fn entry_at(s: &[u8], at: usize) -> Found
+// An entry is three fields, one behind the other; or the input does not hold all three.
+fn entry_at(s: &[u8], at: usize) -> Option<Entry>
     requires { at ≤ length s.now }
     ensures { EntryAt s.now at result }
 {
-    let Field::Ends(name_end) = field_at(s, at) else {
-        return Found::Cut;
-    };
-    let Field::Ends(script_end) = field_at(s, name_end) else {
-        return Found::Cut;
-    };
-    let Field::Ends(end) = field_at(s, script_end) else {
-        return Found::Cut;
-    };
-    Found::Whole(name_end, script_end, end)
+    let name_end = field_at(s, at)?;
+    let script_end = field_at(s, name_end)?;
+    let end = field_at(s, script_end)?;
+    Some(Entry {
+        name_end,
+        script_end,
+        end,
+    })
 }
 
-fn compare(a: &[u8], b: &[u8]) -> Comparison
+// The first place where just one of two slices ends, or both have a byte and the bytes differ.
+fn first_difference(a: &[u8], b: &[u8]) -> Option<usize>
     ensures { Compares a.now b.now result }
 {
-    let mut i = 0;
-    while i < a.len() {
-        if i == b.len() {
-            return Comparison::DiffersAt(i);
-        }
-        if a[i] != b[i] {
-            return Comparison::DiffersAt(i);
-        }
-        i += 1;
+    if a == b {
+        return None;
     }
-    if i == b.len() {
-        return Comparison::Agrees;
-    }
-    Comparison::DiffersAt(i)
+    a.iter()
+        .zip(b)
+        .position(|(x, y)| x != y)
+        .or(Some(a.len().min(b.len())))
 }
 
 // Runs an entry's script, which stands behind the name, and compares. A listing has no room where another line might not have fit behind it.
-fn replay_entry(
-    s: &[u8],
-    name_end: usize,
-    script_end: usize,
-    end: usize,
-    out: &mut [u8],
-) -> Comparison
-    requires { ScriptIn s.now name_end script_end end }
-    ensures { EntryRun s.now name_end script_end end out.old out.new result }
+fn replay_entry(s: &[u8], entry: Entry, out: &mut [u8]) -> Comparison
+    requires { ScriptIn s.now entry.name_end entry.script_end entry.end }
+    ensures { EntryRun s.now entry.name_end entry.script_end entry.end out.old out.new result }
 {
-    let from = name_end + 4;
-    let n = listing::listing::run_script(&s[from..script_end], out);
+    let from = entry.name_end + 4;
+    let n = listing::listing::run_script(&s[from..entry.script_end], out);
     if out.len() - n < 8254 {
-        return Comparison::NoRoom;
+        return Err(Miss::NoRoom);
     }
-    let listing = script_end + 4;
-    compare(&out[0..n], &s[listing..end])
+    let listing = entry.script_end + 4;
+    match first_difference(&out[..n], &s[listing..entry.end]) {
+        None => Ok(()),
+        Some(i) => Err(Miss::DiffersAt(i)),
+    }
 }
 
 // Runs the entries from the start of the input, until its end or an entry that is cut.
 pub fn replay_all(s: &[u8], out: &mut [u8]) -> Replayed
     ensures { AgreeTo s.now out.old out.new result }
 {
-    let mut t = Tally {
-        total: 0,
-        agree: 0,
-        number: 0,
-        from: 0,
-        to: 0,
-        first: Comparison::Agrees,
-    };
+    let mut tally = Tally::default();
     let mut at = 0;
-    while at < s.len() {
-        match entry_at(s, at) {
-            Found::Cut => {
-                return Replayed { tally: t, at };
-            }
-            Found::Whole(name_end, script_end, end) => {
-                let o = replay_entry(s, name_end, script_end, end, out);
-                t = report::tally::counted(t, at + 4, name_end, o);
-                at = end;
-            }
-        }
+    while let Some(entry) = entry_at(s, at) {
+        let o = replay_entry(s, entry, out);
+        tally = tally.counted(at + 4, entry.name_end, o);
+        at = entry.end;
     }
-    Replayed { tally: t, at }
+    Replayed { tally, at }
 }

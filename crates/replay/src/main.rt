@@ -6,7 +6,7 @@
 #![tactic(auto)]
 
 ghost use Rattle.std.specs.Prelude.{◌≤◌, ◌≡◌, length};
-ghost use Rattle.replay.specs.Replay.{first_name, ReplayMay, Replays};
+ghost use Rattle.replay.specs.Replay.{first_name, NameWithin, ReplayMay, Replays};
 
 use report::tally::Tally;
 use std::io::{ErrorKind, Read};
@@ -21,7 +21,7 @@ fn tell_failed_write(rt: &HostRuntime, done: bool) {
 }
 
 // Reads standard input until the buffer is full, the input ends or a read fails, and says how many bytes stand at the front of the buffer. A read that a
-// signal interrupts before a byte came has not failed, and is made again.
+// signal interrupts before a byte came has not failed, and is made again. `read_exact` would not say how many bytes came before the input ended.
 fn read_full(rt: &HostRuntime, buffer: &mut [u8]) -> usize
     ensures { result ≤ length buffer.new }
 {
@@ -43,52 +43,41 @@ fn read_full(rt: &HostRuntime, buffer: &mut [u8]) -> usize
     used
 }
 
-// Writes the first bytes of the output.
-fn put(rt: &HostRuntime, out: &[u8], n: usize)
-    requires { n ≤ length out.now }
-{
-    tell_failed_write(rt, rt.write_all(&out[0..n]).is_ok());
-}
-
 // The name of the first entry that does not agree; empty where all agree.
 fn first_name(s: &[u8], t: Tally) -> &[u8]
-    requires { (t.from ≤ t.to) × (t.to ≤ length s.now) }
+    requires { NameWithin s.now t }
     ensures { result.now ≡ first_name s.now t }
 {
-    let from = t.from;
-    let to = t.to;
-    &s[from..to]
+    match t.first {
+        None => &[],
+        Some(m) => &s[m.from..m.to],
+    }
 }
 
-// Runs the entries in the bytes in use, and writes the report of what was found, which is put into the same buffer after the runs.
+// Runs the entries in the bytes in use, and writes the report of what was found, which is put into the same buffer after the runs. The whole buffer goes in
+// beside how much of it is in use, since `Replays` tells whether the input fills it.
 fn replay(rt: &HostRuntime, input: &[u8], used: usize, out: &mut [u8])
     requires { ReplayMay input.now used out.old }
     ensures { Replays input.now used out.old out.new }
 {
-    let s = &input[0..used];
+    let s = &input[..used];
     let r = entry::replay_all(s, out);
     let t = r.tally;
     let n = report::report::report(out, t, first_name(s, t), r.at < used, used == input.len());
-    put(rt, out, n);
+    tell_failed_write(rt, rt.write_all(&out[..n]).is_ok());
 }
 
-// The contracts of the two give only the length, which lending the array needs. The output has 190 bytes more than the input's buffer, so that a report has room
-// whatever name from the input is in it.
-fn input_buffer() -> [u8; 1048576]
-    ensures { 1048576 ≡ length result }
+// The contract gives only the length, which lending the array needs.
+fn buffer<const N: usize>() -> [u8; N]
+    ensures { N ≡ length result }
 {
-    [0; 1048576]
+    [0; N]
 }
 
-fn output_buffer() -> [u8; 1048766]
-    ensures { 1048766 ≡ length result }
-{
-    [0; 1048766]
-}
-
+// The output has 190 bytes more than the input's buffer, so that a report has room whatever name from the input is in it.
 fn main(rt: HostRuntime) {
-    let mut input_array = input_buffer();
-    let mut out_array = output_buffer();
+    let mut input_array = buffer::<1048576>();
+    let mut out_array = buffer::<1048766>();
     let input: &mut [u8] = &mut input_array;
     let out: &mut [u8] = &mut out_array;
     let used = read_full(&rt, input);

@@ -1,3 +1,3 @@
 pub mod Place
 pub mod Spelling
-pub mod Words
+pub mod Writers

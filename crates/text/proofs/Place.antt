@@ -1,15 +1,13 @@
 -- Laws of text put into a list at a place, and of writers called one after the other. Assumes nothing.
-use Prim.Native.Nat.{ℕ, suc, ◌+◌, ◌-◌, ◌≤◌, ◌<◌}
+use Prim.Native.Nat.{ℕ, suc, ◌+◌, ◌≤◌, ◌<◌}
 use native.Mathlib.Omega.{arith}
 use mathlib.Core.Path.{◌≡◌, refl, sym, ap, ◌∙◌, subst}
-use mathlib.Core.Bool.{Bool, true, false, cond}
 use mathlib.Core.List.{List, [], ◌∷◌, ◌++◌, append_assoc}
 use lib.ListN.{length, take, drop, get_or, set, length-append, length-take, length-drop, take-append-drop}
 use lib.Seq.{take-suc, take_at, drop_at, drop-append-add, drop-drop, set_at, length-take-le}
-use lib.Dec.{leb}
-use borrow.Author.Tests.{leb-true, leb-false}
+use borrow.Rule.Slice.PartMut.{put_mid}
 use Rattle.definition_script.specs.Call.{written_at}
-use Rattle.text.specs.Put.{Put, Fit, Written, Room}
+use Rattle.text.specs.Put.{Put, Fit, Written}
 
 pub place_none : (at : ℕ) (l : List ℕ) → written_at at [] l ≡ l
 unfolding written_at
@@ -56,10 +54,10 @@ place-cons at v ys l h =
 pub place-one : (at v : ℕ) (l : List ℕ) → at < length l → set l at v ≡ written_at at (v ∷ []) l
 place-one at v l h = ap (λ (z : List ℕ). set z at v) (sym (place_none (suc at) l)) ∙ place-cons at v [] l (omega arith)
 
--- one byte stored behind a text
-pub place-snoc : (at v : ℕ) (xs l : List ℕ) → at + length xs < length l → set (written_at at xs l) (at + length xs) v ≡ written_at at (xs ++ (v ∷ [])) l
-place-snoc at v xs l h =
-    place-one (at + length xs) v (written_at at xs l) (rw (place-length at xs l (omega arith)) h) ∙ place-place at xs (v ∷ []) l (omega arith)
+-- a text copied over a part of a list that is as long
+pub place-mid : (at k : ℕ) (xs ys l : List ℕ) → k ≡ length xs → ys ≡ xs → put_mid at k l ys ≡ written_at at xs l
+unfolding written_at
+place-mid at k xs ys l e f = rw (e, f) (ap (λ (z : List ℕ). take at l ++ (xs ++ z)) (drop-drop (length xs) at l))
 
 -- ---- writers
 
@@ -105,21 +103,9 @@ nothing k at l = record { put = λ h. record { next = omega arith; most = omega 
 pub same : {k at r : ℕ} {xs l l' : List ℕ} (ys : List ℕ) → xs ≡ ys → Fit k at xs r l l' → Fit k at ys r l l'
 same {k} {at} {r} {xs} {l} {l'} ys e p = subst (λ (z : List ℕ). Fit k at z r l l') e p
 
--- a writer that had no room, and one that had
-pub no_room : (k at : ℕ) (xs l : List ℕ) → length l < at + k → Written k at xs at l l
-no_room k at xs l h = record { fit = record { put = λ g. absurd (let z : ⊥ = omega arith in z) }; kept = λ g. (refl, refl) }
-
+-- a writer that had room
 pub had_room : {k at r : ℕ} {xs l l' : List ℕ} → at + k ≤ length l → Fit k at xs r l l' → Written k at xs r l l'
 had_room h p = record { fit = p; kept = λ g. absurd (let z : ⊥ = omega arith in z) }
-
-never : ◌≡◌ {A = Bool} false true → ⊥
-never e = let z : ◌≡◌ {A = ℕ} 0 1 = ap (λ (b : Bool). cond b 1 0) e in omega arith
-
-pub room-short : (len at k : ℕ) → len < k → Room len at k false
-room-short len at k h = record { yes = λ e. absurd (never e); no = λ e. omega arith }
-
-pub room_test : (len at k : ℕ) → k ≤ len → Room len at k (leb at (len - k))
-room_test len at k h = record { yes = λ e. omega (arith, leb-true at (len - k) e); no = λ e. omega (arith, leb-false at (len - k) e) }
 
 -- the text stands in the list up to the place behind it
 pub place-front : (at : ℕ) (xs l : List ℕ) → at ≤ length l → take (at + length xs) (written_at at xs l) ≡ take at l ++ xs

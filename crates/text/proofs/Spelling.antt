@@ -1,18 +1,23 @@
 -- The loops that spell: digits from the last to the first, bytes from the first to the last. Assumes nothing.
-use Prim.Native.Nat.{ℕ, zero, suc, ◌+◌, ◌-◌, ◌*◌, ◌/◌, ◌%◌, ◌≤◌, ◌<◌}
+use Prim.Native.Nat.{ℕ, zero, suc, ◌+◌, ◌-◌, ◌*◌, ◌/◌, ◌%◌, ◌^◌, ◌≤◌, ◌<◌}
 use native.Mathlib.Numerals.{add-one}
 use native.Mathlib.Omega.{arith}
+use Rattle.std.specs.Prelude.{max}
+use native.Mathlib.Nat.{pow-succ', one-le-pow, le-mul_of_pos_right, mul_assoc}
 use mathlib.Core.Path.{◌≡◌, refl, sym, ap, ◌∙◌}
 use mathlib.Core.Bool.{Bool, true, false}
-use mathlib.Core.List.{List, [], ◌∷◌, ◌++◌, append_assoc}
-use lib.ListN.{length, take, get_or, set, length-append}
-use lib.Seq.{take-suc, length-take-le}
+use mathlib.Core.List.{List, [], ◌∷◌, ◌++◌}
+use lib.ListN.{length, take, get_or, set}
+use lib.Seq.{take-suc}
 use lib.Dec.{ltb}
-use borrow.Author.Tests.{lt-ltb, le-ltb, ltb-true, ltb-false}
+use borrow.Author.Tests.{lt-ltb, le-ltb, ltb-true}
 use Rattle.definition.specs.Status.{pick}
 use Rattle.definition_script.specs.Call.{written_at}
-use Rattle.definition_script.specs.Line.{digit_of, digits_of, width_by, width_of, hex_bytes_of}
-use Rattle.text.proofs.Place.{place_none, place-cons, place-snoc}
+use Rattle.std.proofs.lemmas.Bool.{false≢true}
+use lib.IntN.{ℤ, pos, negsuc, nat_abs}
+use lib.Signed.{lt_z}
+use Rattle.definition_script.specs.Line.{digit_of, digits_of, width_by, width_of, decimal_of, hex_of, hex_bytes_of, signed_of}
+use Rattle.text.proofs.Place.{place_none, place-cons}
 
 -- what the loop still does to a list, with i digits of n left to be put from a place on
 pub back : (base at i n : ℕ) → List ℕ → List ℕ
@@ -60,29 +65,26 @@ pub width_most : (n : ℕ) → width_of n ≤ 20
 unfolding width_of
 width_most n = width_by-most 19 10 n
 
--- a number that has two digits or more has one more than its tenth
-tenth_by : (p n : ℕ) (b : Bool) → ltb n (p * 10) ≡ b → b ≡ ltb (n / 10) p
-tenth_by p n true e = let h : n < p * 10 = ltb-true n (p * 10) e in sym (lt-ltb (n / 10) p (omega arith))
-tenth_by p n false e = let h : p * 10 ≤ n = ltb-false n (p * 10) e in sym (le-ltb (n / 10) p (omega arith))
-
-width_by_tenth : (k p n : ℕ) → width_by k (p * 10) n ≡ width_by k p (n / 10)
-unfolding width_by
-width_by_tenth zero p n = refl
-width_by_tenth (suc k) p n =
-    ap (λ (b : Bool). pick b 1 (1 + width_by k (p * 10 * 10) n)) (tenth_by p n (ltb n (p * 10)) refl)
-    ∙ ap (λ (w : ℕ). pick (ltb (n / 10) p) 1 (1 + w)) (width_by_tenth k (p * 10) n)
-
-pub width_more : (k n : ℕ) → 0 < k → 10 ≤ n → width_by k 10 n ≡ 1 + width_by (k - 1) 10 (n / 10)
+-- a number has as many digits as the greatest power of ten has that is not above it
+width_by_power : (j e p n : ℕ) → e < j → p * 10 ^ e ≤ n → n < 10 * (p * 10 ^ e) → width_by j p n ≡ e + 2
 unfolding width_by pick
-width_more zero n h g = absurd (let z : ⊥ = omega arith in z)
-width_more (suc k) n h g =
-    let e : suc k - 1 ≡ k = omega arith in
-    rw (e, le-ltb n 10 g) (ap (λ (w : ℕ). 1 + w) (width_by_tenth k 10 n))
+width_by_power zero e p n h g k = absurd (let z : ⊥ = omega arith in z)
+width_by_power (suc zero) zero p n h g k = rw (le-ltb n p (omega arith)) refl
+width_by_power (suc (suc j)) zero p n h g k = rw (le-ltb n p (omega arith), lt-ltb n (p * 10) (omega arith)) refl
+width_by_power (suc j) (suc e) p n h g k =
+    let t : p * 10 * 10 ^ e ≡ p * 10 ^ suc e = rw (pow-succ' 10 e) (mul_assoc p 10 (10 ^ e)) in
+    let m : p ≤ p * 10 ^ suc e = le-mul_of_pos_right p (one-le-pow (suc e) 10 (omega arith)) in
+    rw (le-ltb n p (omega (arith, m, g))) (ap (λ (w : ℕ). 1 + w) (width_by_power j e (p * 10) n (omega arith) (omega (arith, t, g)) (omega (arith, t, k))) ∙ (omega arith))
 
-pub width_one : (k n : ℕ) → (0 < k → n < 10) → width_by k 10 n ≡ 1
-unfolding width_by pick
-width_one zero n h = refl
-width_one (suc k) n h = rw (lt-ltb n 10 (h (omega arith))) refl
+-- zero has one digit, as one has
+pub width_power : (k m n : ℕ) → k < 20 → m ≡ max n 1 → 10 ^ k ≤ m → m < 10 * 10 ^ k → k + 1 ≡ width_of n
+unfolding width_of width_by pick
+width_power zero m n h e g k = rw (lt-ltb n 10 (omega arith)) refl
+width_power (suc d) m n h e g k =
+    let t : 10 ^ suc d ≡ 10 * 10 ^ d = pow-succ' 10 d in
+    let p : 1 ≤ 10 ^ d = one-le-pow d 10 (omega arith) in
+    let f : suc d + 1 ≡ d + 2 = omega arith in
+    f ∙ sym (width_by_power 19 d 10 n (omega arith) (omega (arith, t, p, g, e)) (omega (arith, t, p, g, k, e)))
 
 pub hex_bytes-length : (bs : List ℕ) → length (hex_bytes_of bs) ≡ 2 * length bs
 unfolding hex_bytes_of
@@ -94,34 +96,23 @@ unfolding hex_bytes_of
 hex_bytes-append [] ys = refl
 hex_bytes-append (x ∷ xs) ys = ap (λ (z : List ℕ). digit_of (x / 16) ∷ digit_of (x % 16) ∷ z) (hex_bytes-append xs ys)
 
--- a turn of the loop that puts two digits for a byte
-pub hex_bytes_turn : (at i to : ℕ) (src l : List ℕ) → i < length src → at + 2 * length src ≤ length l → to ≡ at + 2 * i
-    → set (set (written_at at (hex_bytes_of (take i src)) l) to (digit_of (get_or src i 0 / 16))) (to + 1) (digit_of (get_or src i 0 % 16))
-    ≡ written_at at (hex_bytes_of (take (i + 1) src)) l
-unfolding hex_bytes_of
-hex_bytes_turn at i to src l h g e =
-    let b : ℕ = get_or src i 0 in
-    let x : List ℕ = hex_bytes_of (take i src) in
-    let u : ℕ = digit_of (b / 16) in
-    let v : ℕ = digit_of (b % 16) in
-    let lx : length x ≡ 2 * i = hex_bytes-length (take i src) ∙ ap (λ (k : ℕ). 2 * k) (length-take-le i src (omega arith)) in
-    let y : List ℕ = x ++ (u ∷ []) in
-    let ly : length y ≡ 2 * i + 1 = length-append x (u ∷ []) ∙ (omega arith) in
-    let e₁ : to ≡ at + length x = omega arith in
-    let e₂ : to + 1 ≡ at + length y = omega arith in
-    let t : take (i + 1) src ≡ take i src ++ (b ∷ []) = rw add-one (take-suc src i 0 h) in
-    ap (λ (k : ℕ). set (set (written_at at x l) k u) (to + 1) v) e₁
-    ∙ ap (λ (z : List ℕ). set z (to + 1) v) (place-snoc at u x l (omega arith))
-    ∙ ap (λ (k : ℕ). set (written_at at y l) k v) e₂
-    ∙ place-snoc at v y l (omega arith)
-    ∙ ap (λ (z : List ℕ). written_at at z l) (append_assoc x (u ∷ []) (v ∷ []) ∙ sym (ap hex_bytes_of t ∙ hex_bytes-append (take i src) (b ∷ [])))
+-- a byte more, in two digits
+pub hex_bytes_more : (i : ℕ) (bs : List ℕ) → i < length bs → get_or bs i 0 < 256 → hex_bytes_of (take i bs) ++ hex_of 2 (get_or bs i 0) ≡ hex_bytes_of (take (i + 1) bs)
+unfolding hex_bytes_of hex_of digits_of
+hex_bytes_more i bs h g =
+    let b : ℕ = get_or bs i 0 in
+    let e : b / 16 % 16 ≡ b / 16 = omega arith in
+    ap (λ (x : ℕ). hex_bytes_of (take i bs) ++ (digit_of x ∷ digit_of (b % 16) ∷ [])) e
+    ∙ sym (hex_bytes-append (take i bs) (b ∷ []))
+    ∙ ap hex_bytes_of (sym (rw add-one (take-suc bs i 0 h)))
 
--- a turn of the loop that copies
-pub copy_turn : (at i : ℕ) (src l : List ℕ) → i < length src → at + length src ≤ length l
-    → set (written_at at (take i src) l) (at + i) (get_or src i 0) ≡ written_at at (take (i + 1) src) l
-copy_turn at i src l h g =
-    let x : List ℕ = take i src in
-    let lx : length x ≡ i = length-take-le i src (omega arith) in
-    ap (λ (k : ℕ). set (written_at at x l) (at + k) (get_or src i 0)) (sym lx)
-    ∙ place-snoc at (get_or src i 0) x l (omega arith)
-    ∙ ap (λ (z : List ℕ). written_at at z l) (sym (rw add-one (take-suc src i 0 h)))
+-- a number below zero has a minus sign before its magnitude, another number has none
+pub signed_below : (z y : ℤ) (m : ℕ) → y ≡ z → lt_z y (pos 0) ≡ true → m ≡ nat_abs y → 45 ∷ decimal_of m ≡ signed_of z
+unfolding signed_of
+signed_below (pos n) y m e h g = absurd (let k : n < 0 = ltb-true n 0 (rw e at h) in let z : ⊥ = omega arith in z)
+signed_below (negsuc n) y m e h g = ap (λ (k : ℕ). 45 ∷ decimal_of k) (rw e at g ∙ sym (add-one n))
+
+pub signed_from : (z y : ℤ) (m : ℕ) → y ≡ z → lt_z y (pos 0) ≡ false → m ≡ nat_abs y → decimal_of m ≡ signed_of z
+unfolding signed_of
+signed_from (pos n) y m e h g = ap decimal_of (rw e at g)
+signed_from (negsuc n) y m e h g = absurd (false≢true (sym (let k : lt_z (negsuc n) (pos 0) ≡ false = rw e at h in k)))

@@ -1,8 +1,11 @@
 -- What the program `replay` prints of its tally. It stands for no paragraph of 01. A comment has the words whose bytes a definition has; each line ends
 -- with 10, a newline.
 use Rattle.std.specs.Prelude.{ℕ, List, ◌++◌, [], ◌∷◌, Bool}
-use Rattle.report.specs.declared.tally.Comparison.{Comparison}
-use Rattle.report.specs.declared.tally.Comparison.TheVariants.{Agrees, DiffersAt, NoRoom}
+use Rattle.std.specs.Prelude.{Option}
+use Rattle.std.specs.declared.option.Option.TheVariants.{None, Some}
+use Rattle.report.specs.declared.tally.Miss.{Miss}
+use Rattle.report.specs.declared.tally.Miss.TheVariants.{DiffersAt, NoRoom}
+use Rattle.report.specs.declared.tally.MissedEntry.{MissedEntry}
 use Rattle.report.specs.declared.tally.Tally.{Tally}
 use Rattle.definition_script.specs.Line.{decimal_of}
 use Rattle.definition.specs.Status.{pick}
@@ -20,13 +23,15 @@ numbered_text before n after = before ++ (decimal_of n ++ after)
 unfoldable pub entry_text : (number : ℕ) → (name : List ℕ) → List ℕ
 entry_text number name = numbered_text (108 ∷ 105 ∷ 115 ∷ 116 ∷ 105 ∷ 110 ∷ 103 ∷ 32 ∷ []) number (32 ∷ 40 ∷ []) ++ (name ++ (41 ∷ []))
 
--- the first entry that does not agree: ` differs at byte `, the byte's place in the listing; or ` may have no room`. Where all agree there is no line
-unfoldable pub first_text : Comparison → (number : ℕ) → (name : List ℕ) → List ℕ
-first_text Agrees number name = []
-first_text (DiffersAt i) number name =
-    entry_text number name
-    ++ numbered_text (32 ∷ 100 ∷ 105 ∷ 102 ∷ 102 ∷ 101 ∷ 114 ∷ 115 ∷ 32 ∷ 97 ∷ 116 ∷ 32 ∷ 98 ∷ 121 ∷ 116 ∷ 101 ∷ 32 ∷ []) i (10 ∷ [])
-first_text NoRoom number name = entry_text number name ++ (32 ∷ 109 ∷ 97 ∷ 121 ∷ 32 ∷ 104 ∷ 97 ∷ 118 ∷ 101 ∷ 32 ∷ 110 ∷ 111 ∷ 32 ∷ 114 ∷ 111 ∷ 111 ∷ 109 ∷ 10 ∷ [])
+-- why it does not agree: ` differs at byte `, the byte's place in the listing; or ` may have no room`
+unfoldable pub miss_text : Miss → List ℕ
+miss_text (DiffersAt i) = numbered_text (32 ∷ 100 ∷ 105 ∷ 102 ∷ 102 ∷ 101 ∷ 114 ∷ 115 ∷ 32 ∷ 97 ∷ 116 ∷ 32 ∷ 98 ∷ 121 ∷ 116 ∷ 101 ∷ 32 ∷ []) i (10 ∷ [])
+miss_text NoRoom = 32 ∷ 109 ∷ 97 ∷ 121 ∷ 32 ∷ 104 ∷ 97 ∷ 118 ∷ 101 ∷ 32 ∷ 110 ∷ 111 ∷ 32 ∷ 114 ∷ 111 ∷ 111 ∷ 109 ∷ 10 ∷ []
+
+-- the first entry that does not agree. Where all agree there is no line
+unfoldable pub first_text : Option MissedEntry → (name : List ℕ) → List ℕ
+first_text None name = []
+first_text (Some m) name = entry_text m.number name ++ miss_text m.miss
 
 -- `entry `, its number, ` is cut`; no line where no entry is cut
 unfoldable pub cut_text : (cut : Bool) → (number : ℕ) → List ℕ
@@ -51,4 +56,4 @@ counts_text agree total =
 -- how many were counted; an input that fills its buffer; the counts
 unfoldable pub report_text : Tally → (name : List ℕ) → (cut full : Bool) → List ℕ
 report_text t name cut full =
-    first_text t.first t.number name ++ (cut_text cut t.total ++ (full_text full ++ counts_text t.agree t.total))
+    first_text t.first name ++ (cut_text cut t.total ++ (full_text full ++ counts_text t.agree t.total))

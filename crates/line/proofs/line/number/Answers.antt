@@ -1,7 +1,7 @@
 use Rattle.definition_script.specs.Line.{number_text}
-use Rattle.text.proofs.Place.{seq}
+use Rattle.text.proofs.Writers.{then_appends}
 use Rattle.line.proofs.line.number.Goals as goal
 
 pub returns : goal.returns
 unfolding number_text
-returns c = seq c.byte-a.ensures.fit c.decimal.ensures.fit
+returns c = then_appends c.byte.ensures.appends c.decimal.ensures.appends

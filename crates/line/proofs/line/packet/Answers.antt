@@ -1,7 +1,7 @@
 use Rattle.definition_script.specs.Line.{packet_text}
-use Rattle.text.proofs.Place.{seq}
+use Rattle.text.proofs.Writers.{then_appends}
 use Rattle.line.proofs.line.packet.Goals as goal
 
 pub returns : goal.returns
 unfolding packet_text
-returns c = seq c.hex-a.ensures (seq c.hex-b.ensures c.hex.ensures)
+returns c = then_appends c.hex.ensures (then_appends c.hex-2.ensures c.hex-3.ensures)

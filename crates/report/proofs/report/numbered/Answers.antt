@@ -1,8 +1,8 @@
 -- `numbered` meets its contract.
 use Rattle.report.specs.report.Report.{numbered_text}
-use Rattle.text.proofs.Place.{seq}
+use Rattle.text.proofs.Writers.{then_appends}
 use Rattle.report.proofs.report.numbered.Goals as goal
 
 pub returns : goal.returns
 unfolding numbered_text
-returns c = seq c.copy-a.ensures.fit (seq c.decimal-b.ensures.fit c.copy.ensures.fit)
+returns c = then_appends c.copy.ensures.appends (then_appends c.decimal.ensures.appends c.copy-2.ensures.appends)
