@@ -6,6 +6,7 @@ ghost use Rattle.definition.specs.Read.{UserReads};
 ghost use Rattle.definition_runs.specs.Exported.{Answered};
 
 use definition::Pair;
+use user_answers::lookup::Buffer;
 
 // Writes the bytes of user memory to the peer's queue, and lands the count of those taken. The ring and the table are the peer's.
 pub fn murgwethan_user_write(
@@ -22,15 +23,18 @@ pub fn murgwethan_user_write(
 ) -> i64
     ensures { Answered (UserWrites p.old handle base options address count count_at memory.old memory.new ring.old ring.new table.old table.new) p.new result }
 {
+    let b = Buffer {
+        base,
+        address,
+        count,
+        count_at,
+    };
     let t = transfer::write::user_memory::write_transfer(
         socket::ends_of(*p),
         handle,
         options,
-        base,
+        b,
         memory,
-        address,
-        count,
-        count_at,
         ring,
         table,
     );
@@ -52,15 +56,18 @@ pub fn murgwethan_user_read(
 ) -> i64
     ensures { Answered (UserReads p.old handle base options address count count_at ring.now table.now memory.old memory.new) p.new result }
 {
+    let b = Buffer {
+        base,
+        address,
+        count,
+        count_at,
+    };
     let t = transfer::read::user_memory::read_transfer(
         socket::ends_of(*p),
         handle,
         options,
-        base,
+        b,
         memory,
-        address,
-        count,
-        count_at,
         ring,
         table,
     );
