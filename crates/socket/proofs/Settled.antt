@@ -13,7 +13,6 @@ use Rattle.endpoint.proofs.answer.Chains.{counted, neither}
 use Rattle.definition.specs.Port.{sound}
 use Rattle.definition.specs.Tests.{first_length, lent_of}
 use Rattle.definition.specs.declared.Ends.{Ends}
-use Rattle.definition.specs.declared.Queue.{Queue}
 use Rattle.definition.specs.Effect.{Effect, keeping_waits, applied}
 use Rattle.endpoint.specs.ends.AtOnce.{moved_by}
 use Rattle.endpoint.specs.ends.Outcome.{unchanged_ends}
