@@ -27,12 +27,7 @@ fn changes(r: EndsOutcome) -> [Pending; 4]
 pub fn any_due(t: Places, r: EndsOutcome) -> bool
     ensures { result ≡ any_due r t }
 {
-    for a in changes(r) {
-        if is_due(t, a) {
-            return true;
-        }
-    }
-    false
+    changes(r).iter().any(|a| is_due(t, *a))
 }
 
 // Visits the waits of one change.
@@ -60,15 +55,13 @@ fn visited_only(t: Places, a: Pending) -> Places
     crate::signal_change::only_visited(t, a.one, a.word, a.clear, a.set)
 }
 
-// Visits the waits of all changes of a call, in a table whose only place used is a wait. Any other table stays as it is. The four changes stand one
-// by one: gone over as an array they are stored first, and a call that changes a word takes a third longer here.
+// Visits the waits of all changes of a call, in a table whose only place used is a wait. Any other table stays as it is.
 pub fn visited_alone(t: Places, r: EndsOutcome) -> Places
     ensures { result ≡ pick (only_wait t) (visited_each r t) t }
 {
     let mut u = t;
-    u = visited_only(u, r.visits.first);
-    u = visited_only(u, r.visits.second);
-    u = visited_only(u, r.more.first);
-    u = visited_only(u, r.more.second);
+    for a in changes(r) {
+        u = visited_only(u, a);
+    }
     u
 }
