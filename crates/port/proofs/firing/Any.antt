@@ -9,6 +9,7 @@ use native.Mathlib.Numerals.{add-one}
 use lib.ListN.{length, take, get_or}
 use lib.Seq.{take-suc, get_or-take, length-take-le}
 use Rattle.std.specs.Prelude.{MatchBool, Any, All}
+use Rattle.std.proofs.lemmas.List.{take_all}
 use Rattle.definition.specs.Status.{◌or◌}
 use Rattle.definition.specs.Port.{any}
 use Rattle.port.proofs.places.Lists.{either, any-yes, any-no}
@@ -36,6 +37,9 @@ module _ {A : Type 0} (f : A → Bool) where
   pub any_miss : (xs : List A) (i : ℕ) (d : A) → i < length xs → any f (take i xs) ≡ false → f (get_or xs i d) ≡ false → any f (take (i + 1) xs) ≡ false
   any_miss xs i d h c e =
       ap (λ (n : ℕ). any f (take n xs)) (add-one i) ∙ ap (any f) (take-suc xs i d h) ∙ any_snoc (take i xs) (get_or xs i d) c e
+
+  pub any_past : (xs : List A) (i : ℕ) → length xs ≤ i → any f (take i xs) ≡ false → false ≡ any f xs
+  any_past xs i h c = sym c ∙ ap (any f) (take_all i xs h)
 
   any_not : (xs : List A) → All (λ (x : A). f x ≡ false) xs → any f xs ≡ false
   unfolding any

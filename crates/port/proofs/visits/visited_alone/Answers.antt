@@ -1,11 +1,9 @@
-use mathlib.Core.Path.{refl, sym, ap, ◌∙◌}
+use mathlib.Core.Path.{ap, ◌∙◌}
 use native.Mathlib.Omega.{arith}
-use mathlib.Core.Bool.{false}
 use Rattle.definition.specs.declared.Places.{Places}
 use Rattle.endpoint.specs.declared.ends.Pending.{Pending}
 use Rattle.std.specs.List.{fold}
 use Rattle.std.proofs.lemmas.List.{take_all}
-use Rattle.std.proofs.lemmas.List.Sums.{fold_more}
 use Rattle.port.proofs.places.Size.{table_128}
 use Rattle.port.proofs.visits.Visiting.{four-changes}
 use Rattle.port.proofs.visits.Only.{only, all-visited_only}
