@@ -1,7 +1,7 @@
 // A socket pair as a value: each operation is a method that takes the pair and hands the next one back. After `Socket` of ipc/socket.rs.
 //
 // A call is lent the rings and tables that it uses. It answers −1 for a record that is INTERNAL, so that nothing is demanded of a caller.
-#![tactic(auto, using(crate::proofs::Done::is_ok_done), unfolding(
+#![tactic(auto, using(crate::proofs::Done::is_ok_done, endpoint::proofs::answer::Rules::chain), unfolding(
 // choices, and the parts of a pair
 definition::specs::Status::pick, definition::specs::Pair::with_places, definition::specs::Pair::shown_by, definition::specs::Create::new_pair,
 // which places are used
