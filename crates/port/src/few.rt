@@ -1,5 +1,7 @@
 // Tables of which few places are used: a wait put behind them, and the only place that a cancel matches taken out. The compiler unrolls a loop of 8 turns,
-// and a place is chosen field by field, so that each place is read and changed where it stands; for an index that is computed it copies the table.
+// and a place is chosen field by field, so that each place is read and changed where it stands; for an index that is computed it copies the table. Inside
+// this module 8 stands for none of the first 8 places, and 0 for a count of used places that is too large: with an `Option` for either, a wait and its
+// cancel take a tenth longer.
 ghost use Rattle.std.specs.Prelude.{◌≡◌, true, false, ◌+◌, ◌-◌, ◌≤◌, leb, ltb, set};
 ghost use Rattle.definition.specs.Status.{pick, ◌and◌};
 ghost use Rattle.definition.specs.Port.{free, wait_of, appended_of};
@@ -10,7 +12,7 @@ use crate::places::{FREE, end_number, uses_at_most};
 use definition::{Place, Places};
 use endpoint::choice::pick;
 
-// One of two places. Chosen whole, both are copied.
+// One of two places. Chosen whole, the loops take a tenth more instructions.
 fn place_if(test: bool, yes: Place, no: Place) -> Place
     ensures { result ≡ pick test yes no }
 {

@@ -19,12 +19,9 @@ fn any_fires(t: Places, one: bool, word: u32) -> bool
     ensures { result ≡ any_fires one word (waits_of t) }
 {
     let used = t.packets + t.waits;
-    for p in &t.table[t.packets..used] {
-        if is_fired(*p, one, word) {
-            return true;
-        }
-    }
-    false
+    t.table[t.packets..used]
+        .iter()
+        .any(|p| is_fired(*p, one, word))
 }
 
 // Whether there are at most 8 waits, and no packets before them.

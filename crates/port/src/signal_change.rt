@@ -8,6 +8,7 @@ use crate::firing::is_fired;
 use crate::places::{is_only_wait, is_sound, sound_answer};
 use definition::{Change, Place, Places};
 use endpoint::choice::pick;
+use endpoint::ends::Pending;
 use endpoint::signal::changed;
 
 // The wait as a packet.
@@ -57,14 +58,14 @@ fn only_fires(t: Places, one: bool, word: u32, next: u32) -> bool
 
 // Visits the wait of a table whose only place used is a wait. It stands in the first place, so that no index is computed, and the compiler
 // leaves one copy of the table.
-pub fn only_visited(t: Places, one: bool, word: u32, clear: u32, set: u32) -> Places
-    ensures { result ≡ pick (only_wait t) (change_of one word clear set t).places t }
+pub fn only_visited(t: Places, a: Pending) -> Places
+    ensures { result ≡ pick (only_wait t) (change_of a.one a.word a.clear a.set t).places t }
 {
-    let next = changed(word, clear, set);
+    let next = changed(a.word, a.clear, a.set);
     let wait = t.table[0];
     let packet = observed_at(wait, next);
     let mut out = t;
-    if only_fires(t, one, word, next) {
+    if only_fires(t, a.one, a.word, next) {
         out.table[0] = packet;
         out.packets = 1;
         out.waits = 0;
@@ -73,13 +74,13 @@ pub fn only_visited(t: Places, one: bool, word: u32, clear: u32, set: u32) -> Pl
 }
 
 // Changes that end's word. If it is another then, the end's waits whose mask meets it become packets, newest first.
-pub fn change(t: Places, one: bool, word: u32, clear: u32, set: u32) -> Change
-    ensures { result ≡ change_of one word clear set t }
+pub fn change(t: Places, a: Pending) -> Change
+    ensures { result ≡ change_of a.one a.word a.clear a.set t }
 {
     let sound = is_sound(t.packets, t.waits);
-    let next = pick(sound, changed(word, clear, set), word);
+    let next = pick(sound, changed(a.word, a.clear, a.set), a.word);
     Change {
-        places: fired(t, one, next, next != word),
+        places: fired(t, a.one, next, next != a.word),
         word: next,
         answer: sound_answer(sound),
     }

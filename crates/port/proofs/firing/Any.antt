@@ -1,6 +1,6 @@
 -- Whether an element of a list passes a test, looked for from its front. Assumes nothing.
 use Prim.Native.Nat.{ℕ, zero, suc, ◌+◌, ◌≤◌, ◌<◌, min}
-use mathlib.Core.Path.{◌≡◌, sym, ap, ◌∙◌, subst}
+use mathlib.Core.Path.{◌≡◌, refl, sym, ap, ◌∙◌, subst}
 use mathlib.Core.Bool.{Bool, true, false}
 use mathlib.Core.Logic.{⊎_elim}
 use mathlib.Core.List.{List, [], ◌∷◌, ◌++◌}
@@ -8,6 +8,7 @@ use native.Mathlib.Omega.{arith}
 use native.Mathlib.Numerals.{add-one}
 use lib.ListN.{length, take, get_or}
 use lib.Seq.{take-suc, get_or-take, length-take-le}
+use Rattle.std.specs.Prelude.{MatchBool, Any, All}
 use Rattle.std.proofs.lemmas.List.{take_all}
 use Rattle.definition.specs.Status.{◌or◌}
 use Rattle.definition.specs.Port.{any}
@@ -37,8 +38,18 @@ module _ {A : Type 0} (f : A → Bool) where
   any_miss xs i d h c e =
       ap (λ (n : ℕ). any f (take n xs)) (add-one i) ∙ ap (any f) (take-suc xs i d h) ∙ any_snoc (take i xs) (get_or xs i d) c e
 
-  pub any_not : (xs : List A) (i : ℕ) → length xs ≤ i → any f (take i xs) ≡ false → false ≡ any f xs
-  any_not xs i h c = sym c ∙ ap (any f) (take_all i xs h)
+  pub any_past : (xs : List A) (i : ℕ) → length xs ≤ i → any f (take i xs) ≡ false → false ≡ any f xs
+  any_past xs i h c = sym c ∙ ap (any f) (take_all i xs h)
+
+  any_not : (xs : List A) → All (λ (x : A). f x ≡ false) xs → any f xs ≡ false
+  unfolding any
+  any_not [] h = refl
+  any_not (x ∷ xs) h = any-no f x xs (h 0 x (omega arith)) ∙ any_not xs (λ k d l. h (suc k) d (omega (arith, l)))
+
+  -- as a search through the list answers
+  pub any_found : (r : Bool) (xs : List A) → MatchBool r (Any (λ (x : A). f x ≡ true) xs) (All (λ (x : A). f x ≡ false) xs) → r ≡ any f xs
+  any_found true xs (k, x, l, e, h) = any_hit xs k x l (ap f e ∙ h)
+  any_found false xs h = sym (any_not xs h)
 
   -- the same where a fixed number of places is looked at, of which those from w on have no element
   pub few_hit : (tab : List A) (w i : ℕ) (d : A) → w ≤ length tab → i < w → f (get_or tab i d) ≡ true → true ≡ any f (take w tab)

@@ -3,7 +3,7 @@ use native.Mathlib.Omega.{arith}
 use Rattle.definition.specs.Port.{any}
 use Rattle.endpoint.specs.declared.ends.Pending.{Pending}
 use Rattle.port.specs.visits.Visits.{due}
-use Rattle.port.proofs.firing.Any.{any_hit, any_miss, any_not}
+use Rattle.port.proofs.firing.Any.{any_hit, any_miss, any_past}
 use Rattle.port.proofs.visits.Visiting.{all-due, four-changes}
 use Rattle.port.proofs.visits.any_due.Goals as goal
 
@@ -28,6 +28,6 @@ returns c =
     let t = c.args.t in
     let s = c.changes-a-items in
     let n = four-changes c.args.r s.result s.ensures in
-    any_not (λ (a : Pending). due a t) s.result c.loop-a.a-index (omega (arith, n, c.loop-a-test.false)) c.loop-a.invariant
+    any_past (λ (a : Pending). due a t) s.result c.loop-a.a-index (omega (arith, n, c.loop-a-test.false)) c.loop-a.invariant
     ∙ ap (any (λ (a : Pending). due a t)) s.ensures
     ∙ all-due c.args.r t
