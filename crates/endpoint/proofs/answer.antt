@@ -1,3 +1,5 @@
 pub mod Rules
 pub mod Chains
 pub mod Cases
+pub mod Tests
+pub mod Steps

@@ -17,7 +17,7 @@ pub fn word(a: Answer) -> i64
     ensures { result ≡ answer_word a }
 {
     match a {
-        Ok(Record::Count(n)) => n as i64,
+        Ok(Record::Count(n)) => i64::from(n),
         Ok(_) => 0,
         Err(s) => -(status_number(s) as i64),
     }

@@ -4,6 +4,7 @@ ghost use Rattle.definition.specs.Signal.{bit_if, missed, reached};
 ghost use Rattle.definition.specs.Write.{gained_by_peer, lost_by_writer};
 ghost use Rattle.definition.specs.Read.{gained_by_writer, lost_by_reader};
 
+use crate::choice::pick;
 use crate::signal::{READ_THRESHOLD, READABLE, WRITABLE, WRITE_THRESHOLD};
 use definition::Endpoint;
 
@@ -11,29 +12,20 @@ use definition::Endpoint;
 pub fn is_reached(threshold: u64, n: u32) -> bool
     ensures { result ≡ reached threshold n }
 {
-    if threshold <= 0 {
-        return false;
-    }
-    threshold <= n as u64
+    0 < threshold && threshold <= u64::from(n)
 }
 
-// Whether a threshold above 0 is not reached.
+// Whether a threshold above 0 is not reached. No number is below a threshold of 0.
 pub fn is_missed(threshold: u64, n: u32) -> bool
     ensures { result ≡ missed threshold n }
 {
-    if threshold <= 0 {
-        return false;
-    }
-    (n as u64) < threshold
+    u64::from(n) < threshold
 }
 
 pub fn bit_if(test: bool, bit: u32) -> u32
     ensures { result ≡ bit_if test bit }
 {
-    if test {
-        return bit;
-    }
-    0
+    pick(test, bit, 0)
 }
 
 // The bits that the peer of a writer gains; its queue then holds q bytes.

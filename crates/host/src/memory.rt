@@ -6,6 +6,7 @@ ghost use Rattle.definition.specs.Read.{UserReads};
 ghost use Rattle.definition_runs.specs.Exported.{Answered};
 
 use definition::Pair;
+use user_answers::lookup::Buffer;
 
 // Writes the bytes of user memory to the peer's queue, and lands the count of those taken. The ring and the table are the peer's.
 pub fn murgwethan_user_write(
@@ -22,19 +23,22 @@ pub fn murgwethan_user_write(
 ) -> i64
     ensures { Answered (UserWrites p.old handle base options address count count_at memory.old memory.new ring.old ring.new table.old table.new) p.new result }
 {
+    let b = Buffer {
+        base,
+        address,
+        count,
+        count_at,
+    };
     let t = transfer::write::user_memory::write_transfer(
         socket::ends_of(*p),
         handle,
         options,
-        base,
+        b,
         memory,
-        address,
-        count,
-        count_at,
         ring,
         table,
     );
-    kept::transfers::user_wrote(p, handle, t)
+    kept::transfers::wrote(p, handle, t)
 }
 
 // Reads the front of the own queue into user memory, then lands the count over the bytes. Option 8 is a peek.
@@ -52,19 +56,22 @@ pub fn murgwethan_user_read(
 ) -> i64
     ensures { Answered (UserReads p.old handle base options address count count_at ring.now table.now memory.old memory.new) p.new result }
 {
+    let b = Buffer {
+        base,
+        address,
+        count,
+        count_at,
+    };
     let t = transfer::read::user_memory::read_transfer(
         socket::ends_of(*p),
         handle,
         options,
-        base,
+        b,
         memory,
-        address,
-        count,
-        count_at,
         ring,
         table,
     );
-    kept::transfers::user_read(p, handle, t)
+    kept::transfers::read(p, handle, t)
 }
 
 // Disables or enables the writing of an end and of its peer, by numbers from 0 to 2.

@@ -15,10 +15,8 @@ fn observed_at(p: Place, word: u32) -> Place
     ensures { result ≡ observe word p }
 {
     Place {
-        key: p.key,
-        mask: p.mask,
         observed: word,
-        end: p.end,
+        ..p
     }
 }
 
@@ -34,16 +32,13 @@ fn fired(t: Places, one: bool, word: u32, visit: bool) -> Places
         let used = packets + waits;
         let mut front = packets;
         let mut back = used;
-        let mut i = used;
-        while packets < i {
-            i = i - 1;
+        for i in (packets..used).rev() {
             let p = t.table[i];
             if is_fired(p, one, word) {
-                let q = observed_at(p, word);
-                out.table[front] = q;
-                front = front + 1;
+                out.table[front] = observed_at(p, word);
+                front += 1;
             } else {
-                back = back - 1;
+                back -= 1;
                 out.table[back] = p;
             }
         }
@@ -57,14 +52,7 @@ fn fired(t: Places, one: bool, word: u32, visit: bool) -> Places
 fn only_fires(t: Places, one: bool, word: u32, next: u32) -> bool
     ensures { result ≡ (only_wait t and not (eqb next word) and fires one next (get_or t.table 0 free)) }
 {
-    if !is_only_wait(t.packets, t.waits) {
-        return false;
-    }
-    if next == word {
-        return false;
-    }
-    let wait = t.table[0];
-    is_fired(wait, one, next)
+    is_only_wait(t.packets, t.waits) && next != word && is_fired(t.table[0], one, next)
 }
 
 // Visits the wait of a table whose only place used is a wait. It stands in the first place, so that no index is computed, and the compiler

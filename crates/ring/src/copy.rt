@@ -12,20 +12,7 @@ const BLOCK: usize = 4096;
 fn fits(capacity: usize, at: usize, n: usize, size: usize) -> bool
     ensures { result ≡ ring_fits capacity at n size }
 {
-    if capacity <= at {
-        return false;
-    }
-    if capacity < n {
-        return false;
-    }
-    capacity <= size
-}
-
-// The lesser of two numbers.
-fn least(a: usize, b: usize) -> usize
-    ensures { result ≡ min a b }
-{
-    if a <= b { a } else { b }
+    at < capacity && n <= capacity && capacity <= size
 }
 
 // Copies all of src, at most BLOCK bytes, to the start of dst. The bytes pass through a local array, which neither slice can overlap, so that
@@ -36,11 +23,9 @@ fn copy_block(dst: &mut [u8], src: &[u8])
     ensures { dst.new ≡ paste dst.old 0 src.now (length src.now) }
 {
     let n = src.len();
-    let mut array = [0u8; BLOCK];
-    let block: &mut [u8] = &mut array;
-    block[0..n].copy_from_slice(src);
-    let filled: &[u8] = &block[..];
-    dst[0..n].copy_from_slice(&filled[0..n]);
+    let mut block = [0u8; BLOCK];
+    block[..n].copy_from_slice(src);
+    dst[..n].copy_from_slice(&block[..n]);
 }
 
 // Copies all of src to the start of dst, block by block.
@@ -48,65 +33,48 @@ fn copy(dst: &mut [u8], src: &[u8])
     requires { length src.now ≤ length dst.old }
     ensures { dst.new ≡ paste dst.old 0 src.now (length src.now) }
 {
-    let mut i = 0;
-    while i < src.len() {
-        let n = least(src.len() - i, BLOCK);
-        let end = i + n;
+    for i in (0..src.len()).step_by(BLOCK) {
+        let end = i + BLOCK.min(src.len() - i);
         copy_block(&mut dst[i..], &src[i..end]);
-        i = end;
     }
 }
 
-// How many of n entries from the place `at` on stand before the ring's end.
-fn before_end(capacity: usize, at: usize, n: usize) -> usize
-    requires { at < capacity }
-    ensures { result ≡ min n (capacity - at) }
+// Puts src into the ring from the place `at` on: into the part up to the ring's end, then into the part from its start.
+fn put(ring: &mut [u8], at: usize, src: &[u8])
+    requires { (at < length ring.old) × (length src.now ≤ length ring.old) }
+    ensures { ring.new ≡ put (length ring.old) at (length src.now) src.now ring.old }
 {
-    least(n, capacity - at)
+    let first = src.len().min(ring.len() - at);
+    copy(&mut ring[at..], &src[..first]);
+    copy(ring, &src[first..]);
 }
 
-// Puts the first n bytes of src into the ring from the place `at` on: into the part up to the ring's end, then into the part before that place.
-fn put(ring: &mut [u8], capacity: usize, at: usize, src: &[u8], n: usize)
-    requires { (at < capacity) × (n ≤ capacity) × (capacity ≤ length ring.old) × (n ≤ length src.now) }
-    ensures { ring.new ≡ put capacity at n src.now ring.old }
+// Fills dst with the bytes from the place `start` on: those up to the ring's end, then those from its start.
+fn get(ring: &[u8], start: usize, dst: &mut [u8])
+    requires { (start < length ring.now) × (length dst.old ≤ length ring.now) }
+    ensures { dst.new ≡ front (length ring.now) start (length dst.old) ring.now }
 {
-    let first = before_end(capacity, at, n);
-    copy(&mut ring[at..capacity], &src[0..first]);
-    copy(&mut ring[0..at], &src[first..n]);
-}
-
-// Copies the n bytes from the place `start` on to the start of dst: those up to the ring's end, then those from its start.
-fn get(ring: &[u8], capacity: usize, start: usize, n: usize, dst: &mut [u8])
-    requires { (start < capacity) × (n ≤ capacity) × (capacity ≤ length ring.now) × (n ≤ length dst.old) }
-    ensures { dst.new ≡ paste dst.old 0 (front capacity start n ring.now) n }
-{
-    let first = before_end(capacity, start, n);
+    let first = dst.len().min(ring.len() - start);
+    let rest = dst.len() - first;
     copy(dst, &ring[start..start + first]);
-    copy(&mut dst[first..], &ring[0..n - first]);
+    copy(&mut dst[first..], &ring[..rest]);
 }
 
 // Copies the first n bytes of src into the ring from the place `at` on. What does not fit is not copied.
+// The slice, the capacity and the place come apart, as C passes them, and so in `copied_in` and `copied_out`, which ask nothing of them.
 pub fn copy_in(ring: &mut [u8], capacity: usize, at: usize, src: &[u8], n: usize)
     ensures { ring.new ≡ copied_in capacity at n src.now ring.old }
 {
-    if !fits(capacity, at, n, ring.len()) {
-        return;
+    if fits(capacity, at, n, ring.len()) && n <= src.len() {
+        put(&mut ring[..capacity], at, &src[..n]);
     }
-    if src.len() < n {
-        return;
-    }
-    put(ring, capacity, at, src, n);
 }
 
 // Copies the n bytes from the place `start` on to the start of dst. What does not fit is not copied.
 pub fn copy_out(ring: &[u8], capacity: usize, start: usize, n: usize, dst: &mut [u8])
     ensures { dst.new ≡ copied_out capacity start n ring.now dst.old }
 {
-    if !fits(capacity, start, n, ring.len()) {
-        return;
+    if fits(capacity, start, n, ring.len()) && n <= dst.len() {
+        get(&ring[..capacity], start, &mut dst[..n]);
     }
-    if dst.len() < n {
-        return;
-    }
-    get(ring, capacity, start, n, dst);
 }

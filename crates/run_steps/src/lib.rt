@@ -14,6 +14,7 @@ ghost use Rattle.socket.specs.Step.{inner_step};
 
 use definition::{Disposition, Pair, Step};
 use socket::{SocketPair, SocketStep};
+use user_answers::lookup::Buffer;
 
 pub fn create(
     kind: u32,
@@ -36,38 +37,28 @@ pub fn write(
     p: Pair,
     handle: u32,
     options: u32,
-    base: u64,
+    b: Buffer,
     memory: &mut [u8],
-    address: u64,
-    count: u64,
-    count_at: u64,
     ring: &mut [u8],
     table: &mut [u32],
 ) -> Step
-    ensures { PeerLent p handle (slices_of ring.old table.old) (slices_of ring.new table.new) (input (write handle options address count count_at) base memory.old) result memory.new }
+    ensures { PeerLent p handle (slices_of ring.old table.old) (slices_of ring.new table.new) (input (write handle options b.address b.count b.count_at) b.base memory.old) result memory.new }
 {
-    syscall::write(
-        p, handle, options, base, memory, address, count, count_at, ring, table,
-    )
+    syscall::write(p, handle, options, b, memory, ring, table)
 }
 
 pub fn read(
     p: Pair,
     handle: u32,
     options: u32,
-    base: u64,
+    b: Buffer,
     memory: &mut [u8],
-    address: u64,
-    count: u64,
-    count_at: u64,
     ring: &[u8],
     table: &[u32],
 ) -> Step
-    ensures { ReadLent p handle options address count count_at (slices_of ring.now table.now) base memory.old memory.new result }
+    ensures { ReadLent p handle options b.address b.count b.count_at (slices_of ring.now table.now) b.base memory.old memory.new result }
 {
-    syscall::read(
-        p, handle, options, base, memory, address, count, count_at, ring, table,
-    )
+    syscall::read(p, handle, options, b, memory, ring, table)
 }
 
 // The same read in its two parts: the bytes land, then the count of a done read over them. The script program makes it so.
@@ -75,23 +66,17 @@ pub fn read_in_parts(
     p: Pair,
     handle: u32,
     options: u32,
-    base: u64,
+    b: Buffer,
     memory: &mut [u8],
-    address: u64,
-    count: u64,
-    count_at: u64,
     ring: &[u8],
     table: &[u32],
 ) -> Step
-    ensures { ReadLent p handle options address count count_at (slices_of ring.now table.now) base memory.old memory.new result }
+    ensures { ReadLent p handle options b.address b.count b.count_at (slices_of ring.now table.now) b.base memory.old memory.new result }
 {
-    let r = syscall::read_bytes(
-        p, handle, options, base, memory, address, count, count_at, ring, table,
-    );
-    let a = r.answer;
-    if endpoint::answer::is_done(a) {
-        user_answers::memory::land_count(memory, base, count_at, endpoint::answer::count_of(a));
-        return r;
+    let r = syscall::read_bytes(p, handle, options, b, memory, ring, table);
+    if r.answer.is_ok() {
+        let delivered = endpoint::answer::count_of(r.answer);
+        user_answers::memory::land_count(memory, b.base, b.count_at, delivered);
     }
     r
 }

@@ -9,10 +9,9 @@ impl SocketPair {
     pub fn write(self, handle: u32, ring: &mut [u8], table: &mut [u32], bytes: &[u8]) -> SocketStep
         ensures { Writes self.inner handle bytes.now ring.old ring.new table.old table.new (inner_step result) }
     {
-        let p = self.inner;
-        let e = parts::ends_of(p);
+        let e = parts::ends_of(self.inner);
         let t = transfer::write::write_transfer(e, handle, ring, table, bytes);
         let r = transfer::write::write_outcome(e, handle, t);
-        parts::stepped(deferred::settle(p, r))
+        deferred::settle(self.inner, r).into()
     }
 }

@@ -8,6 +8,7 @@ ghost use Rattle.definition.specs.Read.{BytesRead, UserReads};
 
 use definition::{Pair, Step};
 use socket::{ends_of, settle};
+use user_answers::lookup::Buffer;
 
 mod deferred;
 
@@ -18,19 +19,16 @@ pub fn write(
     p: Pair,
     handle: u32,
     options: u32,
-    base: u64,
+    b: Buffer,
     memory: &mut [u8],
-    address: u64,
-    count: u64,
-    count_at: u64,
     ring: &mut [u8],
     table: &mut [u32],
 ) -> Step
-    ensures { UserWrites p handle base options address count count_at memory.old memory.new ring.old ring.new table.old table.new result }
+    ensures { UserWrites p handle b.base options b.address b.count b.count_at memory.old memory.new ring.old ring.new table.old table.new result }
 {
     let e = ends_of(p);
     let t = transfer::write::user_memory::write_transfer(
-        e, handle, options, base, memory, address, count, count_at, ring, table,
+        e, handle, options, b, memory, ring, table,
     );
     settle(p, transfer::write::write_outcome(e, handle, t))
 }
@@ -40,19 +38,16 @@ pub fn read_bytes(
     p: Pair,
     handle: u32,
     options: u32,
-    base: u64,
+    b: Buffer,
     memory: &mut [u8],
-    address: u64,
-    count: u64,
-    count_at: u64,
     ring: &[u8],
     table: &[u32],
 ) -> Step
-    ensures { BytesRead p handle base options address count count_at ring.now table.now memory.old memory.new result }
+    ensures { BytesRead p handle b.base options b.address b.count b.count_at ring.now table.now memory.old memory.new result }
 {
     let e = ends_of(p);
     let t = transfer::read::user_memory::read_bytes_transfer(
-        e, handle, options, base, memory, address, count, count_at, ring, table,
+        e, handle, options, b, memory, ring, table,
     );
     settle(p, transfer::read::read_outcome(e, handle, t))
 }
@@ -62,20 +57,15 @@ pub fn read(
     p: Pair,
     handle: u32,
     options: u32,
-    base: u64,
+    b: Buffer,
     memory: &mut [u8],
-    address: u64,
-    count: u64,
-    count_at: u64,
     ring: &[u8],
     table: &[u32],
 ) -> Step
-    ensures { UserReads p handle base options address count count_at ring.now table.now memory.old memory.new result }
+    ensures { UserReads p handle b.base options b.address b.count b.count_at ring.now table.now memory.old memory.new result }
 {
     let e = ends_of(p);
-    let t = transfer::read::user_memory::read_transfer(
-        e, handle, options, base, memory, address, count, count_at, ring, table,
-    );
+    let t = transfer::read::user_memory::read_transfer(e, handle, options, b, memory, ring, table);
     settle(p, transfer::read::read_outcome(e, handle, t))
 }
 

@@ -10,54 +10,40 @@ use answers::write_size::write_size;
 use definition::{Answer, Ends, Status};
 
 // The range of the bytes that a write of this size takes, then the count's.
-fn write_ranges(b: Buffer, a: Answer) -> Answer
-    ensures { result ≡ write_ranges b.base b.size b.address b.count_at a }
+fn write_ranges(b: Buffer, size: usize, a: Answer) -> Answer
+    ensures { result ≡ write_ranges b.base size b.address b.count_at a }
 {
-    if !endpoint::answer::is_done(a) {
-        return a;
-    }
+    a?;
     let m = endpoint::answer::count_of(a) as u64;
-    if !crate::memory::fits(b.base, b.size, b.address, m) {
-        return Err(Status::InvalidArgs);
-    }
-    if !crate::memory::count_fits(b.base, b.size, b.count_at) {
+    if !crate::memory::fits(b.base, size, b.address, m)
+        || !crate::memory::count_fits(b.base, size, b.count_at)
+    {
         return Err(Status::InvalidArgs);
     }
     a
 }
 
-// The tests of a write. Of the bytes, only the range of those that the write would take is tested.
+// The tests of a write over user memory of `size` bytes. Of the bytes, only the range of those that the write would take is tested.
 pub fn write_answer(
     p: Ends,
     handle: u32,
     options: u32,
     b: Buffer,
+    size: usize,
     ring: &[u8],
     table: &[u32],
 ) -> Answer
-    ensures { result ≡ user_write_answer p (lent_of p.datagram (peer (is_one handle) p).queue ring.now table.now) handle b.base b.size options b.address b.count b.count_at }
+    ensures { result ≡ user_write_answer p (lent_of p.datagram (peer (is_one handle) p).queue ring.now table.now) handle b.base size options b.address b.count b.count_at }
 {
-    let sound = sound_test(p);
-    if !endpoint::answer::is_done(sound) {
-        return sound;
-    }
+    sound_test(p)?;
     let to = endpoint::ends::peer(p, handle == 1);
     let q = to.queue;
-    let lent = slices_test(p.datagram, p.capacity, handle, q, ring, table);
-    if !endpoint::answer::is_done(lent) {
-        return lent;
-    }
-    if options != 0 {
+    slices_test(p.datagram, p.capacity, handle, q, ring, table)?;
+    if options != 0 || crate::memory::is_null(b.address, b.count) {
         return Err(Status::InvalidArgs);
     }
-    if crate::memory::is_null(b.address, b.count) {
-        return Err(Status::InvalidArgs);
-    }
-    let found = lookup(p, handle, RIGHT_WRITE);
-    if !endpoint::answer::is_done(found) {
-        return found;
-    }
+    lookup(p, handle, RIGHT_WRITE)?;
     let from = endpoint::ends::own(p, handle == 1);
     let a = write_size(p.datagram, p.capacity, from, to, b.count as usize);
-    write_ranges(b, a)
+    write_ranges(b, size, a)
 }

@@ -7,25 +7,25 @@ ghost use Rattle.endpoint.specs.ends.AtOnce.{moved_by};
 ghost use Rattle.control.specs.ByEffect.{moved_if};
 
 use crate::ends::change;
-use definition::{Endpoint, Ends};
-use endpoint::ends::{EndsOutcome, Moved, Pending};
+use definition::Ends;
+use endpoint::ends::{EndsOutcome, Moved, Pending, Sides, sides_of};
 use endpoint::signal::{PEER_CLOSED, WRITABLE};
 
 // The end that closes, and the change of an open peer: it loses WRITABLE and gains PEER_CLOSED.
-fn close_moved(one: bool, own: Endpoint, peer: Endpoint) -> Moved
-    ensures { result ≡ moved_by one (close_effect own peer) }
+fn close_moved(s: Sides) -> Moved
+    ensures { result ≡ moved_by s.one (close_effect s.own s.peer) }
 {
-    let gone = endpoint::end::into_closed(own);
-    if peer.closed {
-        return endpoint::ends::kept_ends(gone, peer);
+    let gone = endpoint::end::into_closed(s.own);
+    if s.peer.closed {
+        return endpoint::ends::kept_ends(gone, s.peer);
     }
     let first = Pending {
-        one: !one,
-        word: peer.signals,
+        one: !s.one,
+        word: s.peer.signals,
         clear: WRITABLE,
         set: PEER_CLOSED,
     };
-    change::first_only(gone, change::changed_end(peer, first), first)
+    change::first_only(gone, change::changed_end(s.peer, first), first)
 }
 
 // Closes an end: its queue is gone, and an open peer gains PEER_CLOSED. It looks at the waits wherever there are any, since it removes those of its end.
@@ -33,16 +33,11 @@ pub fn close_ends(e: Ends, handle: u32) -> EndsOutcome
     ensures { result ≡ moved_if e handle (opening_test e handle) (close_effect (own (is_one handle) e) (peer (is_one handle) e)) }
 {
     let a = answers::tests::opening_test(e, handle);
-    if !endpoint::answer::is_done(a) {
+    if a.is_err() {
         return endpoint::ends::unchanged(e, a);
     }
-    let one = handle == 1;
-    let moved = close_moved(
-        one,
-        endpoint::ends::own(e, one),
-        endpoint::ends::peer(e, one),
-    );
-    let mut r = change::put_both(e.waits, one, a, moved);
+    let s = sides_of(e, handle);
+    let mut r = change::put_both(e.waits, s.one, a, close_moved(s));
     r.fires = e.waits != 0;
     r
 }

@@ -10,7 +10,7 @@ ghost use Rattle.control.specs.ByEffect.{visit_at, changed_end, moved_if};
 use crate::ends::change;
 use definition::{Endpoint, Ends};
 use endpoint::bits::bit_if;
-use endpoint::ends::{EndsOutcome, Moved, Pending};
+use endpoint::ends::{EndsOutcome, Moved, Pending, Sides, sides_of};
 use endpoint::signal::{PEER_WRITE_DISABLED, WRITABLE, WRITE_DISABLED};
 
 // One end's change.
@@ -36,16 +36,16 @@ fn shut_end(e: Endpoint, read: bool, change: Pending) -> Endpoint
 }
 
 // This end's part, then an open peer's with both flags negated.
-fn shut_moved(one: bool, own: Endpoint, peer: Endpoint, read: bool, write: bool) -> Moved
-    ensures { result ≡ moved_by one (shut_effect own peer read write) }
+fn shut_moved(s: Sides, read: bool, write: bool) -> Moved
+    ensures { result ≡ moved_by s.one (shut_effect s.own s.peer read write) }
 {
-    let first = shut_visit(one, own.signals, read, write);
-    let next = shut_end(own, read, first);
-    if peer.closed {
-        return change::first_only(next, peer, first);
+    let first = shut_visit(s.one, s.own.signals, read, write);
+    let next = shut_end(s.own, read, first);
+    if s.peer.closed {
+        return change::first_only(next, s.peer, first);
     }
-    let second = shut_visit(!one, peer.signals, !read, !write);
-    let next_peer = shut_end(peer, !read, second);
+    let second = shut_visit(!s.one, s.peer.signals, !read, !write);
+    let next_peer = shut_end(s.peer, !read, second);
     change::with_visits(next, next_peer, first, second)
 }
 
@@ -54,16 +54,9 @@ pub fn shutdown_ends(e: Ends, handle: u32, read: bool, write: bool) -> EndsOutco
     ensures { result ≡ moved_if e handle (opening_test e handle) (shut_effect (own (is_one handle) e) (peer (is_one handle) e) read write) }
 {
     let a = answers::tests::opening_test(e, handle);
-    if !endpoint::answer::is_done(a) {
+    if a.is_err() {
         return endpoint::ends::unchanged(e, a);
     }
-    let one = handle == 1;
-    let moved = shut_moved(
-        one,
-        endpoint::ends::own(e, one),
-        endpoint::ends::peer(e, one),
-        read,
-        write,
-    );
-    change::put_both(e.waits, one, a, moved)
+    let s = sides_of(e, handle);
+    change::put_both(e.waits, s.one, a, shut_moved(s, read, write))
 }

@@ -11,9 +11,10 @@ use definition::{Answer, Endpoint, Ends};
 pub fn no_visits() -> Visits
     ensures { result ≡ no_visits }
 {
-    let first = NO_VISIT;
-    let second = NO_VISIT;
-    Visits { first, second }
+    Visits {
+        first: NO_VISIT,
+        second: NO_VISIT,
+    }
 }
 
 // Whether a change leaves the word as it is.
@@ -27,34 +28,21 @@ pub fn keeps_word(a: Pending) -> bool
 pub fn can_fire(waits: usize, v: Visits) -> bool
     ensures { result ≡ can_fire waits v }
 {
-    if waits == 0 {
-        return false;
-    }
-    let a = v.first;
-    if !keeps_word(a) {
-        return true;
-    }
-    let b = v.second;
-    !keeps_word(b)
+    waits != 0 && (!keeps_word(v.first) || !keeps_word(v.second))
 }
 
 // Whether one of all changes can.
 fn any_fires(waits: usize, v: Visits, more: Visits) -> bool
     ensures { result ≡ any_can_fire waits v more }
 {
-    if can_fire(waits, v) {
-        return true;
-    }
-    can_fire(waits, more)
+    can_fire(waits, v) || can_fire(waits, more)
 }
 
 // The caller's end and its peer, put back by the caller's handle.
 pub fn put_back(waits: usize, one: bool, answer: Answer, moved: Moved, more: Visits) -> EndsOutcome
     ensures { result ≡ outcome_of waits one answer moved more }
 {
-    let own = moved.own;
-    let peer = moved.peer;
-    let visits = moved.visits;
+    let Moved { own, peer, visits } = moved;
     EndsOutcome {
         one: end_if(one, own, peer),
         two: end_if(one, peer, own),
@@ -80,11 +68,9 @@ pub fn kept_ends(own: Endpoint, peer: Endpoint) -> Moved
 pub fn unchanged(p: Ends, answer: Answer) -> EndsOutcome
     ensures { result ≡ unchanged_ends p answer }
 {
-    let one = p.one;
-    let two = p.two;
     EndsOutcome {
-        one,
-        two,
+        one: p.one,
+        two: p.two,
         answer,
         fires: false,
         visits: no_visits(),

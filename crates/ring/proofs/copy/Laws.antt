@@ -2,7 +2,7 @@
 -- ring becomes when entries are put at its back or leave at its front. Assumes nothing.
 use Prim.Native.Nat.{ℕ, suc, ◌+◌, ◌-◌, ◌≤◌, ◌<◌, min}
 use mathlib.Core.Path.{◌≡◌, refl, sym, ap, ◌∙◌}
-use mathlib.Core.Bool.{Bool, true, false}
+use mathlib.Core.Bool.{true}
 use mathlib.Core.List.{List, [], ◌∷◌, ◌++◌, append_assoc}
 use native.Mathlib.Omega.{arith}
 use native.Mathlib.Nat.{zero-sub, zero-min}
@@ -13,6 +13,7 @@ use lib.Seq.{paste, paste-zero, length-paste, get_or-take, get_or-drop, take-tak
 use borrow.Author.Tests.{lt-ltb, le-leb, ltb-true, leb-true}
 use Rattle.definition.specs.Status.{pick, ◌and◌}
 use Rattle.definition.specs.Ring.{position, front, put}
+use Rattle.endpoint.proofs.answer.Chains.{both}
 use Rattle.ring.proofs.place.Laws.{place_low, place_high}
 use Rattle.ring.specs.copy.Copies.{ring_fits, copied_in, copied_out}
 use Rattle.ring.proofs.copy.Lists.{split, ext, get_or-right, take_part, paste-before, paste_in, paste-after}
@@ -247,22 +248,9 @@ copied_out_lem C start n ring dst low room long has = simp (lt-ltb start C low, 
 
 -- what it says that entries fit
 
-and_left : (a b : Bool) → (a and b) ≡ true → a ≡ true
-unfolding ◌and◌
-and_left true b e = refl
-and_left false b e = e
-
-and_right : (a b : Bool) → (a and b) ≡ true → b ≡ true
-unfolding ◌and◌
-and_right true b e = e
-and_right false true e = refl
-and_right false false e = e
-
 pub fits_facts : (C at n size : ℕ) → ring_fits C at n size ≡ true → (at < C) × (n ≤ C) × (C ≤ size)
 unfolding ring_fits
 fits_facts C at n size e =
-    let rest : (leb n C and leb C size) ≡ true = and_right (ltb at C) (leb n C and leb C size) e in (
-      ltb-true at C (and_left (ltb at C) (leb n C and leb C size) e),
-      leb-true n C (and_left (leb n C) (leb C size) rest),
-      leb-true C size (and_right (leb n C) (leb C size) rest),
-    )
+    let first = both (ltb at C) (leb n C and leb C size) e in
+    let rest = both (leb n C) (leb C size) first.1 in
+    (ltb-true at C first.0, leb-true n C rest.0, leb-true C size rest.1)

@@ -4,7 +4,7 @@ use mathlib.Core.Path.{◌≡◌, refl, sym, ap, ◌∙◌, subst}
 use mathlib.Core.List.{List, [], ◌∷◌, ◌++◌, append_assoc}
 use native.Mathlib.Omega.{arith}
 use native.Mathlib.Decide.{dec_le}
-use native.Mathlib.Nat.{lt_of_not-le, le_refl, zero-add, sub-zero}
+use native.Mathlib.Nat.{lt_of_not-le, le_refl, zero-add}
 use lib.ListN.{length, get_or, take, drop, length-append, length-take, length-drop, get_or-append, take-append-drop}
 use lib.Seq.{paste, drop-append-le, take-append-le, get_or-take, get_or-drop, get_or-append-add, ext_get_or, take-length, take-add, take-append_seam, drop-append-add, take-paste, drop-paste, take-take, drop-drop}
 
@@ -52,13 +52,11 @@ module _ {A : Type 0} where
         ∙ get_or-drop (at + n) l (i - length (take at l ++ take n xs)) d
         ∙ ap (λ (k : ℕ). get_or l k d) (let e : at + n + (i - length (take at l ++ take n xs)) ≡ i = omega (arith, head_length_lem) in e)
 
-  -- a copy through a list z that is long enough: xs is the part of z after the first copy, and ys the part of l after the second
-  pub copied_through : (z s l xs ys : List A) → length s ≤ length z → xs ≡ s
-      → ys ≡ take (length s - 0) (drop 0 (take 0 z ++ (xs ++ drop (length s - 0) (drop 0 z))))
-      → ys ++ drop (length s - 0) l ≡ paste l 0 s (length s)
-  copied_through z s l xs ys fits first f =
-      let second : ys ≡ s = f ∙ simp (first, sub-zero, take-append_seam) in
-      simp (second, sub-zero, take-length, zero-add)
+  -- a copy through a list z: xs is the part of z after the first copy, and ys the part of l after the second
+  pub copied_through : (z s l xs ys : List A) → xs ≡ s → ys ≡ take (length s) (xs ++ drop (length s) z) → ys ++ drop (length s) l ≡ paste l 0 s (length s)
+  copied_through z s l xs ys first f =
+      let second : ys ≡ s = f ∙ simp (first, take-append_seam) in
+      simp (second, take-length, zero-add)
 
   -- a part of a list past its first k entries, with what stands behind the part
   drop_part : (k n : ℕ) (l : List A) → k ≤ n → n ≤ length l → drop k (take n l) ++ drop n l ≡ drop k l

@@ -1,75 +1,100 @@
--- What the two copies of the code leave, as `put` and `front` say it. k is the length of the first part, up to the ring's end; where the end is not
--- passed the second part is empty. Assumes nothing.
+-- What the two copies of the code leave, as `put` and `front` say it, in a ring that is a whole list and in one that is the first C entries of a
+-- list. k is the length of the first part, up to the ring's end; where the end is not passed the second part is empty. Assumes nothing.
 use Prim.Native.Nat.{ℕ, ◌+◌, ◌-◌, ◌≤◌, ◌<◌, min}
-use mathlib.Core.Path.{◌≡◌, sym, ap, ◌∙◌}
-use mathlib.Core.List.{List, ◌++◌}
+use mathlib.Core.Path.{◌≡◌, refl, sym, ap, ◌∙◌}
+use mathlib.Core.List.{List, ◌++◌, append_assoc, append-nil}
 use native.Mathlib.Omega.{arith}
-use native.Mathlib.Nat.{sub-zero}
-use lib.ListN.{length, take, drop, length-take, length-drop}
-use lib.Seq.{paste, length-paste}
+use native.Mathlib.Nat.{zero-add}
+use lib.ListN.{length, take, drop, length-take, length-append, length-drop, take-append-drop}
+use lib.Seq.{paste, length-paste, take_all, take-length, drop-length, take-take, take-append-le, drop-append-le}
 use Rattle.definition.specs.Ring.{front, put}
-use Rattle.ring.proofs.copy.Lists.{copied_part, paste_part, paste-both}
-use Rattle.ring.proofs.copy.Laws.{length_front}
+use Rattle.ring.proofs.copy.Lists.{copied_part, paste_part, paste-both, take_part}
+use Rattle.ring.proofs.copy.Laws.{fits_facts, length_front, put-take}
 
-pasted_in : {A : Type 0} (C at n k : ℕ) (xs ring : List A) → n ≤ length xs → k ≡ min n (C - at)
-    → paste (paste ring at (take (k - 0) (drop 0 xs)) (length (take (k - 0) (drop 0 xs)))) 0 (take (n - k) (drop k xs)) (length (take (n - k) (drop k xs)))
-    ≡ put C at n xs ring
-unfolding put
-pasted_in {A} C at n k xs ring has e =
-    let rest : n - (C - at) ≡ n - k = omega arith in
-    paste_part (paste ring at (take (k - 0) (drop 0 xs)) (length (take (k - 0) (drop 0 xs)))) 0 xs k (n - k) (omega arith)
-    ∙ ap (λ (r : List A). paste r 0 (drop k xs) (n - k)) (paste_part ring at xs 0 (k - 0) (omega arith) ∙ ap (paste ring at xs) (sub-zero k))
-    ∙ rw (rest, ← e)
+-- ---- in a whole list
 
--- a copy into each part of the ring: y is the part up to the ring's end after the first copy, m the ring then, and z the part before `at` after
--- the second
-pub put_parts : {A : Type 0} (C at n k : ℕ) (xs ring y z : List A) → at < C → n ≤ C → C ≤ length ring → n ≤ length xs → k ≡ min n (C - at)
-    → y ≡ paste (take (C - at) (drop at ring)) 0 (take (k - 0) (drop 0 xs)) (length (take (k - 0) (drop 0 xs)))
+-- a copy over a whole list
+paste_whole : {A : Type 0} (l xs : List A) → length xs ≡ length l → paste l 0 xs (length xs) ≡ xs
+paste_whole l xs e = rw (take-length, e, zero-add, drop-length) (append-nil xs)
+
+-- a copy into each part of the ring: y is the part from `at` on after the first copy, and z the ring after the second
+pub put_parts : {A : Type 0} (at k : ℕ) (xs ring y z : List A) → at < length ring → length xs ≤ length ring → k ≡ min (length xs) (length ring - at)
+    → y ≡ paste (take (length ring - at) (drop at ring)) 0 (take k xs) (length (take k xs))
     → z
-    ≡ paste (take (at - 0) (drop 0 (take at ring ++ (y ++ drop (C - at) (drop at ring))))) 0 (take (n - k) (drop k xs)) (length (take (n - k) (drop k xs)))
-    → z ++ drop (at - 0) (drop 0 (take at ring ++ (y ++ drop (C - at) (drop at ring)))) ≡ put C at n xs ring
-put_parts {A} C at n k xs ring y z low room long has e f g =
-    let us : List A = take (k - 0) (drop 0 xs) in
-    let vs : List A = take (n - k) (drop k xs) in
-    let lu : length us ≡ k = simp (length-take, length-drop) (omega arith) in
-    let lv : length vs ≡ n - k = simp (length-take, length-drop) (omega arith) in
-    let m : List A = take at ring ++ (y ++ drop (C - at) (drop at ring)) in
-    let first : m ≡ paste ring at us (length us) = copied_part ring us y at (C - at) (length us) (omega (arith, lu)) (omega arith) f in
-    let same : length m ≡ length ring = ap length first ∙ length-paste ring at us (length us) (omega (arith, lu)) (omega arith) in
-    copied_part m vs z 0 (at - 0) (length vs) (omega (arith, lv)) (omega (arith, same)) g
+    ≡ paste (take at ring ++ (y ++ drop (length ring - at) (drop at ring))) 0 (take (length xs - k) (drop k xs)) (length (take (length xs - k) (drop k xs)))
+    → z ≡ put (length ring) at (length xs) xs ring
+unfolding put
+put_parts {A} at k xs ring y z low room e f g =
+    let us : List A = take k xs in
+    let vs : List A = take (length xs - k) (drop k xs) in
+    let rest : length xs - (length ring - at) ≡ length xs - k = omega arith in
+    let first : take at ring ++ (y ++ drop (length ring - at) (drop at ring)) ≡ paste ring at xs k
+    = copied_part ring us y at (length ring - at) (length us) (simp length-take (omega arith)) (omega arith) f ∙ paste_part ring at xs 0 k (omega arith) in
+    g
     ∙ ap (λ (r : List A). paste r 0 vs (length vs)) first
-    ∙ pasted_in C at n k xs ring has e
+    ∙ paste_part (paste ring at xs k) 0 xs k (length xs - k) (omega arith)
+    ∙ rw (rest, ← e) refl
 
-module _ {A : Type 0} (C s n k : ℕ) (ring dst : List A) (low : s < C) (room : n ≤ C) (long : C ≤ length ring) where
-  -- a copy of the entries from the place s on, whatever parts they were put together of
-  whole : (us : List A) → us ≡ front C s n ring → paste dst 0 us (length us) ≡ paste dst 0 (front C s n ring) n
-  whole us e = rw e (ap (paste dst 0 (front C s n ring)) (length_front C s n ring low room long))
+-- a copy out of each part of the ring: y is dst after the first copy, and z the part of it from k on after the second
+pub get_parts : {A : Type 0} (s k : ℕ) (ring dst y z : List A) → s < length ring → length dst ≤ length ring → k ≡ min (length dst) (length ring - s)
+    → y ≡ paste dst 0 (take (s + k - s) (drop s ring)) (length (take (s + k - s) (drop s ring)))
+    → z ≡ paste (take (length y - k) (drop k y)) 0 (take (length dst - k) ring) (length (take (length dst - k) ring))
+    → take k y ++ (z ++ drop (length y - k) (drop k y)) ≡ front (length ring) s (length dst) ring
+unfolding front
+get_parts {A} s k ring dst y z low room e f g =
+    let us : List A = take (s + k - s) (drop s ring) in
+    let vs : List A = take (length dst - k) ring in
+    let lu : length us ≡ k = simp (length-take, length-drop) (omega arith) in
+    let lv : length vs ≡ length dst - k = simp length-take (omega arith) in
+    let same : length y ≡ length dst = ap length f ∙ length-paste dst 0 us (length us) (omega (arith, lu)) (omega arith) in
+    let first : s + k - s ≡ k = omega arith in
+    let rest : length dst - (length ring - s) ≡ length dst - k = omega arith in
+    copied_part y vs z k (length y - k) (length vs) (omega (arith, lv, same)) (omega (arith, same)) g
+    ∙ ap (λ (r : List A). paste r k vs (length vs)) f
+    ∙ ap (λ (j : ℕ). paste (paste dst 0 us (length us)) j vs (length vs)) (sym lu)
+    ∙ paste-both dst us vs
+    ∙ paste_whole dst (us ++ vs) (length-append us vs ∙ omega (arith, lu, lv))
+    ∙ rw (first, rest, ← e) refl
 
-  pasted_out : k ≡ min n (C - s)
-      → paste (paste dst 0 (take (s + k - s) (drop s ring)) (length (take (s + k - s) (drop s ring)))) k (take (n - k - 0) (drop 0 ring)) (length (take (n - k - 0) (drop 0 ring)))
-      ≡ paste dst 0 (front C s n ring) n
+-- ---- in the first entries of a list
+
+-- entries put before what stands behind
+paste-append : {A : Type 0} (a b : List A) (at : ℕ) (xs : List A) (n : ℕ) → at + n ≤ length a → paste (a ++ b) at xs n ≡ paste a at xs n ++ b
+paste-append a b at xs n h =
+    rw (take-append-le at a b (omega arith), drop-append-le (at + n) a b h) (sym (append_assoc (take at a ++ take n xs) (drop (at + n) a) b))
+
+put-append : {A : Type 0} (C at n : ℕ) (xs a b : List A) → at < C → n ≤ C → C ≤ length a → n ≤ length xs → put C at n xs a ++ b ≡ put C at n xs (a ++ b)
+unfolding put
+put-append {A} C at n xs a b low room long has =
+    let k : ℕ = min n (C - at) in
+    let l : length (paste a at xs k) ≡ length a = length-paste a at xs k (omega arith) (omega arith) in
+    sym (paste-append (paste a at xs k) b 0 (drop k xs) (n - (C - at)) (omega (arith, l)))
+    ∙ ap (λ (r : List A). paste r 0 (drop k xs) (n - (C - at))) (sym (paste-append a b at xs k (omega arith)))
+
+module _ {A : Type 0} (C s n : ℕ) (ring : List A) (low : s < C) (room : n ≤ C) (long : C ≤ length ring) where
+  whole : length (take C ring) ≡ C
+  whole = simp length-take (omega arith)
+
+  -- y is the ring after the first n of xs are put into it
+  pub put_within : (xs y : List A) → n ≤ length xs → y ≡ put (length (take C ring)) s (length (take n xs)) (take n xs) (take C ring)
+      → y ++ drop C ring ≡ put C s n xs ring
+  put_within xs y has e =
+      let l : length (take n xs) ≡ n = simp length-take (omega arith) in
+      ap (λ (r : List A). r ++ drop C ring) (e ∙ rw (whole, l) (put-take C s n xs (take C ring) has))
+      ∙ put-append C s n xs (take C ring) (drop C ring) low room (omega (arith, whole)) has
+      ∙ ap (put C s n xs) (take-append-drop C ring)
+
+  front_within : front C s n (take C ring) ≡ front C s n ring
   unfolding front
-  pasted_out e =
-      let us : List A = take (s + k - s) (drop s ring) in
-      let vs : List A = take (n - k - 0) (drop 0 ring) in
-      let l : length us ≡ k = simp (length-take, length-drop) (omega arith) in
-      let first : s + k - s ≡ k = omega arith in
-      let rest : n - (C - s) ≡ n - k = omega arith in
-      ap (λ (j : ℕ). paste (paste dst 0 us (length us)) j vs (length vs)) (sym l)
-      ∙ paste-both dst us vs
-      ∙ whole (us ++ vs) (rw (first, rest, ← e, sub-zero))
+  front_within = rw (take_part (min n (C - s)) s C ring (omega arith) long, take-take (n - (C - s)) C ring (omega arith)) refl
 
-  -- a copy out of each part of the ring: y is dst after the first copy, and z the part of it from k on after the second
-  pub get_parts : (y z : List A) → n ≤ length dst → k ≡ min n (C - s)
-      → y ≡ paste dst 0 (take (s + k - s) (drop s ring)) (length (take (s + k - s) (drop s ring)))
-      → z ≡ paste (take (length y - k) (drop k y)) 0 (take (n - k - 0) (drop 0 ring)) (length (take (n - k - 0) (drop 0 ring)))
-      → take k y ++ (z ++ drop (length y - k) (drop k y)) ≡ paste dst 0 (front C s n ring) n
-  get_parts y z has e f g =
-      let us : List A = take (s + k - s) (drop s ring) in
-      let vs : List A = take (n - k - 0) (drop 0 ring) in
-      let lu : length us ≡ k = simp (length-take, length-drop) (omega arith) in
-      let lv : length vs ≡ n - k = simp (length-take, length-drop) (omega arith) in
-      let same : length y ≡ length dst = ap length f ∙ length-paste dst 0 us (length us) (omega (arith, lu)) (omega arith) in
-      copied_part y vs z k (length y - k) (length vs) (omega (arith, lv, same)) (omega (arith, same)) g
-      ∙ ap (λ (r : List A). paste r k vs (length vs)) f
-      ∙ pasted_out e
+  -- y is the first n of dst after the copy
+  pub get_within : (dst y : List A) → n ≤ length dst → y ≡ front (length (take C ring)) s (length (take n dst)) (take C ring)
+      → y ++ drop n dst ≡ paste dst 0 (front C s n ring) n
+  get_within dst y has e =
+      let l : length (take n dst) ≡ n = simp length-take (omega arith) in
+      let f : y ≡ front C s n ring = e ∙ rw (whole, l) front_within in
+      let all : take n (front C s n ring) ≡ front C s n ring = take_all n (front C s n ring) (omega (arith, length_front C s n ring low room long)) in
+      rw (f, all, zero-add) refl
+
+pub ruleset fitting = (fits_facts, length-take)

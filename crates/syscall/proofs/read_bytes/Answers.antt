@@ -6,6 +6,6 @@ pub returns : goal.returns
 returns c =
     let a = c.args in
     rw (c.settle.ensures, c.read_outcome.ensures)
-    (bytes_whole a.p a.handle a.base a.options a.address a.count a.count_at _ _ (places_128 a.p _ c.well_formed.0)
+    (bytes_whole a.p a.handle a.b.base a.options a.b.address a.b.count a.b.count_at _ _ (places_128 a.p _ c.well_formed.0)
     c.ends_of-e.ensures.ends a.ring.now a.table.now a.memory.now _
     c.read_bytes_transfer-t.ensures)

@@ -4,7 +4,7 @@ ghost use Rattle.std.specs.Prelude.{◌≡◌};
 ghost use Rattle.transfer.specs.read.user_memory.UserRead.{UserBytesRead, UserRead};
 
 use crate::change::{Transfer, kept};
-use crate::read::{deliver, drain_transfer};
+use crate::read::{deliver, drain};
 use definition::Ends;
 use user_answers::lookup::Buffer;
 use user_answers::memory::land_count;
@@ -15,40 +15,28 @@ pub fn read_bytes_transfer(
     p: Ends,
     handle: u32,
     options: u32,
-    base: u64,
+    b: Buffer,
     memory: &mut [u8],
-    address: u64,
-    count: u64,
-    count_at: u64,
     ring: &[u8],
     table: &[u32],
 ) -> Transfer
-    ensures { UserBytesRead p handle base options address count count_at ring.now table.now
+    ensures { UserBytesRead p handle b.base options b.address b.count b.count_at ring.now table.now
         memory.old memory.new result }
 {
-    let size = memory.len();
-    let b = Buffer {
-        base,
-        size,
-        address,
-        count,
-        count_at,
-    };
-    let a = user_answers::read::read_answer(p, handle, options, b, ring, table);
-    let k = endpoint::answer::count_of(a);
-    let one = handle == 1;
-    let own = endpoint::ends::own(p, one);
-    let peer = endpoint::ends::peer(p, one);
-    let q = own.queue;
+    let answer = user_answers::read::read_answer(p, handle, options, b, memory.len(), ring, table);
+    let k = endpoint::answer::count_of(answer);
     if k == 0 {
-        return kept(q, a);
+        return kept(answer);
     }
+    let one = handle == 1;
+    let q = endpoint::ends::own(p, one).queue;
     let first = endpoint::end::first_length(q, p.datagram, table);
-    let from = (address - base) as usize;
+    let from = (b.address - b.base) as usize;
     let to = from + k as usize;
     deliver(p.capacity, q.bytes.start, k, ring, &mut memory[from..to]);
     let peek = options == SOCKET_PEEK;
-    drain_transfer(p.datagram, p.capacity, own, peer, a, peek, first, k)
+    let change = drain(p, one, peek, first, k);
+    Transfer { change, answer }
 }
 
 // The same with its count, which lands over the bytes.
@@ -56,23 +44,22 @@ pub fn read_transfer(
     p: Ends,
     handle: u32,
     options: u32,
-    base: u64,
+    b: Buffer,
     memory: &mut [u8],
-    address: u64,
-    count: u64,
-    count_at: u64,
     ring: &[u8],
     table: &[u32],
 ) -> Transfer
-    ensures { UserRead p handle base options address count count_at ring.now table.now
+    ensures { UserRead p handle b.base options b.address b.count b.count_at ring.now table.now
         memory.old memory.new result }
 {
-    let t = read_bytes_transfer(
-        p, handle, options, base, memory, address, count, count_at, ring, table,
-    );
-    let a = t.answer;
-    if endpoint::answer::is_done(a) {
-        land_count(memory, base, count_at, endpoint::answer::count_of(a));
+    let t = read_bytes_transfer(p, handle, options, b, memory, ring, table);
+    if t.answer.is_ok() {
+        land_count(
+            memory,
+            b.base,
+            b.count_at,
+            endpoint::answer::count_of(t.answer),
+        );
     }
     t
 }

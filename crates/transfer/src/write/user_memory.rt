@@ -12,11 +12,11 @@ use user_answers::lookup::Buffer;
 use user_answers::memory::land_count;
 
 // Lands the count 0 of a call that moves no bytes, if it is done.
-fn land_none(memory: &mut [u8], base: u64, count_at: u64, answer: Answer)
-    ensures { memory.new ≡ pick (is_done answer) (count_put base count_at 0 memory.old) memory.old }
+fn land_none(memory: &mut [u8], b: Buffer, answer: Answer)
+    ensures { memory.new ≡ pick (is_done answer) (count_put b.base b.count_at 0 memory.old) memory.old }
 {
-    if endpoint::answer::is_done(answer) {
-        land_count(memory, base, count_at, 0);
+    if answer.is_ok() {
+        land_count(memory, b.base, b.count_at, 0);
     }
 }
 
@@ -25,38 +25,33 @@ pub fn write_transfer(
     p: Ends,
     handle: u32,
     options: u32,
-    base: u64,
+    b: Buffer,
     memory: &mut [u8],
-    address: u64,
-    count: u64,
-    count_at: u64,
     ring: &mut [u8],
     table: &mut [u32],
 ) -> Transfer
-    ensures { UserWrote p handle base options address count count_at memory.old memory.new
+    ensures { UserWrote p handle b.base options b.address b.count b.count_at memory.old memory.new
         ring.old ring.new table.old table.new result }
 {
-    let size = memory.len();
-    let b = Buffer {
-        base,
-        size,
-        address,
-        count,
-        count_at,
-    };
-    let a = user_answers::write::write_answer(p, handle, options, b, ring, table);
-    let m = endpoint::answer::count_of(a);
-    let one = handle == 1;
-    let own = endpoint::ends::own(p, one);
-    let peer = endpoint::ends::peer(p, one);
-    let q = peer.queue;
+    let answer = user_answers::write::write_answer(
+        p,
+        handle,
+        options,
+        b,
+        memory.len(),
+        ring,
+        table,
+    );
+    let m = endpoint::answer::count_of(answer);
     if m == 0 {
-        land_none(memory, base, count_at, a);
-        return kept(q, a);
+        land_none(memory, b, answer);
+        return kept(answer);
     }
-    let from = (address - base) as usize;
+    let one = handle == 1;
+    let from = (b.address - b.base) as usize;
     let to = from + m as usize;
-    feed(p.datagram, p.capacity, q, m, &memory[from..to], ring, table);
-    land_count(memory, base, count_at, m);
-    fed(p.datagram, p.capacity, own, peer, a, m)
+    feed(p, one, m, &memory[from..to], ring, table);
+    land_count(memory, b.base, b.count_at, m);
+    let change = Some(fed(p, one, m));
+    Transfer { change, answer }
 }

@@ -4,5 +4,5 @@ use Rattle.control.proofs.disposition.disposed_ends.Goals as goal
 
 pub returns : goal.returns
 returns c =
-    (rw (c.peer_moved-n.ensures, c.own_moved-m.ensures, c.own.ensures, c.peer.ensures) at c.put_back.ensures)
+    (rw (c.peer_moved-n.ensures, c.own_moved-m.ensures) at c.put_back.ensures)
     ∙ disposed_by _ _ _ _ _ _ _

@@ -1,34 +1,13 @@
-use mathlib.Core.Path.{refl, sym}
 use native.Mathlib.Omega.{arith}
 use lib.ListN.{length}
-use borrow.Author.Tests.{le-leb, lt-leb}
-use Rattle.endpoint.proofs.answer.Rules.{pick-on, pick_off, and-on, and_off, via_not, via_not-not}
-use Rattle.ring.specs.copy.Copies.{copied_in}
-use Rattle.ring.proofs.copy.Laws.{fits_facts}
+use Rattle.endpoint.proofs.answer.Rules.{via}
+use Rattle.ring.proofs.copy.Laws.{fits_facts, copied_in_lem}
+use Rattle.ring.proofs.copy.Parts.{put_within}
 use Rattle.ring.proofs.copy.copy_in.Goals as goal
 
-pub returns-then-not-fits : goal.returns-then-not-fits
-unfolding copied_in
-returns-then-not-fits c = pick_off _ _ _ _ _ (sym (and_off _ _ (via_not c.fits.ensures c.if-not-fits.true-raw))) refl
-
-pub returns-then-src-n : goal.returns-then-src-n
-unfolding copied_in
-returns-then-src-n c =
-    let fit = via_not-not c.fits.ensures c.if-not-fits.false-raw in
-    pick_off _ _ _ _ _ (sym (and-on _ _ _ fit (sym (lt-leb _ _ c.if-src-n.true)))) refl
-
-pub put-requires : goal.put-requires
-put-requires c =
+pub returns-then-n-src : goal.returns-then-n-src
+returns-then-n-src c =
     let a = c.args in
-    let fit = via_not-not c.fits.ensures c.if-not-fits.false-raw in
-    let f = fits_facts a.capacity a.at a.n (length a.ring.now) fit in
-    omega arith
-
-pub returns : goal.returns
-unfolding copied_in
-returns c =
-    let a = c.args in
-    let fit = via_not-not c.fits.ensures c.if-not-fits.false-raw in
-    let f = fits_facts a.capacity a.at a.n (length a.ring.now) fit in
-    pick-on _ _ _ _ _ (sym (and-on _ _ _ fit (sym (le-leb _ _ c.if-src-n.false))))
-    c.put.ensures
+    let f = fits_facts a.capacity a.at a.n (length a.ring.now) (via c.fits.ensures c.if-fits.true) in
+    rw (copied_in_lem a.capacity a.at a.n a.src.now a.ring.now f.0 f.1 f.2 (omega arith))
+    (put_within a.capacity a.at a.n a.ring.now f.0 f.1 f.2 a.src.now _ (omega arith) c.put.ensures)

@@ -5,5 +5,4 @@ use Rattle.ring.proofs.copy.get.Goals as goal
 pub returns : goal.returns
 returns c =
     let a = c.args in
-    get_parts a.capacity a.start a.n _ a.ring.now a.dst.now (omega arith) (omega arith) (omega arith) _ _ (omega arith)
-    c.before_end-first.ensures c.copy.ensures c.copy-2.ensures
+    get_parts a.start _ a.ring.now a.dst.now _ _ (omega arith) (omega arith) c.min-first.ensures c.copy.ensures c.copy-2.ensures
