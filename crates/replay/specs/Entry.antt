@@ -1,7 +1,6 @@
 -- The stored entries: where they lie in the input, and whether a stored listing agrees with that of its script. Of 01 it uses the listing of "Script
 -- program" alone.
-use Rattle.std.specs.Prelude.{ℕ, ◌+◌, ◌≤◌, ◌<◌, ◌-◌, List, ◌≡◌, length, take, drop, get_or}
-use Rattle.std.specs.Prelude.{Option}
+use Rattle.std.specs.Prelude.{ℕ, ◌+◌, ◌≤◌, ◌<◌, ◌-◌, List, ◌≡◌, length, take, drop, get_or, Option}
 use Rattle.std.specs.declared.option.Option.TheVariants.{None, Some}
 use Rattle.std.specs.declared.result.Result.TheVariants.{Ok, Err}
 use Rattle.replay.specs.declared.entry.Entry.{Entry}

@@ -1,8 +1,7 @@
 -- The stored entries run and counted, the first that does not agree, and the report in the buffer. It stands for no paragraph of 01.
-use Rattle.std.specs.Prelude.{ℕ, ◌-◌, ◌+◌, ◌≤◌, ◌<◌, List, ◌≡◌, take, drop, length, ltb, eqb}
+use Rattle.std.specs.Prelude.{ℕ, ◌-◌, ◌+◌, ◌≤◌, ◌<◌, List, ◌≡◌, take, drop, length, ltb, eqb, Option, []}
 use Rattle.report.specs.declared.tally.Tally.{Tally}
 use Rattle.report.specs.declared.tally.MissedEntry.{MissedEntry}
-use Rattle.std.specs.Prelude.{Option, []}
 use Rattle.std.specs.declared.option.Option.TheVariants.{None, Some}
 use Rattle.std.specs.declared.result.Result.TheVariants.{Err}
 use Rattle.replay.specs.declared.entry.Replayed.{Replayed}

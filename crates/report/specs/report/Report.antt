@@ -1,7 +1,6 @@
 -- What the program `replay` prints of its tally. It stands for no paragraph of 01. A comment has the words whose bytes a definition has; each line ends
 -- with 10, a newline.
-use Rattle.std.specs.Prelude.{ℕ, List, ◌++◌, [], ◌∷◌, Bool}
-use Rattle.std.specs.Prelude.{Option}
+use Rattle.std.specs.Prelude.{ℕ, List, ◌++◌, [], ◌∷◌, Bool, Option}
 use Rattle.std.specs.declared.option.Option.TheVariants.{None, Some}
 use Rattle.report.specs.declared.tally.Miss.{Miss}
 use Rattle.report.specs.declared.tally.Miss.TheVariants.{DiffersAt, NoRoom}
