@@ -21,7 +21,9 @@ fn datagram_size(capacity: u32, space: u32, n: usize) -> Answer
     Ok(Record::Count(n as u32))
 }
 
-// How many bytes a write of n bytes takes. A full queue comes before an oversized datagram.
+// How many bytes a write of n bytes takes. A full queue comes before an oversized datagram. It is inlined into both its callers, the
+// write and the write over user memory, so that neither passes its two ends on.
+#[inline(always)]
 pub fn write_size(datagram: bool, capacity: u32, own: Endpoint, peer: Endpoint, n: usize) -> Answer
     ensures { result ≡ write_size datagram capacity own peer n }
 {

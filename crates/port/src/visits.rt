@@ -44,7 +44,8 @@ pub fn visited(t: Places, a: Pending) -> Places
     change(t, a).places
 }
 
-// Visits the waits of all changes of a call.
+// Visits the waits of all changes of a call. It is inlined where it is called: as a function of its own it copies the table once more.
+#[inline(always)]
 pub fn visited_all(t: Places, r: EndsOutcome) -> Places
     ensures { result ≡ visited_each r t }
 {

@@ -30,9 +30,10 @@ pub fn cancelled(p: Pair, handle: u32, key: u64) -> Step
 {
     let opened = answers::tests::opening_test(parts::ends_of(p), handle);
     let left = port::cancel::cancelled(p.places, opened.is_ok(), handle == 1, key);
+    let answer = cancel_answer(opened, left.removed);
     Step {
         pair: parts::with_places(p, left.places),
-        answer: cancel_answer(opened, left.removed),
+        answer,
     }
 }
 
