@@ -44,16 +44,16 @@ pub fn visited(t: Places, a: Pending) -> Places
     change(t, a).places
 }
 
-// Visits the waits of all changes of a call. It is inlined where it is called: as a function of its own it copies the table once more.
+// Visits the waits of all changes of a call. They stand one by one: gone over as an array they take a twentieth longer. It is inlined where it is
+// called: as a function of its own it copies the table once more.
 #[inline(always)]
 pub fn visited_all(t: Places, r: EndsOutcome) -> Places
     ensures { result ≡ visited_each r t }
 {
-    let mut u = t;
-    for a in changes(r) {
-        u = visited(u, a);
-    }
-    u
+    let mut u = visited(t, r.visits.first);
+    u = visited(u, r.visits.second);
+    u = visited(u, r.more.first);
+    visited(u, r.more.second)
 }
 
 // Visits the waits of all changes of a call, in a table whose only place used is a wait. Any other table stays as it is.
