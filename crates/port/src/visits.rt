@@ -56,13 +56,13 @@ pub fn visited_all(t: Places, r: EndsOutcome) -> Places
     visited(u, r.more.second)
 }
 
-// Visits the waits of all changes of a call, in a table whose only place used is a wait. Any other table stays as it is.
+// Visits the waits of all changes of a call, in a table whose only place used is a wait. Any other table stays as it is. The four stand one by one:
+// in a loop the table is copied once more.
 pub fn visited_alone(t: Places, r: EndsOutcome) -> Places
     ensures { result ≡ pick (only_wait t) (visited_each r t) t }
 {
-    let mut u = t;
-    for a in changes(r) {
-        u = only_visited(u, a);
-    }
-    u
+    let mut u = only_visited(t, r.visits.first);
+    u = only_visited(u, r.visits.second);
+    u = only_visited(u, r.more.first);
+    only_visited(u, r.more.second)
 }

@@ -17,7 +17,9 @@ use definition::{Answer, Pair, Record, Status, Step};
 fn cancel_answer(opened: Answer, removed: u32) -> Answer
     ensures { result ≡ (opened then refuse_if (eqb removed 0) NotFound then Ok (Count removed)) }
 {
-    opened?;
+    if opened.is_err() {
+        return opened;
+    }
     if removed == 0 {
         return Err(Status::NotFound);
     }
@@ -30,10 +32,9 @@ pub fn cancelled(p: Pair, handle: u32, key: u64) -> Step
 {
     let opened = answers::tests::opening_test(parts::ends_of(p), handle);
     let left = port::cancel::cancelled(p.places, opened.is_ok(), handle == 1, key);
-    let answer = cancel_answer(opened, left.removed);
     Step {
         pair: parts::with_places(p, left.places),
-        answer,
+        answer: cancel_answer(opened, left.removed),
     }
 }
 

@@ -14,11 +14,10 @@ use endpoint::choice::pick;
 fn end_if(made: bool, rights: u32) -> Endpoint
     ensures { result ≡ pick made (new_end (held_rights rights)) no_end }
 {
-    pick(
-        made,
-        endpoint::end::new_end(held_rights(rights)),
-        endpoint::end::no_end(),
-    )
+    if made {
+        return endpoint::end::new_end(held_rights(rights));
+    }
+    endpoint::end::no_end()
 }
 
 // A new pair, or the record of a refused create. Both are put together by the same statements, so that the compiler fills the table where it is to stand.

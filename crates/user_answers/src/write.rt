@@ -14,7 +14,9 @@ use definition::{Answer, Ends, Status};
 fn write_ranges(b: Buffer, size: usize, a: Answer) -> Answer
     ensures { result ≡ write_ranges b.base size b.address b.count_at a }
 {
-    a?;
+    if a.is_err() {
+        return a;
+    }
     let m = endpoint::answer::count_of(a) as u64;
     if !crate::memory::fits(b.base, size, b.address, m)
         || !crate::memory::count_fits(b.base, size, b.count_at)

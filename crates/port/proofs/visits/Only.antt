@@ -59,7 +59,7 @@ few_only a t (l, inr o) = on-pick (only_wait t) (visited a t) t o
 abbrev pub only : Pending → Places → Places
 only a t = pick (only_wait t) (visited a t) t
 
-only_each : (r : EndsOutcome) (t : Places) → length t.table ≡ 128
+pub only_each : (r : EndsOutcome) (t : Places) → length t.table ≡ 128
     → only r.more.second (only r.more.first (only r.visits.second (only r.visits.first t))) ≡ pick (only_wait t) (visited_each r t) t
 unfolding visited_each
 only_each r t l = by (either (only_wait t))

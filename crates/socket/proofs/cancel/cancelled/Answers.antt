@@ -11,4 +11,4 @@ returns c =
     (c.is_ok.ensures.value ∙ is_ok_done _)
     c.cancelled-left.ensures
     c.with_places.ensures
-    c.cancel_answer-answer.ensures
+    c.cancel_answer.ensures
