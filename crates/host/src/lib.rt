@@ -1,5 +1,6 @@
 // The calls that a kernel links, over a pair that it keeps: each takes the pair behind a reference, leaves the next one there and
-// returns the answer's word, or the signal word of an end.
+// returns the answer's word, or the signal word of an end. A call that changes the ends makes their outcome and has it stored, in two lines that a function
+// over a closure would not make fewer.
 #![tactic(auto, unfolding(
 // the numbers of a record, in an array
 definition_runs::specs::Exported::array_of, definition_runs::specs::Exported::threshold_numbers, definition_runs::specs::Exported::info_numbers,

@@ -39,7 +39,8 @@ pub fn signal(p: Pair, handle: u32) -> i64
     }
 }
 
-// The numbers of thresholds, put into the array; of another record none.
+// The numbers of thresholds, put into the array; of another record none. Each kind of record has such a function: its case and its fields are all that
+// it says.
 fn put_thresholds(a: Answer, out: &mut [u64; 2])
     ensures { out.new ≡ array_of threshold_numbers a out.old }
 {
@@ -106,7 +107,7 @@ pub fn take_answer(p: Pair, out: &mut [u64; 5]) -> Answer
     a
 }
 
-// The answer to a create, by the lengths of the rings and tables. They stand flat, as `murgwethan_create` has them for C.
+// The answer to a create, by the lengths of the rings and tables. They stand one by one, as `murgwethan_create` has them for C.
 pub fn create_answer(
     kind: u32,
     capacity: u32,

@@ -52,7 +52,8 @@ pub fn new_pair(kind: u32, capacity: u32, rights_one: u32, rights_two: u32) -> P
 
 impl SocketPair {
     // A new pair. Each later call is lent the rings and tables that it uses; create looks at the lengths of all four.
-    // They stand flat, as `murgwethan_create` has them for C: a struct of a ring and its table would be put together only to be taken apart here.
+    // They stand one by one, as `murgwethan_create` has them for C, and `Creates` of the definition: a struct of a ring and its table would be put
+    // together only to be taken apart here.
     pub fn create(
         kind: u32,
         capacity: u32,

@@ -49,7 +49,8 @@ pub struct SocketPair {
     pub inner: Pair,
 }
 
-// What a method hands back: the next pair, and the answer.
+// What a method hands back: the next pair, and the answer. It is a type of its own and not a `Step` over any pair, since `inner_step` of specs/Step.antt,
+// by which each contract speaks of it, is defined on it.
 #[derive(Clone, Copy)]
 pub struct SocketStep {
     pub pair: SocketPair,

@@ -77,7 +77,7 @@ pub fn taken(p: Pair, a: Answer) -> Pair
     parts::with_places(p, port::packets::taken(p.places, a.is_ok()))
 }
 
-// Whether the only place used is a packet.
+// Whether the only place used is a packet. Each of three such tests is one definition: `unused`, `only_wait` and `only_packet` of the table.
 pub fn has_only_packet(p: Pair) -> bool
     ensures { result ≡ only_packet p.places }
 {
@@ -92,7 +92,8 @@ pub fn taken_only(p: Pair, a: Answer) -> Pair
 }
 
 impl SocketPair {
-    // Registers a wait of an end. It may fire now, by the word as it is; with edge 1 only a later change fires it.
+    // Registers a wait of an end. It may fire now, by the word as it is; with edge 1 only a later change fires it. Key, mask and edge stand one by one,
+    // as `murgwethan_wait` has them for C, and `Waits` of the definition.
     pub fn wait(self, handle: u32, key: u64, mask: u32, edge: u8) -> SocketStep
         ensures { Waits self.inner handle key mask edge (inner_step result) }
     {
