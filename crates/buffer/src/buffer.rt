@@ -30,12 +30,7 @@ pub fn first() -> Progress
 }
 
 // Feeds the bytes in use, moves those that are not done with to the front, and counts the others. A buffer that is shorter is left as it is.
-pub fn advance(
-    p: Progress,
-    buffer: &mut [u8],
-    lent: &mut Lent,
-    out: &mut [u8],
-) -> Progress
+pub fn advance(p: Progress, buffer: &mut [u8], lent: &mut Lent, out: &mut [u8]) -> Progress
     ensures same { SameLent lent.old lent.new }
     ensures done { Advanced (front_of p (length out.old) buffer.old lent.old.memory.now (rings_of lent.old)) p buffer.old buffer.new lent.new.memory.now (rings_of lent.new) out.old out.new result }
 {

@@ -105,13 +105,7 @@ fn finish(rt: &HostRuntime, p: Progress, buffer: &[u8], out: &mut [u8], failed: 
 }
 
 // The whole script, from the header to the end of the input.
-fn run(
-    rt: &HostRuntime,
-    lent: &mut Lent,
-    buffer: &mut [u8],
-    out: &mut [u8],
-    failed: &mut bool,
-)
+fn run(rt: &HostRuntime, lent: &mut Lent, buffer: &mut [u8], out: &mut [u8], failed: &mut bool)
     requires { RunMay lent.old.memory.now (rings_of lent.old) buffer.old out.old }
     ensures same { SameLent lent.old lent.new }
     ensures done { RunDone lent.old.memory.now (rings_of lent.old) buffer.old out.old lent.new.memory.now (rings_of lent.new) buffer.new out.new }
