@@ -8,7 +8,7 @@ use definition_script::ScriptState;
 use script_call::lent::Lent;
 
 // Where a script stands that is read into a buffer: the state, how many bytes came before the buffer, how many at its front are in use, and how many of
-// the output are written.
+// the output are written. The buffer is lent beside it and of fixed size, as `front_of` and `Advanced` say.
 #[derive(Clone, Copy)]
 pub struct Progress {
     pub state: ScriptState,

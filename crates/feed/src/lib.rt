@@ -29,7 +29,7 @@ fn is_ready(st: ScriptState, offset: u64, input: usize, memory: usize) -> bool
     st.number <= LIMIT && offset <= LIMIT && input as u64 <= LIMIT && memory <= 4096
 }
 
-// Moves as long as there is one to make and room for its line.
+// Moves as long as there is one to make and room for its line, 8254 bytes. Each move says where the next begins, so that there is nothing to iterate over.
 fn feed_ready(st: ScriptState, offset: u64, input: &[u8], lent: &mut Lent, out: &mut [u8]) -> Fed
     requires { is_ready st offset (length input.now) (length lent.old.memory.now) ≡ true }
     ensures same { SameLent lent.old lent.new }

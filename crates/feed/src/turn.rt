@@ -14,7 +14,8 @@ pub struct Stepped {
     pub at: usize,
 }
 
-// After a move: the state, the place in the input, the place in the output, and whether another move may follow.
+// After a move: the state, the place in the input, the place in the output, and whether another move may follow, which `TurnDone` says of each move. All
+// four are there after every move, so that no case has more or less than another.
 #[derive(Clone, Copy)]
 pub struct Turned {
     pub state: ScriptState,
@@ -67,8 +68,8 @@ fn stop(st: ScriptState, offset: u64, from: usize, out: &mut [u8], at: usize) ->
     }
 }
 
-// What the bytes of the input begin with from a place on. A script that has ended waits as for a record that is cut, and a record out of its place is
-// bad.
+// What the bytes of the input begin with from a place on, for which `next_of` keeps the three cases. A script that has ended waits as for a record that
+// is cut, and a record out of its place is bad.
 fn next(ended: bool, number: u64, input: &[u8], from: usize) -> Decoded
     requires { from ≤ length input.now }
     ensures { result ≡ next_of ended number (drop from input.now) }

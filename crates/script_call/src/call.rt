@@ -14,7 +14,8 @@ use crate::record::{fields, takes};
 use definition::{Pair, Status, Step};
 use definition_script::{Tag, TransferBody};
 
-// A write is lent the ring and the table of the peer.
+// A write is lent the ring and the table of the peer. Each end has a call of its own: of a reference that is one of two, by the handle, a caller could not
+// say what is left in either.
 fn write(p: Pair, t: TransferBody, lent: &mut Lent) -> Step
     ensures same { SameLent lent.old lent.new }
     ensures made { CallDone (write_call lent.old.memory.now (rings_of lent.old) p t) lent.new.memory.now (rings_of lent.new) result }
@@ -88,7 +89,8 @@ fn make(p: Pair, tag: Tag, body: &[u8], lent: &mut Lent) -> Step
     }
 }
 
-// By the tag; the count of a read does not land yet. With a body that is not right for the tag no call is made.
+// By the tag, any number, since `is_last` and the other definitions speak of every one; the count of a read does not land yet. With a body that is not
+// right for the tag no call is made.
 pub fn call(p: Pair, tag: u8, body: &[u8], lent: &mut Lent) -> Step
     ensures same { SameLent lent.old lent.new }
     ensures made { CallMade lent.old.memory.now (rings_of lent.old) p tag body.now lent.new.memory.now (rings_of lent.new) result }

@@ -52,6 +52,7 @@ fn read_in(rt: &HostRuntime, buffer: &mut [u8], used: usize) -> usize
 }
 
 // Writes a text. The first write that fails is told and noted in `failed`; after it nothing is written and nothing is told.
+// The flag alone is enough, since the error is told where it comes.
 fn put(rt: &HostRuntime, text: &[u8], failed: &mut bool) {
     if *failed {
         return;
