@@ -6,23 +6,12 @@ ghost use Rattle.answers.specs.create.Held.{held_rights};
 use definition::{Answer, Record, Status};
 use endpoint::end::short_slices;
 
-// The numbers of create: kind, capacity, rights.
+// The numbers of create: kind, capacity, rights. They are numbers, and the kind is no enum, since every other number is refused here
+// (`create_answer` of the definition).
 fn numbers_answer(kind: u32, capacity: u32, rights_one: u32, rights_two: u32) -> Answer
     ensures { result ≡ numbers_answer kind capacity rights_one rights_two }
 {
-    if 1 < kind {
-        return Err(Status::InvalidArgs);
-    }
-    if capacity == 0 {
-        return Err(Status::InvalidArgs);
-    }
-    if 262144 < capacity {
-        return Err(Status::InvalidArgs);
-    }
-    if 7 < rights_one {
-        return Err(Status::InvalidArgs);
-    }
-    if 7 < rights_two {
+    if 1 < kind || capacity == 0 || 262144 < capacity || 7 < rights_one || 7 < rights_two {
         return Err(Status::InvalidArgs);
     }
     Ok(Record::Empty)
@@ -41,14 +30,11 @@ pub fn create_answer(
 ) -> Answer
     ensures { result ≡ create_answer kind capacity rights_one rights_two ring_one table_one ring_two table_two }
 {
-    let a = numbers_answer(kind, capacity, rights_one, rights_two);
-    if !endpoint::answer::is_done(a) {
-        return a;
-    }
-    if short_slices(kind == 1, capacity, ring_one, table_one) {
-        return Err(Status::InvalidArgs);
-    }
-    if short_slices(kind == 1, capacity, ring_two, table_two) {
+    numbers_answer(kind, capacity, rights_one, rights_two)?;
+    let datagram = kind == 1;
+    if short_slices(datagram, capacity, ring_one, table_one)
+        || short_slices(datagram, capacity, ring_two, table_two)
+    {
         return Err(Status::InvalidArgs);
     }
     Ok(Record::Empty)

@@ -3,18 +3,15 @@ ghost use Rattle.std.specs.Prelude.{◌≡◌};
 ghost use Rattle.definition.specs.Read.{available_in, empty_answer, read_size};
 ghost use Rattle.definition.specs.Info.{info_of, unless_closed};
 
-use crate::write_size::least;
 use definition::{Answer, Endpoint, Record, SocketInfo, Status};
 use endpoint::bits::bit_if;
+use endpoint::choice::pick;
 
 // The bytes that one read can deliver.
 fn available(datagram: bool, own: Endpoint, first: u32) -> u32
     ensures { result ≡ available_in datagram own first }
 {
-    if datagram {
-        return first;
-    }
-    own.queue.bytes.count
+    pick(datagram, first, own.queue.bytes.count)
 }
 
 fn empty_answer(own: Endpoint, peer: Endpoint) -> Answer
@@ -36,19 +33,17 @@ pub fn read_size(datagram: bool, own: Endpoint, peer: Endpoint, first: u32, n: u
     if own.queue.bytes.count == 0 {
         return empty_answer(own, peer);
     }
-    Ok(Record::Count(least(n, available(datagram, own, first))))
+    Ok(Record::Count(n.min(available(datagram, own, first) as usize) as u32))
 }
 
 fn unless_closed(closed: bool, n: u32) -> u64
     ensures { result ≡ unless_closed closed n }
 {
-    if closed {
-        return 0;
-    }
-    n as u64
+    pick(closed, 0, n) as u64
 }
 
-// What a socket says of its queue and its peer's.
+// What a socket says of its queue and its peer's. Like the sizes, it is given just the parts of a pair that it looks at, one by one, as `info_of`
+// of the definition is.
 pub fn get_info(
     datagram: bool,
     capacity: u32,

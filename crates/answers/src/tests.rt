@@ -2,7 +2,11 @@
 // where it passes. After `Socket` of ipc/socket.rs.
 ghost use Rattle.std.specs.Prelude.{◌≡◌, []};
 ghost use Rattle.definition.specs.Pair.{is_handle};
-ghost use Rattle.definition.specs.Tests.{sound_ends, sound_test, lent_of, slices_test, table_test, is_open, handle_test, opening_test};
+ghost use Rattle.std.specs.declared.result.Result.TheVariants.{Ok};
+ghost use Rattle.definition.specs.declared.Record.TheVariants.{Empty};
+ghost use Rattle.definition.specs.declared.Status.TheVariants.{InvalidArgs, Internal};
+ghost use Rattle.definition.specs.Status.{pick, refuse_if, ◌then◌};
+ghost use Rattle.definition.specs.Tests.{sound_ends, sound_test, lent_of, first_length, bad_first, slices_test, table_test, is_open, handle_test, opening_test};
 
 use definition::{Answer, Ends, Queue, Record, Status};
 
@@ -10,21 +14,11 @@ use definition::{Answer, Ends, Queue, Record, Status};
 fn is_sound(p: Ends) -> bool
     ensures { result ≡ sound_ends p }
 {
-    if p.capacity <= 0 {
-        return false;
-    }
-    if p.capacity > 262144 {
-        return false;
-    }
-    if !port::places::is_sound(p.packets, p.waits) {
-        return false;
-    }
-    let one = p.one.queue;
-    if !endpoint::end::is_sound(one, p.datagram, p.capacity) {
-        return false;
-    }
-    let two = p.two.queue;
-    endpoint::end::is_sound(two, p.datagram, p.capacity)
+    0 < p.capacity
+        && p.capacity <= 262144
+        && port::places::is_sound(p.packets, p.waits)
+        && endpoint::end::is_sound(p.one.queue, p.datagram, p.capacity)
+        && endpoint::end::is_sound(p.two.queue, p.datagram, p.capacity)
 }
 
 // The record.
@@ -37,14 +31,27 @@ pub fn sound_test(p: Ends) -> Answer
     Ok(Record::Empty)
 }
 
-// Whether a handle names an end.
+// Whether a handle names an end. A handle is a number, since every other number is refused (`handle_test` of the definition).
 pub fn is_handle(handle: u32) -> bool
     ensures { result ≡ is_handle handle }
 {
-    if handle == 1 {
-        return true;
+    handle == 1 || handle == 2
+}
+
+// What is lent, by whether it is too short, then the first queued length; with a handle that names no end neither is tested.
+fn lent_test(handle: u32, short: bool, datagram: bool, q: Queue, table: &[u32]) -> Answer
+    ensures { result ≡ pick (is_handle handle) (refuse_if short InvalidArgs then refuse_if (bad_first datagram q (first_length datagram q table.now)) Internal) (Ok Empty) }
+{
+    if !is_handle(handle) {
+        return Ok(Record::Empty);
     }
-    handle == 2
+    if short {
+        return Err(Status::InvalidArgs);
+    }
+    if endpoint::end::bad_first(q, datagram, endpoint::end::first_length(q, datagram, table)) {
+        return Err(Status::Internal);
+    }
+    Ok(Record::Empty)
 }
 
 // The lengths of a ring and a table that are lent, and the first queued length.
@@ -58,43 +65,23 @@ pub fn slices_test(
 ) -> Answer
     ensures { result ≡ slices_test datagram capacity handle q (lent_of datagram q ring.now table.now) }
 {
-    if !is_handle(handle) {
-        return Ok(Record::Empty);
-    }
-    if endpoint::end::short_slices(datagram, capacity, ring.len(), table.len()) {
-        return Err(Status::InvalidArgs);
-    }
-    if endpoint::end::bad_first(q, datagram, endpoint::end::first_length(q, datagram, table)) {
-        return Err(Status::Internal);
-    }
-    Ok(Record::Empty)
+    let short = endpoint::end::short_slices(datagram, capacity, ring.len(), table.len());
+    lent_test(handle, short, datagram, q, table)
 }
 
 // The length of a table that is lent alone, and the first queued length.
 pub fn table_test(datagram: bool, capacity: u32, handle: u32, q: Queue, table: &[u32]) -> Answer
     ensures { result ≡ table_test datagram capacity handle q (lent_of datagram q [] table.now) }
 {
-    if !is_handle(handle) {
-        return Ok(Record::Empty);
-    }
-    if endpoint::end::short_table(datagram, capacity, table.len()) {
-        return Err(Status::InvalidArgs);
-    }
-    if endpoint::end::bad_first(q, datagram, endpoint::end::first_length(q, datagram, table)) {
-        return Err(Status::Internal);
-    }
-    Ok(Record::Empty)
+    let short = endpoint::end::short_table(datagram, capacity, table.len());
+    lent_test(handle, short, datagram, q, table)
 }
 
 // Whether a handle names an end that is open.
 fn is_open(p: Ends, handle: u32) -> bool
     ensures { result ≡ is_open p handle }
 {
-    if !is_handle(handle) {
-        return false;
-    }
-    let e = endpoint::ends::own(p, handle == 1);
-    !e.closed
+    is_handle(handle) && !endpoint::ends::own(p, handle == 1).closed
 }
 
 // The handle.
@@ -111,9 +98,6 @@ pub fn handle_test(p: Ends, handle: u32) -> Answer
 pub fn opening_test(p: Ends, handle: u32) -> Answer
     ensures { result ≡ opening_test p handle }
 {
-    let a = sound_test(p);
-    if !endpoint::answer::is_done(a) {
-        return a;
-    }
+    sound_test(p)?;
     handle_test(p, handle)
 }

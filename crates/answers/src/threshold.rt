@@ -10,10 +10,7 @@ use definition::{Answer, Ends, Record, Status};
 pub fn read_threshold_answer(p: Ends, handle: u32, threshold: u64) -> Answer
     ensures { result ≡ read_threshold_answer p handle threshold }
 {
-    let a = opening_test(p, handle);
-    if !endpoint::answer::is_done(a) {
-        return a;
-    }
+    opening_test(p, handle)?;
     if (p.capacity as u64) < threshold {
         return Err(Status::InvalidArgs);
     }
@@ -24,10 +21,7 @@ pub fn read_threshold_answer(p: Ends, handle: u32, threshold: u64) -> Answer
 pub fn write_threshold_answer(p: Ends, handle: u32, threshold: u64) -> Answer
     ensures { result ≡ write_threshold_answer p handle threshold }
 {
-    let a = opening_test(p, handle);
-    if !endpoint::answer::is_done(a) {
-        return a;
-    }
+    opening_test(p, handle)?;
     let to = endpoint::ends::peer(p, handle == 1);
     if to.closed {
         return Err(Status::PeerClosed);
@@ -42,11 +36,6 @@ pub fn write_threshold_answer(p: Ends, handle: u32, threshold: u64) -> Answer
 pub fn thresholds_answer(p: Ends, handle: u32) -> Answer
     ensures { result ≡ thresholds_answer p handle }
 {
-    let a = opening_test(p, handle);
-    if !endpoint::answer::is_done(a) {
-        return a;
-    }
-    let e = endpoint::ends::own(p, handle == 1);
-    let thresholds = e.thresholds;
-    Ok(Record::Limits(thresholds))
+    opening_test(p, handle)?;
+    Ok(Record::Limits(endpoint::ends::own(p, handle == 1).thresholds))
 }

@@ -11,20 +11,11 @@ use definition::{Answer, Ends};
 pub fn write_answer(p: Ends, handle: u32, ring: &[u8], table: &[u32], n: usize) -> Answer
     ensures { result ≡ write_answer p (lent_of p.datagram (peer (is_one handle) p).queue ring.now table.now) handle n }
 {
-    let sound = crate::tests::sound_test(p);
-    if !endpoint::answer::is_done(sound) {
-        return sound;
-    }
+    crate::tests::sound_test(p)?;
     let to = endpoint::ends::peer(p, handle == 1);
     let q = to.queue;
-    let lent = crate::tests::slices_test(p.datagram, p.capacity, handle, q, ring, table);
-    if !endpoint::answer::is_done(lent) {
-        return lent;
-    }
-    let opened = crate::tests::handle_test(p, handle);
-    if !endpoint::answer::is_done(opened) {
-        return opened;
-    }
+    crate::tests::slices_test(p.datagram, p.capacity, handle, q, ring, table)?;
+    crate::tests::handle_test(p, handle)?;
     write_size(
         p.datagram,
         p.capacity,

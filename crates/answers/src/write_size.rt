@@ -1,20 +1,10 @@
 // How many bytes a write takes. After ipc/socket.rs.
-ghost use Rattle.std.specs.Prelude.{◌≡◌, min};
+ghost use Rattle.std.specs.Prelude.{◌≡◌};
 ghost use Rattle.definition.specs.Write.{datagram_size, write_size};
 
 use definition::{Answer, Endpoint, Record, Status};
 use endpoint::end::has_bit;
 use endpoint::signal::WRITE_DISABLED;
-
-// The smaller of a length and a count, for the sizes of a write and of a read.
-pub fn least(n: usize, m: u32) -> u32
-    ensures { result ≡ min n m }
-{
-    if n < m as usize {
-        return n as u32;
-    }
-    m
-}
 
 fn datagram_size(capacity: u32, space: u32, n: usize) -> Answer
     ensures { result ≡ datagram_size capacity space n }
@@ -51,5 +41,5 @@ pub fn write_size(datagram: bool, capacity: u32, own: Endpoint, peer: Endpoint, 
     if datagram {
         return datagram_size(capacity, space, n);
     }
-    Ok(Record::Count(least(n, space)))
+    Ok(Record::Count(n.min(space as usize) as u32))
 }

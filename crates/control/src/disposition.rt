@@ -62,6 +62,7 @@ fn peer_disposed(one: bool, own: Endpoint, peer: Endpoint, off: bool) -> Moved
     crate::ends::with_visits(next, next_peer, first, second)
 }
 
+// By the target. The cases are matched here and in `peer_moved`, each once: the two change different ends, and what they share is above.
 fn own_moved(one: bool, own: Endpoint, peer: Endpoint, d: Disposition) -> Moved
     ensures { result ≡ moved_by one (dispose_effect own peer d Unchanged) }
 {
@@ -109,7 +110,7 @@ pub fn dispose_ends(
     ensures { result ≡ moved_if e handle (dispose_answer e handle disposition peer_disposition) (dispose_effect (own (is_one handle) e) (peer (is_one handle) e) disposition peer_disposition) }
 {
     let a = answers::control_calls::dispose_answer(e, handle, disposition, peer_disposition);
-    if !endpoint::answer::is_done(a) {
+    if a.is_err() {
         return endpoint::ends::unchanged(e, a);
     }
     disposed_ends(e, handle == 1, a, disposition, peer_disposition)

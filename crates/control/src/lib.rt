@@ -1,5 +1,5 @@
 // The calls that move no byte, over both ends: shutdown and close, disposition, both thresholds.
-#![tactic(auto)]
+#![tactic(auto, unfolding(crate::proofs::Opened::control_opened), using(crate::proofs::ends::Outcomes::outcomes))]
 
 pub mod disposition;
 pub mod ends;

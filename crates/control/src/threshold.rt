@@ -62,7 +62,7 @@ pub fn read_threshold_ends(e: Ends, handle: u32, threshold: u64) -> EndsOutcome
     ensures { result ≡ moved_if e handle (read_threshold_answer e handle threshold) (read_threshold_effect (own (is_one handle) e) (peer (is_one handle) e) threshold) }
 {
     let a = answers::threshold::read_threshold_answer(e, handle, threshold);
-    if !endpoint::answer::is_done(a) {
+    if a.is_err() {
         return endpoint::ends::unchanged(e, a);
     }
     let one = handle == 1;
@@ -80,7 +80,7 @@ pub fn write_threshold_ends(e: Ends, handle: u32, threshold: u64) -> EndsOutcome
     ensures { result ≡ moved_if e handle (write_threshold_answer e handle threshold) (write_threshold_effect e.capacity (own (is_one handle) e) (peer (is_one handle) e) threshold) }
 {
     let a = answers::threshold::write_threshold_answer(e, handle, threshold);
-    if !endpoint::answer::is_done(a) {
+    if a.is_err() {
         return endpoint::ends::unchanged(e, a);
     }
     let one = handle == 1;

@@ -5,7 +5,7 @@ use Rattle.definition_runs.proofs.runs.Whole.{runs_match}
 use Rattle.definition_runs.proofs.runs.Exists.{runs_exist_lem}
 use Rattle.definition_runs.proofs.TwoRuns.{two_runs}
 use Rattle.definition_runs.proofs.Example.{examples}
-use Rattle.definition_runs.proofs.Err.{refused-changes-nothing, memory-at_exit}
+use Rattle.definition_runs.proofs.Refused.{refused-changes-nothing, memory-at_exit}
 use Rattle.definition_runs.proofs.RunsSound.{runs_are_sound}
 use Rattle.definition_runs.proofs.cases.Lines.{lines_match}
 use Rattle.definition.proofs.cases.Edges.{at_the_edges, in_order, packets_in_order, cancels_in_order}

@@ -5,7 +5,7 @@ pub mod Kept
 pub mod Answers
 pub mod Invariant
 pub mod Delivers
-pub mod Err
+pub mod Refused
 pub mod NoPair
 pub mod Start
 pub mod TwoRuns

@@ -22,7 +22,7 @@ use Rattle.definition.specs.Disposition.{plain_dispose_answer, user_dispose_answ
 use Rattle.definition.specs.Calls.{Control, set_disposition, shutdown, plain_disposition, plain_shutdown, set_read_threshold, set_write_threshold, get_thresholds, get_info, wait, take_packet, cancel, Call, write, read, plain_write, plain_read, close, control, Input, Public, public, Slices, State, state, seen_of, View, view, control_answer, answer_to, pair_after, answer_of, outcome, outcomes}
 use Rattle.definition_runs.specs.TwoRuns.{Origin, OriginLines, no_lines, lines_after, source_of, sources_from, seen, answers, deliveries, calls}
 use Rattle.definition_runs.proofs.Lists.{cons_path}
-use Rattle.definition_runs.proofs.Err.{pair_stays, lines_stay, no_source, refused-after, refused-delivers}
+use Rattle.definition_runs.proofs.Refused.{pair_stays, lines_stay, no_source, refused-after, refused-delivers}
 
 abbrev no-view : (z1 z2 : Lent) → View
 no-view z1 z2 = record { pair = no_pair; one = z1; two = z2 }

@@ -1,3 +1,4 @@
 pub mod Rules
 pub mod Chains
 pub mod Cases
+pub mod Steps

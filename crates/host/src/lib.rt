@@ -1,6 +1,11 @@
 // The calls that a kernel links, over a pair that it keeps: each takes the pair behind a reference, leaves the next one there and
-// returns the answer's word, or the signal word of an end.
-#![tactic(auto)]
+// returns the answer's word, or the signal word of an end. A call that changes the ends makes their outcome and has it stored, in two lines that a function
+// over a closure would not make fewer.
+#![tactic(auto, unfolding(
+// the numbers of a record, in an array
+definition_runs::specs::Exported::array_of, definition_runs::specs::Exported::threshold_numbers, definition_runs::specs::Exported::info_numbers,
+// of a packet
+definition_runs::specs::Exported::packet_numbers))]
 
 ghost use Rattle.std.specs.Prelude.{◌≡◌};
 ghost use Rattle.definition.specs.Create.{Creates};
@@ -119,16 +124,13 @@ pub fn murgwethan_wait(p: &mut Pair, handle: u32, key: u64, mask: u32, edge: u8)
 pub fn murgwethan_cancel(p: &mut Pair, handle: u32, key: u64) -> i64
     ensures { Answered (Cancels p.old handle key) p.new result }
 {
-    let k = socket::only_match(*p, handle, key);
-    if socket::is_found(k) {
+    if let Some(k) = socket::only_match(*p, handle, key) {
         *p = socket::without_place(*p, k);
         1
     } else {
         let r = socket::cancelled(*p, handle, key);
-        let next = crate::values::step_pair(r);
-        *p = next;
-        let word = crate::values::step_word(r);
-        word
+        *p = r.pair;
+        endpoint::answer::word(r.answer)
     }
 }
 

@@ -34,7 +34,7 @@ pub fn murgwethan_user_write(
         ring,
         table,
     );
-    kept::transfers::user_wrote(p, handle, t)
+    kept::transfers::wrote(p, handle, t)
 }
 
 // Reads the front of the own queue into user memory, then lands the count over the bytes. Option 8 is a peek.
@@ -64,7 +64,7 @@ pub fn murgwethan_user_read(
         ring,
         table,
     );
-    kept::transfers::user_read(p, handle, t)
+    kept::transfers::read(p, handle, t)
 }
 
 // Disables or enables the writing of an end and of its peer, by numbers from 0 to 2.

@@ -9,26 +9,11 @@ ghost use Rattle.socket.specs.Deferred.{visited_all, settled_step, closed_waits,
 use definition::Pair;
 use endpoint::ends::EndsOutcome;
 
-// The word of an outcome's answer.
-fn outcome_word(r: EndsOutcome) -> i64
-    ensures { result ≡ answer_word r.answer }
-{
-    let a = r.answer;
-    endpoint::answer::word(a)
-}
-
-// Whether the waits are to be looked at.
-fn fires(r: EndsOutcome) -> bool
-    ensures { result ≡ r.fires }
-{
-    r.fires
-}
-
 // Visits the waits of an outcome, where one can fire, and gives the answer's word.
 fn visit(p: &mut Pair, r: EndsOutcome) -> i64
     ensures { (result ≡ answer_word r.answer) × (p.new ≡ pick r.fires (visited_all r p.old) p.old) }
 {
-    let w = outcome_word(r);
+    let w = endpoint::answer::word(r.answer);
     if socket::needs_visit(*p, r) {
         if socket::has_only_wait(*p) {
             *p = socket::visit_only(*p, r);
@@ -51,8 +36,8 @@ pub fn outcome(p: &mut Pair, r: EndsOutcome) -> i64
 fn close_waits(p: &mut Pair, handle: u32, r: EndsOutcome) -> i64
     ensures { (result ≡ answer_word r.answer) × (p.new ≡ closed_waits (is_one handle) r p.old) }
 {
-    let w = outcome_word(r);
-    if fires(r) {
+    let w = endpoint::answer::word(r.answer);
+    if r.fires {
         *p = socket::close_waits(*p, handle, r);
     }
     w

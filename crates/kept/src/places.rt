@@ -22,7 +22,7 @@ pub fn create(
     ensures { (result ≡ answer_word a) × (p.new ≡ pick (is_done a) (new_pair (eqb kind 1) capacity (held_rights rights_one) (held_rights rights_two)) p.old) }
 {
     let w = endpoint::answer::word(a);
-    if endpoint::answer::is_done(a) {
+    if a.is_ok() {
         *p = socket::new_pair(kind, capacity, rights_one, rights_two);
     }
     w

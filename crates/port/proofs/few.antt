@@ -1,5 +1,4 @@
 pub mod Lists
-mod Chosen
 mod Searches
 pub mod Cancelled
 mod Whole

@@ -3,8 +3,9 @@ ghost use Rattle.std.specs.Prelude.{◌≡◌, true, ◌+◌, ◌≤◌, leb};
 ghost use Rattle.definition.specs.Status.{pick, ◌and◌};
 ghost use Rattle.definition.specs.Port.{matches, matching, cancelled_of};
 
-use crate::places::{FREE, both, count_if, end_number, is_sound};
+use crate::places::{FREE, end_number, is_sound};
 use definition::{Place, Places};
+use endpoint::choice::pick;
 
 // The table that a cancel leaves, and how many of its places were freed.
 #[derive(Clone, Copy)]
@@ -17,10 +18,7 @@ pub struct Remaining {
 pub fn is_match(p: Place, one: bool, key: u64) -> bool
     ensures { result ≡ matches one key p }
 {
-    if p.end != end_number(one) {
-        return false;
-    }
-    p.key == key
+    p.end == end_number(one) && p.key == key
 }
 
 // Frees each place that matches, if that is asked; each of the others goes behind those kept so far, so that their order stays. Of those kept, m are
@@ -37,19 +35,16 @@ fn compacted(t: Places, one: bool, key: u64, asked: bool) -> Remaining
         let used = packets + waits;
         let mut n: usize = 0;
         let mut m: usize = 0;
-        let mut i: usize = 0;
-        while i < used {
+        for i in 0..used {
             let p = out.table[i];
-            let free = FREE;
-            out.table[i] = free;
-            m = count_if(i <= packets, n, m);
-            i = i + 1;
+            out.table[i] = FREE;
+            m = pick(i <= packets, n, m);
             if !is_match(p, one, key) {
                 out.table[n] = p;
-                n = n + 1;
+                n += 1;
             }
         }
-        m = count_if(i <= packets, n, m);
+        m = pick(used <= packets, n, m);
         out.packets = m;
         out.waits = n - m;
         removed = (used - n) as u32;
@@ -64,5 +59,5 @@ fn compacted(t: Places, one: bool, key: u64, asked: bool) -> Remaining
 pub fn cancelled(t: Places, asked: bool, one: bool, key: u64) -> Remaining
     ensures { result ≡ record { places = pick (asked and leb (t.packets + t.waits) 128) (cancelled_of one key t) t; removed = pick (asked and leb (t.packets + t.waits) 128) (matching one key t) 0 } }
 {
-    compacted(t, one, key, both(asked, is_sound(t.packets, t.waits)))
+    compacted(t, one, key, asked && is_sound(t.packets, t.waits))
 }

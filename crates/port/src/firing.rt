@@ -10,10 +10,7 @@ use definition::{Place, Places};
 pub fn is_fired(p: Place, one: bool, word: u32) -> bool
     ensures { result ≡ fires one word p }
 {
-    if p.end == end_number(one) {
-        return word & p.mask != 0;
-    }
-    false
+    p.end == end_number(one) && word & p.mask != 0
 }
 
 // Whether any wait of that end meets the word. Nothing is changed.
@@ -22,35 +19,16 @@ fn any_fires(t: Places, one: bool, word: u32) -> bool
     ensures { result ≡ any_fires one word (waits_of t) }
 {
     let used = t.packets + t.waits;
-    let mut i = t.packets;
-    while i < used {
-        let p = t.table[i];
-        i = i + 1;
-        if is_fired(p, one, word) {
-            return true;
-        }
-    }
-    false
+    t.table[t.packets..used]
+        .iter()
+        .any(|p| is_fired(*p, one, word))
 }
 
 // Whether there are at most 8 waits, and no packets before them.
 fn has_few(packets: usize, waits: usize) -> bool
     ensures { result ≡ (eqb packets 0 and leb waits 8) }
 {
-    if packets != 0 {
-        return false;
-    }
-    waits <= 8
-}
-
-// Whether a place has a wait, and it is fired.
-fn is_fired_wait(has_wait: bool, p: Place, one: bool, word: u32) -> bool
-    ensures { result ≡ (has_wait and fires one word p) }
-{
-    if has_wait {
-        return is_fired(p, one, word);
-    }
-    false
+    packets == 0 && waits <= 8
 }
 
 // Whether a wait of that end meets the word, in a table of at most 8 waits and no packet. The compiler unrolls a loop of 8 turns, so that each place
@@ -59,13 +37,10 @@ fn few_fire(t: Places, one: bool, word: u32) -> bool
     requires { (t.packets ≡ 0) × (t.waits ≤ 8) }
     ensures { result ≡ any_fires one word (waits_of t) }
 {
-    let mut i = 0;
-    while i < 8 {
-        let p = t.table[i];
-        if is_fired_wait(i < t.waits, p, one, word) {
+    for i in 0..8 {
+        if i < t.waits && is_fired(t.table[i], one, word) {
             return true;
         }
-        i = i + 1;
     }
     false
 }

@@ -4,19 +4,14 @@ ghost use Rattle.definition.specs.Status.{pick, ◌and◌};
 ghost use Rattle.port.specs.places.Table.{only_packet};
 ghost use Rattle.definition.specs.Port.{take_of};
 
-use crate::places::{FREE, both, is_only_packet, is_sound};
+use crate::places::{FREE, is_only_packet, is_sound};
 use definition::{Answer, Next, Places, PortPacket, Record, Status};
 
 // Whether a packet is to be taken and there is one, in a sound table.
 fn has_packet(asked: bool, packets: usize, waits: usize) -> bool
     ensures { result ≡ (asked and leb (packets + waits) 128 and not (eqb packets 0)) }
 {
-    if asked {
-        if is_sound(packets, waits) {
-            return packets != 0;
-        }
-    }
-    false
+    asked && is_sound(packets, waits) && packets != 0
 }
 
 // Removes the oldest packet, if that is asked and possible: what stands behind it moves by one place to the front.
@@ -27,15 +22,9 @@ pub fn taken(t: Places, asked: bool) -> Places
     let waits = t.waits;
     let mut out = t;
     if has_packet(asked, packets, waits) {
-        let last = packets + waits - 1;
-        let mut i: usize = 0;
-        while i < last {
-            let p = out.table[i + 1];
-            out.table[i] = p;
-            i = i + 1;
-        }
-        let free = FREE;
-        out.table[last] = free;
+        let used = packets + waits;
+        out.table.copy_within(1..used, 0);
+        out.table[used - 1] = FREE;
         out.packets = packets - 1;
     }
     out
@@ -47,9 +36,8 @@ pub fn only_taken(t: Places, asked: bool) -> Places
     ensures { result ≡ pick (asked and only_packet t) (take_of t).places t }
 {
     let mut out = t;
-    if both(asked, is_only_packet(t.packets, t.waits)) {
-        let free = FREE;
-        out.table[0] = free;
+    if asked && is_only_packet(t.packets, t.waits) {
+        out.table[0] = FREE;
         out.packets = 0;
     }
     out
@@ -66,14 +54,13 @@ pub fn oldest(t: Places) -> Answer
         return Err(Status::ShouldWait);
     }
     let p = t.table[0];
-    let packet = PortPacket {
+    Ok(Record::Packet(PortPacket {
         key: p.key,
         trigger: p.mask,
         observed: p.observed,
         count: 1,
         timestamp: 0,
-    };
-    Ok(Record::Packet(packet))
+    }))
 }
 
 // Takes the oldest packet.

@@ -1,10 +1,13 @@
-// The table of places in which waits stand until they fire and packets until they are taken. After signal/port.rs.
+// The table of places in which waits stand until they fire and packets until they are taken. After signal/port.rs. The tests take the two counts and no
+// table: `Ends` has the counts alone, and the compiler copies a table that is passed whole. A table of at most 128 used places has no type of its own:
+// the record is C's, which may hand over any counts, and a copy into another type is one more of 3 KB; so each function that needs such a table requires it.
 ghost use Rattle.std.specs.Prelude.{◌≡◌, ◌+◌, leb, eqb};
 ghost use Rattle.definition.specs.Status.{pick, ◌and◌, refuse_unless};
 ghost use Rattle.definition.specs.declared.Status.TheVariants.{Internal};
 ghost use Rattle.definition.specs.Port.{end_number, new_places};
 
 use definition::{Answer, Place, Places, Record, Status};
+use endpoint::choice::pick;
 
 // A place that is not used.
 pub const FREE: Place = Place {
@@ -29,10 +32,7 @@ pub fn new_places() -> Places
 pub fn uses_at_most(packets: usize, waits: usize, most: usize) -> bool
     ensures { result ≡ leb (packets + waits) most }
 {
-    if most < packets {
-        return false;
-    }
-    waits <= most - packets
+    packets <= most && waits <= most - packets
 }
 
 // Whether no more than 128 places are used.
@@ -42,65 +42,32 @@ pub fn is_sound(packets: usize, waits: usize) -> bool
     uses_at_most(packets, waits, 128)
 }
 
-// Whether so many packets and so many waits are used.
-fn counts_are(packets: usize, waits: usize, some_packets: usize, some_waits: usize) -> bool
-    ensures { result ≡ (eqb packets some_packets and eqb waits some_waits) }
-{
-    if packets != some_packets {
-        return false;
-    }
-    waits == some_waits
-}
-
 // Whether no place is used.
 pub fn is_unused(packets: usize, waits: usize) -> bool
     ensures { result ≡ (eqb packets 0 and eqb waits 0) }
 {
-    counts_are(packets, waits, 0, 0)
+    packets == 0 && waits == 0
 }
 
 // Whether the only place used is a wait.
 pub fn is_only_wait(packets: usize, waits: usize) -> bool
     ensures { result ≡ (eqb packets 0 and eqb waits 1) }
 {
-    counts_are(packets, waits, 0, 1)
+    packets == 0 && waits == 1
 }
 
 // Whether the only place used is a packet.
 pub fn is_only_packet(packets: usize, waits: usize) -> bool
     ensures { result ≡ (eqb packets 1 and eqb waits 0) }
 {
-    counts_are(packets, waits, 1, 0)
-}
-
-// Whether both hold.
-pub fn both(a: bool, b: bool) -> bool
-    ensures { result ≡ (a and b) }
-{
-    if a {
-        return b;
-    }
-    false
-}
-
-// One of two counts.
-pub fn count_if(test: bool, yes: usize, no: usize) -> usize
-    ensures { result ≡ pick test yes no }
-{
-    if test {
-        return yes;
-    }
-    no
+    packets == 1 && waits == 0
 }
 
 // The number of an end in a place.
 pub fn end_number(one: bool) -> u64
     ensures { result ≡ end_number one }
 {
-    if one {
-        return 1;
-    }
-    2
+    pick(one, 1, 2)
 }
 
 // The answer to an operation that every sound table allows.
@@ -108,7 +75,8 @@ pub fn sound_answer(sound: bool) -> Answer
     ensures { result ≡ refuse_unless sound Internal }
 {
     if sound {
-        return Ok(Record::Empty);
+        Ok(Record::Empty)
+    } else {
+        Err(Status::Internal)
     }
-    Err(Status::Internal)
 }

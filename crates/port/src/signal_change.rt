@@ -8,6 +8,7 @@ use crate::firing::is_fired;
 use crate::places::{is_only_wait, is_sound, sound_answer};
 use definition::{Change, Place, Places};
 use endpoint::choice::pick;
+use endpoint::ends::Pending;
 use endpoint::signal::changed;
 
 // The wait as a packet.
@@ -15,10 +16,8 @@ fn observed_at(p: Place, word: u32) -> Place
     ensures { result ≡ observe word p }
 {
     Place {
-        key: p.key,
-        mask: p.mask,
         observed: word,
-        end: p.end,
+        ..p
     }
 }
 
@@ -34,16 +33,13 @@ fn fired(t: Places, one: bool, word: u32, visit: bool) -> Places
         let used = packets + waits;
         let mut front = packets;
         let mut back = used;
-        let mut i = used;
-        while packets < i {
-            i = i - 1;
+        for i in (packets..used).rev() {
             let p = t.table[i];
             if is_fired(p, one, word) {
-                let q = observed_at(p, word);
-                out.table[front] = q;
-                front = front + 1;
+                out.table[front] = observed_at(p, word);
+                front += 1;
             } else {
-                back = back - 1;
+                back -= 1;
                 out.table[back] = p;
             }
         }
@@ -57,26 +53,19 @@ fn fired(t: Places, one: bool, word: u32, visit: bool) -> Places
 fn only_fires(t: Places, one: bool, word: u32, next: u32) -> bool
     ensures { result ≡ (only_wait t and not (eqb next word) and fires one next (get_or t.table 0 free)) }
 {
-    if !is_only_wait(t.packets, t.waits) {
-        return false;
-    }
-    if next == word {
-        return false;
-    }
-    let wait = t.table[0];
-    is_fired(wait, one, next)
+    is_only_wait(t.packets, t.waits) && next != word && is_fired(t.table[0], one, next)
 }
 
 // Visits the wait of a table whose only place used is a wait. It stands in the first place, so that no index is computed, and the compiler
 // leaves one copy of the table.
-pub fn only_visited(t: Places, one: bool, word: u32, clear: u32, set: u32) -> Places
-    ensures { result ≡ pick (only_wait t) (change_of one word clear set t).places t }
+pub fn only_visited(t: Places, a: Pending) -> Places
+    ensures { result ≡ pick (only_wait t) (change_of a.one a.word a.clear a.set t).places t }
 {
-    let next = changed(word, clear, set);
+    let next = changed(a.word, a.clear, a.set);
     let wait = t.table[0];
     let packet = observed_at(wait, next);
     let mut out = t;
-    if only_fires(t, one, word, next) {
+    if only_fires(t, a.one, a.word, next) {
         out.table[0] = packet;
         out.packets = 1;
         out.waits = 0;
@@ -85,13 +74,13 @@ pub fn only_visited(t: Places, one: bool, word: u32, clear: u32, set: u32) -> Pl
 }
 
 // Changes that end's word. If it is another then, the end's waits whose mask meets it become packets, newest first.
-pub fn change(t: Places, one: bool, word: u32, clear: u32, set: u32) -> Change
-    ensures { result ≡ change_of one word clear set t }
+pub fn change(t: Places, a: Pending) -> Change
+    ensures { result ≡ change_of a.one a.word a.clear a.set t }
 {
     let sound = is_sound(t.packets, t.waits);
-    let next = pick(sound, changed(word, clear, set), word);
+    let next = pick(sound, changed(a.word, a.clear, a.set), a.word);
     Change {
-        places: fired(t, one, next, next != word),
+        places: fired(t, a.one, next, next != a.word),
         word: next,
         answer: sound_answer(sound),
     }

@@ -1,46 +1,34 @@
-// The waits of a table of places: registering one, and dropping those of an end. After signal/port.rs.
+// The waits of a table of places: registering one, and dropping those of an end. After signal/port.rs. What a wait is made
+// of stands one by one, as the exported call passes it: a record of it would be filled at one call and read at the next.
 ghost use Rattle.std.specs.Prelude.{◌≡◌, true, not, ◌+◌, ◌≤◌, ◌<◌, leb, ltb};
 ghost use Rattle.definition.specs.Status.{pick, ◌and◌};
 ghost use Rattle.definition.specs.Signal.{meets};
 ghost use Rattle.port.specs.places.Table.{unused};
-ghost use Rattle.definition.specs.Port.{inserted_of, appended_of, dropped_of, register_of, drop_of};
+ghost use Rattle.definition.specs.Port.{end_number, inserted_of, appended_of, dropped_of, register_of, drop_of};
 
-use crate::places::{
-    FREE, both, count_if, end_number, is_sound, is_unused, sound_answer, uses_at_most,
-};
+use crate::places::{FREE, end_number, is_sound, is_unused, sound_answer, uses_at_most};
 use definition::{Next, Place, Places};
 use endpoint::choice::pick;
 
-// Whether a place is to be used and fewer than 128 are. The sum of the two counts is never taken, as it can be too large.
+// Whether a place is to be used and fewer than 128 are.
 fn has_room(asked: bool, packets: usize, waits: usize) -> bool
     ensures { result ≡ (asked and ltb (packets + waits) 128) }
 {
-    if asked {
-        if packets < 128 {
-            return waits < 128 - packets;
-        }
-    }
-    false
+    asked && uses_at_most(packets, waits, 127)
 }
 
 // Whether a wait fires as it is registered.
 fn fires_at_once(word: u32, mask: u32, edge: bool) -> bool
     ensures { result ≡ (not edge and meets word mask) }
 {
-    if edge {
-        return false;
-    }
-    word & mask != 0
+    !edge && word & mask != 0
 }
 
 // Whether at most 7 places are used and a wait does not fire as it is registered, so that it goes behind the waits.
 pub fn appends_few(packets: usize, waits: usize, word: u32, mask: u32, edge: bool) -> bool
     ensures { result ≡ (not (not edge and meets word mask) and leb (packets + waits) 7) }
 {
-    if fires_at_once(word, mask, edge) {
-        return false;
-    }
-    uses_at_most(packets, waits, 7)
+    !fires_at_once(word, mask, edge) && uses_at_most(packets, waits, 7)
 }
 
 // Puts a packet behind the packets, or a wait behind the waits, if there is room: what stands behind it moves by one place to the back.
@@ -52,19 +40,27 @@ fn placed(t: Places, p: Place, packet: bool, room: bool) -> Places
     let waits = t.waits;
     let mut out = t;
     if room {
-        let mut i = packets + waits;
-        let at = count_if(packet, packets, i);
-        let more = count_if(packet, 1, 0);
-        while at < i {
-            let q = out.table[i - 1];
-            out.table[i] = q;
-            i = i - 1;
-        }
+        let used = packets + waits;
+        let at = pick(packet, packets, used);
+        let more = pick(packet, 1, 0);
+        out.table.copy_within(at..used, at + 1);
         out.table[at] = p;
         out.packets = packets + more;
         out.waits = waits + 1 - more;
     }
     out
+}
+
+// A wait as it is registered, or the packet that it becomes now.
+fn new_place(one: bool, word: u32, key: u64, mask: u32, now: bool) -> Place
+    ensures { result ≡ record { key = key; mask = mask; observed = pick now word 0; end = end_number one } }
+{
+    Place {
+        key,
+        mask,
+        observed: pick(now, word, 0),
+        end: end_number(one),
+    }
 }
 
 // The table with a wait more, or with its packet where it fires at once, if that is asked and there is room.
@@ -80,12 +76,7 @@ pub fn registered(
     ensures { result ≡ pick asked (register_of one word key mask edge t).places t }
 {
     let now = fires_at_once(word, mask, edge);
-    let p = Place {
-        key: key,
-        mask: mask,
-        observed: pick(now, word, 0),
-        end: end_number(one),
-    };
+    let p = new_place(one, word, key, mask, now);
     placed(t, p, now, has_room(asked, t.packets, t.waits))
 }
 
@@ -103,16 +94,11 @@ pub fn first_registered(
     ensures { result ≡ pick (asked and unused t) (register_of one word key mask edge t).places t }
 {
     let now = fires_at_once(word, mask, edge);
-    let p = Place {
-        key: key,
-        mask: mask,
-        observed: pick(now, word, 0),
-        end: end_number(one),
-    };
-    let packets = count_if(now, 1, 0);
-    let waits = count_if(now, 0, 1);
+    let p = new_place(one, word, key, mask, now);
+    let packets = pick(now, 1, 0);
+    let waits = pick(now, 0, 1);
     let mut out = t;
-    if both(asked, is_unused(t.packets, t.waits)) {
+    if asked && is_unused(t.packets, t.waits) {
         out.table[0] = p;
         out.packets = packets;
         out.waits = waits;
@@ -132,15 +118,12 @@ fn dropped(t: Places, one: bool, sound: bool) -> Places
     if sound {
         let used = packets + waits;
         let mut n = packets;
-        let mut i = packets;
-        while i < used {
+        for i in packets..used {
             let p = out.table[i];
-            let free = FREE;
-            out.table[i] = free;
-            i = i + 1;
+            out.table[i] = FREE;
             if p.end != end {
                 out.table[n] = p;
-                n = n + 1;
+                n += 1;
             }
         }
         out.waits = n - packets;

@@ -88,10 +88,9 @@ pub fn read_in_parts(
     let r = syscall::read_bytes(
         p, handle, options, base, memory, address, count, count_at, ring, table,
     );
-    let a = r.answer;
-    if endpoint::answer::is_done(a) {
-        user_answers::memory::land_count(memory, base, count_at, endpoint::answer::count_of(a));
-        return r;
+    if r.answer.is_ok() {
+        let delivered = endpoint::answer::count_of(r.answer);
+        user_answers::memory::land_count(memory, base, count_at, delivered);
     }
     r
 }

@@ -8,6 +8,7 @@ use lib.ListN.{length}
 use lib.Dec.{eqb, ltb}
 use borrow.Author.Tests.{eqb-true, leb-true}
 use Rattle.definition.specs.Status.{Answer}
+use Rattle.std.specs.Prelude.{Option, Some, None}
 use Rattle.std.specs.declared.result.Result.TheVariants.{Ok}
 use Rattle.definition.specs.declared.Record.TheVariants.{Count}
 use Rattle.definition.specs.declared.Status.TheVariants.{NotFound}
@@ -87,14 +88,24 @@ passed-one : Ok (Count 1) ≡ (refuse_if (eqb 1 0) NotFound then Ok (Count 1))
 unfolding refuse_if ◌then◌
 passed-one = refl
 
+-- the place of the only match, where there is one
+found : (m k : ℕ) → ◌≡◌ {A = Option ℕ} (Some k) (pick (ltb m 8) (Some m) None) → (k ≡ m) × (ltb k 8 ≡ true)
+unfolding pick
+found m k e = by (ltb m 8) refl
+  where
+    by : (b : Bool) → ltb m 8 ≡ b → (k ≡ m) × (ltb k 8 ≡ true)
+    by true w = let z : ◌≡◌ {A = Option ℕ} (Some k) (Some m) = rw w at e in let s : k ≡ m = cc in (s, rw s w)
+    by false w = let z : ◌≡◌ {A = Option ℕ} (Some k) None = rw w at e in (cc)
+
 pub one-steps : (p : Pair) (h key k : ℕ) (q : Pair) → length p.places.table ≡ 128
-    → k ≡ only_match (is_done (opening_test (ends_of p) h)) (is_one h) key p.places → ltb k 8 ≡ true
+    → (let m = only_match (is_done (opening_test (ends_of p) h)) (is_one h) key p.places in ◌≡◌ {A = Option ℕ} (Some k) (pick (ltb m 8) (Some m) None))
     → q ≡ with_places (pick (is_among_eight k p.places) (without_place k p.places) p.places) p
     → Steps p (cancel_answer p h key) (cancelled (is_one h) key p) (record { pair = q; answer = Ok (Count 1) })
 unfolding cancel_answer cancelled pick is_done
-one-steps p h key k q l e b f =
+one-steps p h key k q l e f =
     let t = p.places in
-    let w = only_one (is_done (opening_test (ends_of p) h)) (is_one h) key t k l e b in
+    let at = found _ k e in
+    let w = only_one (is_done (opening_test (ends_of p) h)) (is_one h) key t k l at.0 at.1 in
     let a : Ok (Count 1) ≡ cancel_answer p h key =
     then_go (opening_test (ends_of p) h) (opening_test (ends_of p) h) _ (Ok (Count 1)) refl w.done (counted-one (matching (is_one h) key t) w.count) in
     record {

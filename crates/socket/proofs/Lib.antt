@@ -1,4 +1,5 @@
 pub mod Steps
+pub mod Done
 pub mod Visiting
 pub mod Inner
 pub mod Needed

@@ -1,4 +1,4 @@
--- The waits need no visit where none of them fires, and a table whose only place used is a wait is visited in that place. Assumes nothing.
+-- The waits need no visit where none of them fires. Assumes nothing.
 use mathlib.Core.Path.{◌≡◌, refl, sym, ap, ◌∙◌}
 use mathlib.Core.Bool.{Bool, true, false}
 use lib.ListN.{length}
@@ -34,13 +34,3 @@ pub settled_need : (r : EndsOutcome) (p : Pair) → length p.places.table ≡ 12
     → pick (needs_visit r (with_outcome r p).places) (visited_all r (with_outcome r p)) (with_outcome r p) ≡ (settled_step r p).pair
 unfolding settled_step with_ends
 settled_need r p l = need r (with_outcome r p) l
-
--- where the only place used is a wait
-pub only_all : (r : EndsOutcome) (p : Pair)
-    → with_places (pick (only_wait p.places) (visited_each r p.places) p.places) p ≡ pick (only_wait p.places) (visited_all r p) p
-unfolding with_places pick
-only_all r p = by (only_wait p.places)
-  where
-    by : (o : Bool) → with_places (pick o (visited_each r p.places) p.places) p ≡ pick o (visited_all r p) p
-    by true = each_all r p
-    by false = refl

@@ -6,20 +6,22 @@ use mathlib.Core.List.{List}
 use native.Mathlib.Omega.{arith}
 use lib.ListN.{length}
 use borrow.Author.Tests.{eqb-false}
-use Rattle.definition.specs.Status.{pick, count_of}
+use Rattle.std.specs.Option.{option_map}
+use Rattle.std.specs.declared.option.Option.{Option}
+use Rattle.definition.specs.Status.{Answer, pick, count_of}
 use Rattle.endpoint.proofs.answer.Chains.{counted, neither}
 use Rattle.definition.specs.Port.{sound}
 use Rattle.definition.specs.Tests.{first_length, lent_of}
 use Rattle.definition.specs.declared.Ends.{Ends}
-use Rattle.definition.specs.declared.Queue.{Queue}
 use Rattle.definition.specs.Effect.{Effect, keeping_waits, applied}
 use Rattle.endpoint.specs.ends.AtOnce.{moved_by}
 use Rattle.endpoint.specs.ends.Outcome.{unchanged_ends}
+use Rattle.transfer.specs.declared.change.Exchange.{Exchange}
 use Rattle.transfer.specs.declared.change.Transfer.{Transfer}
-use Rattle.transfer.specs.change.Changes.{kept_transfer, transfer_outcome, Changes}
-use Rattle.transfer.specs.write.WriteChange.{wrote_by, WriteChanges, Wrote}
+use Rattle.transfer.specs.change.Changes.{transfer_outcome, Changes}
+use Rattle.transfer.specs.write.WriteChange.{fed_effect, wrote_by, WriteChanges, Wrote}
 use Rattle.definition.specs.Read.{read_effect, consumed, pair_read, Reads, read_answer}
-use Rattle.transfer.specs.read.ReadChange.{read_by, ReadChanges, Read}
+use Rattle.transfer.specs.read.ReadChange.{drained_effect, read_by, ReadChanges, Read}
 use Rattle.definition.specs.declared.Pair.{Pair}
 use Rattle.definition.specs.declared.Step.{Step}
 use Rattle.definition.specs.Pair.{is_one, own, peer, ends_of}
@@ -28,28 +30,29 @@ use Rattle.answers.proofs.tests.Sound.{passed}
 use Rattle.socket.specs.Deferred.{settled_step, with_ends}
 use Rattle.socket.proofs.Visiting.{applied_two, settled_moved}
 
--- the step of a call by the end of handle h that gives t, and whose effect drops no wait and changes at most two words
-transfer_settled : (p : Pair) (h : ℕ) (none : Bool) (q : Queue) (stands effect : Effect) (t : Transfer) → length p.places.table ≡ 128
-    → (none ≡ false → sound p.places ≡ true) → effect.drops ≡ false → length effect.changes ≤ 2 → Changes none q stands effect t
-    → settled_step (transfer_outcome (ends_of p) h t stands) p ≡ record { pair = pick none p (applied (is_one h) effect p); answer = t.answer }
-unfolding transfer_outcome kept_transfer settled_step unchanged_ends with_ends pick
-transfer_settled p h true q stands effect t l s d n c = rw (ap (λ (k : Transfer). k.moves) (c.kept refl)) refl
-transfer_settled p h false q stands effect t l s d n c =
-    rw (c.moves refl, c.moved refl)
-    (settled_moved p (is_one h) t.answer (moved_by (is_one h) effect) l
-    ∙ ap (λ (k : Pair). record { pair = k; answer = t.answer }) (applied_two (is_one h) effect p d n (s refl)))
+-- the step of a call by the end of handle h with the answer a and the change c, whose effect drops no wait and changes at most two words
+transfer_settled : (p : Pair) (h : ℕ) (none : Bool) (stands : Exchange → Effect) (effect : Effect) (c : Option Exchange) (a : Answer)
+    → length p.places.table ≡ 128 → (none ≡ false → sound p.places ≡ true) → effect.drops ≡ false → length effect.changes ≤ 2
+    → Changes none stands effect c
+    → settled_step (transfer_outcome (ends_of p) h a (option_map stands c)) p ≡ record { pair = pick none p (applied (is_one h) effect p); answer = a }
+unfolding transfer_outcome settled_step unchanged_ends with_ends pick
+transfer_settled p h true stands effect c a l s d n e = rw e refl
+transfer_settled p h false stands effect c a l s d n e =
+    rw e
+    (settled_moved p (is_one h) a (moved_by (is_one h) effect) l
+    ∙ ap (λ (k : Pair). record { pair = k; answer = a }) (applied_two (is_one h) effect p d n (s refl)))
 
 module _ (p : Pair) (h : ℕ) (t : Transfer) (l : length p.places.table ≡ 128) (s : (count_of t.answer ≡ 0 → ⊥) → sound p.places ≡ true) where
   pub wrote_settled : WriteChanges (ends_of p) h t
       → settled_step (wrote_by (ends_of p) h t) p ≡ record { pair = pair_written p h (count_of t.answer); answer = t.answer }
   unfolding wrote_by pair_written wrote write_effect keeping_waits
-  wrote_settled c = transfer_settled p h _ _ _ _ t l (λ z. s (eqb-false _ _ z)) refl (omega arith) c
+  wrote_settled c = transfer_settled p h _ (fed_effect (own (is_one h) (ends_of p)) (peer (is_one h) (ends_of p))) _ t.change t.answer l (λ z. s (eqb-false _ _ z)) refl (omega arith) c
 
   pub read_settled : (peek : Bool) (table : List ℕ) → ReadChanges (ends_of p) h peek table t
       → settled_step (read_by (ends_of p) h t) p
       ≡ record { pair = pair_read p h peek (first_length p.datagram (own (is_one h) (ends_of p)).queue table) (count_of t.answer); answer = t.answer }
   unfolding read_by pair_read consumed read_effect keeping_waits
-  read_settled peek table c = transfer_settled p h _ _ _ _ t l (λ z. s (eqb-false _ _ (neither _ _ z).1)) refl (omega arith) c
+  read_settled peek table c = transfer_settled p h _ (drained_effect (own (is_one h) (ends_of p)) (peer (is_one h) (ends_of p))) _ t.change t.answer l (λ z. s (eqb-false _ _ (neither _ _ z).1)) refl (omega arith) c
 
 pub wrote-whole : (p : Pair) (h : ℕ) (src ring ring' table table' : List ℕ) (e : Ends) (t : Transfer) → length p.places.table ≡ 128
     → e ≡ ends_of p → Wrote e h src ring ring' table table' t → Writes p h src ring ring' table table' (settled_step (wrote_by e h t) p)

@@ -47,14 +47,6 @@ wait-steps p h key mask edge x p' e f =
           (register_done (is_one h) (own (is_one h) (ends_of p)).signals key mask (eqb edge 1) p.places (wait-room (ends_of p) h edge _ refl w)));
     }
 
--- the same with the test of the first place
-pub first_only : (a u : Bool) (r : Places) (p : Pair) → with_places (pick (a and u) r p.places) p ≡ pick u (with_places (pick a r p.places) p) p
-unfolding pick ◌and◌ with_places
-first_only true true r p = refl
-first_only true false r p = refl
-first_only false true r p = refl
-first_only false false r p = refl
-
 -- a wait that does not fire as it is registered goes behind the others
 pub few_registered : (asked t : Bool) (key mask edge : ℕ) (p : Pair) → appends_few t mask edge p ≡ true
     → appended_pair asked t key mask p ≡ registered_pair asked t key mask edge p

@@ -1,5 +1,5 @@
 // Cancel.
-ghost use Rattle.std.specs.Prelude.{◌≡◌, eqb, ltb, length};
+ghost use Rattle.std.specs.Prelude.{◌≡◌, eqb, ltb, length, Some, None};
 ghost use Rattle.definition.specs.Status.{pick, is_done, refuse_if, ◌then◌};
 ghost use Rattle.std.specs.declared.result.Result.TheVariants.{Ok};
 ghost use Rattle.definition.specs.declared.Record.TheVariants.{Count};
@@ -12,15 +12,12 @@ ghost use Rattle.socket.specs.Step.{inner_step};
 
 use crate::{SocketPair, SocketStep, parts};
 use definition::{Answer, Pair, Record, Status, Step};
-use endpoint::answer::is_done;
 
 // The answer of a cancel, by that of the first tests and by how many waits and packets were removed.
 fn cancel_answer(opened: Answer, removed: u32) -> Answer
     ensures { result ≡ (opened then refuse_if (eqb removed 0) NotFound then Ok (Count removed)) }
 {
-    if !is_done(opened) {
-        return opened;
-    }
+    opened?;
     if removed == 0 {
         return Err(Status::NotFound);
     }
@@ -32,39 +29,28 @@ pub fn cancelled(p: Pair, handle: u32, key: u64) -> Step
     ensures { Cancels p handle key result }
 {
     let opened = answers::tests::opening_test(parts::ends_of(p), handle);
-    let places = p.places;
-    let left = port::cancel::cancelled(places, is_done(opened), handle == 1, key);
-    let next = left.places;
+    let left = port::cancel::cancelled(p.places, opened.is_ok(), handle == 1, key);
     Step {
-        pair: parts::with_places(p, next),
+        pair: parts::with_places(p, left.places),
         answer: cancel_answer(opened, left.removed),
     }
 }
 
-// Where the only place that a cancel matches stands; 8 if it does not pass its first tests, if more than 8 places are used, or if none or several match.
-pub fn only_match(p: Pair, handle: u32, key: u64) -> usize
+// Where the only place that a cancel matches stands; `None` if it does not pass its first tests, if more than 8 places are used, or if none or several
+// match. The first clause says of the pair what a caller that keeps it behind a reference cannot read off it.
+pub fn only_match(p: Pair, handle: u32, key: u64) -> Option<usize>
     ensures size { length p.places.table ≡ 128 }
-    ensures place { result ≡ only_match (is_done (opening_test (ends_of p) handle)) (is_one handle) key p.places }
+    ensures place { let k = only_match (is_done (opening_test (ends_of p) handle)) (is_one handle) key p.places in result ≡ pick (ltb k 8) (Some k) None }
 {
     let opened = answers::tests::opening_test(parts::ends_of(p), handle);
-    let places = p.places;
-    port::few::only_match(places, is_done(opened), handle == 1, key)
-}
-
-// Whether `only_match` found a place: it gives 8 where it found none.
-pub fn is_found(k: usize) -> bool
-    ensures { result ≡ ltb k 8 }
-{
-    k < 8
+    port::few::only_match(p.places, opened.is_ok(), handle == 1, key)
 }
 
 // The pair without the place at k, if that is used and at most 8 are; else as it was.
 pub fn without_place(p: Pair, k: usize) -> Pair
     ensures { result ≡ with_places (pick (is_among_eight k p.places) (without_place k p.places) p.places) p }
 {
-    let places = p.places;
-    let next = port::few::without_place(places, k);
-    parts::with_first_places(p, next)
+    parts::with_first_places(p, port::few::without_place(p.places, k))
 }
 
 impl SocketPair {
@@ -72,7 +58,6 @@ impl SocketPair {
     pub fn cancel(self, handle: u32, key: u64) -> SocketStep
         ensures { Cancels self.inner handle key (inner_step result) }
     {
-        let p = self.inner;
-        parts::stepped(cancelled(p, handle, key))
+        cancelled(self.inner, handle, key).into()
     }
 }

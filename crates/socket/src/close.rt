@@ -14,6 +14,6 @@ impl SocketPair {
         if r.fires {
             p = deferred::without_waits(p, handle);
         }
-        parts::stepped(deferred::settle(p, r))
+        deferred::settle(p, r).into()
     }
 }

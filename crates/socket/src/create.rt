@@ -1,5 +1,5 @@
 // Create.
-ghost use Rattle.std.specs.Prelude.{◌≡◌, false, length, eqb};
+ghost use Rattle.std.specs.Prelude.{◌≡◌, length, eqb};
 ghost use Rattle.definition.specs.Status.{pick};
 ghost use Rattle.definition.specs.Create.{new_end, no_end, new_pair, no_pair, Creates};
 ghost use Rattle.answers.specs.create.Held.{held_rights};
@@ -8,40 +8,30 @@ ghost use Rattle.socket.specs.Step.{inner_step};
 use crate::{SocketPair, SocketStep};
 use answers::create::held_rights;
 use definition::{Endpoint, Pair};
-use endpoint::bits::bit_if;
+use endpoint::choice::pick;
 
 // A new end, or one that was never made.
 fn end_if(made: bool, rights: u32) -> Endpoint
     ensures { result ≡ pick made (new_end (held_rights rights)) no_end }
 {
-    if made {
-        return endpoint::end::new_end(held_rights(rights));
-    }
-    endpoint::end::no_end()
-}
-
-fn datagram_if(made: bool, datagram: bool) -> bool
-    ensures { result ≡ pick made datagram false }
-{
-    if made {
-        return datagram;
-    }
-    false
+    pick(
+        made,
+        endpoint::end::new_end(held_rights(rights)),
+        endpoint::end::no_end(),
+    )
 }
 
 // A new pair, or the record of a refused create. Both are put together by the same statements, so that the compiler fills the table where it is to stand.
 fn pair_if(made: bool, datagram: bool, capacity: u32, rights_one: u32, rights_two: u32) -> Pair
     ensures { result ≡ pick made (new_pair datagram capacity (held_rights rights_one) (held_rights rights_two)) no_pair }
 {
-    let one = end_if(made, rights_one);
-    let two = end_if(made, rights_two);
     Pair {
-        datagram: datagram_if(made, datagram),
+        datagram: pick(made, datagram, false),
         spare1: 0,
         spare2: 0,
-        capacity: bit_if(made, capacity),
-        one,
-        two,
+        capacity: pick(made, capacity, 0),
+        one: end_if(made, rights_one),
+        two: end_if(made, rights_two),
         places: port::places::new_places(),
     }
 }
@@ -63,6 +53,8 @@ pub fn new_pair(kind: u32, capacity: u32, rights_one: u32, rights_two: u32) -> P
 
 impl SocketPair {
     // A new pair. Each later call is lent the rings and tables that it uses; create looks at the lengths of all four.
+    // They stand one by one, as `murgwethan_create` has them for C, and `Creates` of the definition: a struct of a ring and its table would be put
+    // together only to be taken apart here.
     pub fn create(
         kind: u32,
         capacity: u32,
@@ -85,10 +77,9 @@ impl SocketPair {
             ring_two.len(),
             table_two.len(),
         );
-        let made = endpoint::answer::is_done(a);
         SocketStep {
             pair: SocketPair {
-                inner: pair_if(made, kind == 1, capacity, rights_one, rights_two),
+                inner: pair_if(a.is_ok(), kind == 1, capacity, rights_one, rights_two),
             },
             answer: a,
         }

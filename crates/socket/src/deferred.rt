@@ -23,33 +23,21 @@ pub fn needs_visit(p: Pair, r: EndsOutcome) -> bool
     ensures needed { result ≡ needs_visit r p.places }
     ensures size { length p.places.table ≡ 128 }
 {
-    if !r.fires {
-        return false;
-    }
-    if has_only_wait(p) {
-        return true;
-    }
-    port::visits::any_due(p.places, r)
+    r.fires && (has_only_wait(p) || port::visits::any_due(p.places, r))
 }
 
 // Visits the waits of all changes of a call.
 pub fn visit_each(p: Pair, r: EndsOutcome) -> Pair
     ensures { result ≡ visited_all r p }
 {
-    let mut t = p.places;
-    t = port::visits::visited(t, r.visits.first);
-    t = port::visits::visited(t, r.visits.second);
-    t = port::visits::visited(t, r.more.first);
-    t = port::visits::visited(t, r.more.second);
-    parts::with_places(p, t)
+    parts::with_places(p, port::visits::visited_all(p.places, r))
 }
 
-// The same for a pair whose only place used is a wait.
+// The same for a pair whose only place used is a wait. It stands apart for speed: the first place alone is stored, and not the table.
 pub fn visit_only(p: Pair, r: EndsOutcome) -> Pair
     ensures { result ≡ pick (only_wait p.places) (visited_all r p) p }
 {
-    let t = port::visits::visited_alone(p.places, r);
-    parts::with_first_places(p, t)
+    parts::with_first_places(p, port::visits::visited_alone(p.places, r))
 }
 
 // The same end, put together from its fields. Copied whole, the two ends of an outcome are stored and loaded in parts that do not match, for which a
@@ -58,26 +46,26 @@ fn by_fields(e: Endpoint) -> Endpoint
     ensures { result ≡ e }
 {
     let t = e.thresholds;
-    let thresholds = Thresholds {
-        read: t.read,
-        write: t.write,
-    };
     let q = e.queue;
-    let bytes = Span {
-        start: q.bytes.start,
-        count: q.bytes.count,
-    };
-    let lengths = Span {
-        start: q.lengths.start,
-        count: q.lengths.count,
-    };
     Endpoint {
         closed: e.closed,
         read_disabled: e.read_disabled,
         rights: e.rights,
         signals: e.signals,
-        thresholds,
-        queue: Queue { bytes, lengths },
+        thresholds: Thresholds {
+            read: t.read,
+            write: t.write,
+        },
+        queue: Queue {
+            bytes: Span {
+                start: q.bytes.start,
+                count: q.bytes.count,
+            },
+            lengths: Span {
+                start: q.lengths.start,
+                count: q.lengths.count,
+            },
+        },
     }
 }
 
@@ -85,17 +73,14 @@ fn by_fields(e: Endpoint) -> Endpoint
 pub fn with_outcome(p: Pair, r: EndsOutcome) -> Pair
     ensures { result ≡ with_outcome r p }
 {
-    let one = by_fields(r.one);
-    let two = by_fields(r.two);
-    let places = p.places;
     Pair {
         datagram: p.datagram,
         spare1: p.spare1,
         spare2: p.spare2,
         capacity: p.capacity,
-        one,
-        two,
-        places,
+        one: by_fields(r.one),
+        two: by_fields(r.two),
+        places: p.places,
     }
 }
 
@@ -115,10 +100,9 @@ fn visit(p: Pair, r: EndsOutcome) -> Pair
 pub fn settle(p: Pair, r: EndsOutcome) -> Step
     ensures { result ≡ settled_step r p }
 {
-    let answer = r.answer;
     Step {
         pair: visit(with_outcome(p, r), r),
-        answer,
+        answer: r.answer,
     }
 }
 
@@ -127,8 +111,7 @@ pub fn without_waits(p: Pair, handle: u32) -> Pair
     ensures { result ≡ without_waits (is_one handle) p }
 {
     let n = port::waits::drop_waits(p.places, handle == 1);
-    let places = n.places;
-    parts::with_places(p, places)
+    parts::with_places(p, n.places)
 }
 
 // The pair without the waits of an end, once the others are visited.
@@ -136,10 +119,5 @@ pub fn close_waits(p: Pair, handle: u32, r: EndsOutcome) -> Pair
     ensures { result ≡ visited_all r (without_waits (is_one handle) p) }
 {
     let n = port::waits::drop_waits(p.places, handle == 1);
-    let mut t = n.places;
-    t = port::visits::visited(t, r.visits.first);
-    t = port::visits::visited(t, r.visits.second);
-    t = port::visits::visited(t, r.more.first);
-    t = port::visits::visited(t, r.more.second);
-    parts::with_places(p, t)
+    parts::with_places(p, port::visits::visited_all(n.places, r))
 }

@@ -15,13 +15,12 @@ impl SocketPair {
     ) -> SocketStep
         ensures { Disposes self.inner handle disposition peer_disposition (inner_step result) }
     {
-        let p = self.inner;
         let r = control::disposition::dispose_ends(
-            parts::ends_of(p),
+            parts::ends_of(self.inner),
             handle,
             disposition,
             peer_disposition,
         );
-        parts::stepped(deferred::settle(p, r))
+        deferred::settle(self.inner, r).into()
     }
 }

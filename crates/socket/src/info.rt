@@ -10,10 +10,9 @@ impl SocketPair {
     pub fn get_info(self, handle: u32, table: &[u32]) -> SocketStep
         ensures { AsksInfo self.inner handle table.now (inner_step result) }
     {
-        let p = self.inner;
         SocketStep {
             pair: self,
-            answer: answers::control_calls::info_answer(parts::ends_of(p), handle, table),
+            answer: answers::control_calls::info_answer(parts::ends_of(self.inner), handle, table),
         }
     }
 }

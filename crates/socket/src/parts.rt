@@ -13,15 +13,13 @@ pub fn ends_of(p: Pair) -> Ends
     ensures ends { result ≡ ends_of p }
     ensures size { length p.places.table ≡ 128 }
 {
-    let one = p.one;
-    let two = p.two;
     Ends {
         datagram: p.datagram,
         capacity: p.capacity,
         packets: p.places.packets,
         waits: p.places.waits,
-        one,
-        two,
+        one: p.one,
+        two: p.two,
     }
 }
 
@@ -29,27 +27,20 @@ pub fn ends_of(p: Pair) -> Ends
 pub fn own(p: Pair, one: bool) -> Endpoint
     ensures { result ≡ own one (ends_of p) }
 {
-    if one {
-        let e = p.one;
-        return e;
-    }
-    let e = p.two;
-    e
+    if one { p.one } else { p.two }
 }
 
 // The pair with its places replaced, assembled from its parts, so that the compiler leaves those in place that stay.
 pub fn with_places(p: Pair, places: Places) -> Pair
     ensures { result ≡ with_places places p }
 {
-    let one = p.one;
-    let two = p.two;
     Pair {
         datagram: p.datagram,
         spare1: p.spare1,
         spare2: p.spare2,
         capacity: p.capacity,
-        one,
-        two,
+        one: p.one,
+        two: p.two,
         places,
     }
 }
@@ -67,33 +58,40 @@ impl SocketPair {
     pub fn signal(self, handle: u32) -> SignalWord
         ensures { result ≡ shown_by self.inner handle }
     {
-        let p = self.inner;
         if !is_handle(handle) {
             return None;
         }
-        let e = own(p, handle == 1);
-        endpoint::end::shown(e)
+        endpoint::end::shown(own(self.inner, handle == 1))
     }
 }
 
 // A step as a method hands it back.
-pub fn stepped(s: Step) -> SocketStep
-    ensures { inner_step result ≡ s }
-{
-    let inner = s.pair;
-    let answer = s.answer;
-    SocketStep {
-        pair: SocketPair { inner },
-        answer,
+impl From<Step> for SocketStep {
+    ghost from_gives = { λ s r. inner_step r ≡ s };
+
+    fn from(s: Step) -> SocketStep {
+        SocketStep {
+            pair: SocketPair { inner: s.pair },
+            answer: s.answer,
+        }
     }
 }
 
 // What a method handed back, as a step.
+impl From<SocketStep> for Step {
+    ghost from_gives = { λ s r. r ≡ inner_step s };
+
+    fn from(s: SocketStep) -> Step {
+        Step {
+            pair: s.pair.inner,
+            answer: s.answer,
+        }
+    }
+}
+
+// The same for callers that know it by this name.
 pub fn inner_step(s: SocketStep) -> Step
     ensures { result ≡ inner_step s }
 {
-    let q = s.pair;
-    let pair = q.inner;
-    let answer = s.answer;
-    Step { pair, answer }
+    s.into()
 }

@@ -16,10 +16,9 @@ impl SocketPair {
     ) -> SocketStep
         ensures { Reads self.inner handle peek ring.now table.now buffer.old buffer.new (inner_step result) }
     {
-        let p = self.inner;
-        let e = parts::ends_of(p);
+        let e = parts::ends_of(self.inner);
         let t = transfer::read::read_transfer(e, handle, peek, ring, table, buffer);
         let r = transfer::read::read_outcome(e, handle, t);
-        parts::stepped(deferred::settle(p, r))
+        deferred::settle(self.inner, r).into()
     }
 }

@@ -9,8 +9,7 @@ impl SocketPair {
     pub fn shutdown(self, handle: u32, read: bool, write: bool) -> SocketStep
         ensures { Shuts self.inner handle read write (inner_step result) }
     {
-        let p = self.inner;
-        let r = control::ends::shutdown_ends(parts::ends_of(p), handle, read, write);
-        parts::stepped(deferred::settle(p, r))
+        let r = control::ends::shutdown_ends(parts::ends_of(self.inner), handle, read, write);
+        deferred::settle(self.inner, r).into()
     }
 }

@@ -1,4 +1,5 @@
 pub mod Passed
+pub mod Numbers
 pub mod Calls
 pub mod Settled
 pub mod Controlled

@@ -5,7 +5,8 @@ ghost use Rattle.definition.specs.Disposition.{disposition_of, dispose_effect, u
 ghost use Rattle.definition.specs.Shutdown.{shut_effect, shuts_read, shuts_write, user_shutdown_answer};
 ghost use Rattle.control.specs.ByEffect.{moved_if};
 
-use definition::Ends;
+use definition::{Disposition, Ends};
+use endpoint::end::has_bit;
 use endpoint::ends::{EndsOutcome, unchanged};
 
 // The bits of a shutdown's options; others are ignored.
@@ -18,15 +19,15 @@ pub fn dispose_ends(e: Ends, handle: u32, disposition: u32, peer_disposition: u3
     ensures { result ≡ moved_if e handle (user_dispose_answer e handle disposition peer_disposition) (dispose_effect (own (is_one handle) e) (peer (is_one handle) e) (disposition_of disposition) (disposition_of peer_disposition)) }
 {
     let a = user_answers::lookup::dispose_answer(e, handle, disposition, peer_disposition);
-    if !endpoint::answer::is_done(a) {
-        return unchanged(e, a);
+    match (
+        Disposition::try_from(disposition),
+        Disposition::try_from(peer_disposition),
+    ) {
+        (Ok(own), Ok(peer)) if a.is_ok() => control::disposition::dispose_ends(
+            e, handle, own, peer,
+        ),
+        _ => unchanged(e, a),
     }
-    control::disposition::dispose_ends(
-        e,
-        handle,
-        user_answers::lookup::disposition_of(disposition),
-        user_answers::lookup::disposition_of(peer_disposition),
-    )
 }
 
 // Prevents reading or writing by the end of a handle, by bits, with the negated flags for an open peer, but leaves the visit of the waits for
@@ -34,11 +35,12 @@ pub fn dispose_ends(e: Ends, handle: u32, disposition: u32, peer_disposition: u3
 pub fn shutdown_ends(e: Ends, handle: u32, options: u32) -> EndsOutcome
     ensures { result ≡ moved_if e handle (user_shutdown_answer e handle) (shut_effect (own (is_one handle) e) (peer (is_one handle) e) (shuts_read options) (shuts_write options)) }
 {
-    let a = user_answers::lookup::shutdown_answer(e, handle);
-    if !endpoint::answer::is_done(a) {
-        return unchanged(e, a);
+    match user_answers::lookup::shutdown_answer(e, handle) {
+        Err(status) => unchanged(e, Err(status)),
+        Ok(_) => {
+            let read = has_bit(options, SHUTDOWN_READ);
+            let write = has_bit(options, SHUTDOWN_WRITE);
+            control::ends::shutdown_ends(e, handle, read, write)
+        }
     }
-    let read = endpoint::end::has_bit(options, SHUTDOWN_READ);
-    let write = endpoint::end::has_bit(options, SHUTDOWN_WRITE);
-    control::ends::shutdown_ends(e, handle, read, write)
 }

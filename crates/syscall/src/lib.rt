@@ -1,4 +1,5 @@
-// Calls over user memory: one slice that the caller lends, at a 64-bit base. After zircon-syscall's socket.rs.
+// Calls over user memory: one slice that the caller lends, at a 64-bit base. After zircon-syscall's socket.rs. The base, the memory and the places in it
+// stand one by one, as `murgwethan_user_write` and `murgwethan_user_read` have them for C, and `UserWrites` and `UserReads` of the definition.
 #![tactic(auto)]
 
 ghost use Rattle.definition.specs.Disposition.{UserDisposes};

@@ -6,25 +6,27 @@ ghost use Rattle.transfer.specs.change.Changes.{kept_transfer};
 use definition::{Answer, Queue};
 
 // What a write or a read changes: the queue that bytes went into or left, the bits that the caller's word loses, and those that its peer's word gains
-// if the peer is open. `moves` says whether it changes anything; `answer` is the call's.
+// if the peer is open.
 #[derive(Clone, Copy)]
-pub struct Transfer {
+pub struct Exchange {
     pub queue: Queue,
     pub lost: u32,
     pub gained: u32,
-    pub moves: bool,
+}
+
+// The answer of a write or a read, and what it changes, if it changes anything.
+#[derive(Clone, Copy)]
+pub struct Transfer {
+    pub change: Option<Exchange>,
     pub answer: Answer,
 }
 
 // A call that changes nothing.
-pub fn kept(queue: Queue, answer: Answer) -> Transfer
-    ensures { result ≡ kept_transfer queue answer }
+pub fn kept(answer: Answer) -> Transfer
+    ensures { result ≡ kept_transfer answer }
 {
     Transfer {
-        queue,
-        lost: 0,
-        gained: 0,
-        moves: false,
+        change: None,
         answer,
     }
 }

@@ -1,134 +1,82 @@
 // Read and peek over both ends of a pair: the bytes go from the ring to the caller, and the waits are visited later.
 // After `Socket::read` of ipc/socket.rs.
-ghost use Rattle.std.specs.Prelude.{◌≡◌, true, not, ◌≤◌, ◌<◌, length, eqb};
+ghost use Rattle.std.specs.Prelude.{◌≡◌, not, ◌≤◌, ◌<◌, length};
 ghost use Rattle.std.proofs.Math.Seq.{paste};
-ghost use Rattle.definition.specs.Status.{pick, ◌and◌, count_of};
+ghost use Rattle.definition.specs.Status.{◌and◌};
 ghost use Rattle.definition.specs.Ring.{front};
-ghost use Rattle.definition.specs.Tests.{first_length};
 ghost use Rattle.definition.specs.Pair.{is_one, own, peer};
-ghost use Rattle.definition.specs.Read.{read_effect, leaving, drained_queue, buffer_read};
+ghost use Rattle.definition.specs.Read.{read_effect, leaving, drained_queue};
 ghost use Rattle.endpoint.specs.ends.AtOnce.{moved_by};
 ghost use Rattle.endpoint.specs.ends.Outcome.{can_fire};
-ghost use Rattle.transfer.specs.read.ReadChange.{drained_effect, read_by, DrainChanges, ReadChanges, Drain, Deliver, Read};
+ghost use Rattle.transfer.specs.read.ReadChange.{drained_effect, read_by, DrainChanges, Drain, Read};
 
-use crate::change::Transfer;
+use crate::change::{Exchange, Transfer, kept};
 use answers::read::read_answer;
-use definition::{Answer, Endpoint, Ends, Queue, Span};
+use definition::{Ends, Queue};
 use endpoint::bits::{gained_by_writer, lost_by_reader};
+use endpoint::choice::pick;
 use endpoint::ends::{EndsOutcome, Moved, NO_VISIT, Pending, Visits};
 use endpoint::signal::changed;
 
 pub mod user_memory;
 
-// The bytes that leave the queue: a datagram leaves whole.
-fn leaving_of(datagram: bool, first: u32, k: u32) -> u32
-    ensures { result ≡ leaving datagram first k }
-{
-    if datagram {
-        return first;
-    }
-    k
-}
-
 // The queue after n bytes left it.
-fn drained_queue(datagram: bool, capacity: u32, n: u32, q: Queue) -> Queue
+fn drained_queue(datagram: bool, capacity: u32, n: u32, mut q: Queue) -> Queue
     requires { Drain datagram capacity n q }
     ensures { result ≡ drained_queue datagram capacity n q }
 {
     let start = ring::place::place(capacity as usize, q.bytes.start as usize, n as usize);
-    let bytes = Span {
-        start: start as u32,
-        count: q.bytes.count - n,
-    };
+    q.bytes.start = start as u32;
+    q.bytes.count -= n;
     if datagram {
         let next = ring::place::place(capacity as usize, q.lengths.start as usize, 1);
-        let fewer = Span {
-            start: next as u32,
-            count: q.lengths.count - 1,
-        };
-        return Queue {
-            bytes,
-            lengths: fewer,
-        };
+        q.lengths.start = next as u32;
+        q.lengths.count -= 1;
     }
-    let lengths = q.lengths;
-    Queue { bytes, lengths }
+    q
 }
 
 // Copies the first k bytes of a queue into the buffer.
 fn deliver(capacity: u32, start: u32, k: u32, ring: &[u8], buffer: &mut [u8])
-    requires { (k ≡ 0 → ⊥) → (start < capacity) × (k ≤ capacity) × (capacity ≤ length ring.now) × (k ≤ length buffer.old) }
-    ensures { buffer.new ≡ pick (eqb k 0) buffer.old
-        (paste buffer.old 0 (front capacity start k ring.now) k) }
+    requires { (start < capacity) × (k ≤ capacity) × (capacity ≤ length ring.now) × (k ≤ length buffer.old) }
+    ensures { buffer.new ≡ paste buffer.old 0 (front capacity start k ring.now) k }
 {
-    if k == 0 {
-        return;
-    }
     ring::copy::copy_out(ring, capacity as usize, start as usize, k as usize, buffer);
 }
 
-// The first length of the queue, looked at only where bytes are delivered: the record has then passed its tests, so that no entry from C on is read.
-fn first_delivered(datagram: bool, q: Queue, table: &[u32], k: u32) -> u32
-    ensures { result ≡ pick (eqb k 0) 0 (first_length datagram q table.now) }
-{
-    if k == 0 {
-        return 0;
-    }
-    endpoint::end::first_length(q, datagram, table)
-}
-
 // What changes where n bytes left the own queue.
-fn drained(
-    datagram: bool,
-    capacity: u32,
-    own: Endpoint,
-    peer: Endpoint,
-    answer: Answer,
-    n: u32,
-) -> Transfer
-    requires { Drain datagram capacity n own.queue }
-    ensures { (result.answer ≡ answer) × (result.moves ≡ true) × (drained_effect own peer result ≡ read_effect datagram capacity own peer n) }
+fn drained(p: Ends, one: bool, n: u32) -> Exchange
+    requires { Drain p.datagram p.capacity n (own one p).queue }
+    ensures { drained_effect (own one p) (peer one p) result ≡ read_effect p.datagram p.capacity (own one p) (peer one p) n }
 {
+    let own = endpoint::ends::own(p, one);
+    let peer = endpoint::ends::peer(p, one);
     let q = own.queue;
     let queued = q.bytes.count - n;
     let lost = lost_by_reader(own, queued);
-    let gained = gained_by_writer(peer, capacity - queued, q.bytes.count == capacity);
-    let queue = drained_queue(datagram, capacity, n, q);
-    Transfer {
+    let gained = gained_by_writer(peer, p.capacity - queued, q.bytes.count == p.capacity);
+    let queue = drained_queue(p.datagram, p.capacity, n, q);
+    Exchange {
         queue,
         lost,
         gained,
-        moves: true,
-        answer,
     }
 }
 
-// What changes by a read that delivered k bytes: a peek, or a read that delivered nothing, changes nothing.
-fn drain_transfer(
-    datagram: bool,
-    capacity: u32,
-    own: Endpoint,
-    peer: Endpoint,
-    answer: Answer,
-    peek: bool,
-    first: u32,
-    k: u32,
-) -> Transfer
-    requires { (k ≡ 0 → ⊥) → Drain datagram capacity (leaving datagram first k) own.queue }
-    ensures { (result.answer ≡ answer) × DrainChanges datagram capacity own peer peek first k result }
+// What changes by a read that delivered k bytes, of which there is one at least; a peek changes nothing. A datagram leaves whole.
+fn drain(p: Ends, one: bool, peek: bool, first: u32, k: u32) -> Option<Exchange>
+    requires { (k ≡ 0 → ⊥) × Drain p.datagram p.capacity (leaving p.datagram first k) (own one p).queue }
+    ensures { DrainChanges p.datagram p.capacity (own one p) (peer one p) peek first k result }
 {
-    let q = own.queue;
     if peek {
-        return crate::change::kept(q, answer);
+        return None;
     }
-    if k == 0 {
-        return crate::change::kept(q, answer);
-    }
-    let n = leaving_of(datagram, first, k);
-    drained(datagram, capacity, own, peer, answer, n)
+    let n = pick(p.datagram, first, k);
+    Some(drained(p, one, n))
 }
 
-// A read or peek by the end of a handle: both ends stay as they are, and it gives what changes. The ring and the table are the reader's.
+// A read or peek by the end of a handle: both ends stay as they are, and it gives what changes. The ring and the table are the reader's. The first
+// length is looked at only where bytes are delivered: the record has then passed its tests, so that no entry from C on is read.
 pub fn read_transfer(
     p: Ends,
     handle: u32,
@@ -139,51 +87,54 @@ pub fn read_transfer(
 ) -> Transfer
     ensures { Read p handle peek ring.now table.now buffer.old buffer.new result }
 {
-    let a = read_answer(p, handle, ring, table, buffer.len());
-    let k = endpoint::answer::count_of(a);
+    let answer = read_answer(p, handle, ring, table, buffer.len());
+    let k = endpoint::answer::count_of(answer);
+    if k == 0 {
+        return kept(answer);
+    }
     let one = handle == 1;
-    let own = endpoint::ends::own(p, one);
-    let peer = endpoint::ends::peer(p, one);
-    let q = own.queue;
-    let first = first_delivered(p.datagram, q, table, k);
+    let q = endpoint::ends::own(p, one).queue;
+    let first = endpoint::end::first_length(q, p.datagram, table);
     deliver(p.capacity, q.bytes.start, k, ring, buffer);
-    drain_transfer(p.datagram, p.capacity, own, peer, a, peek, first, k)
+    let change = drain(p, one, peek, first, k);
+    Transfer { change, answer }
 }
 
 // The changes of both words by a read; none of a closed peer's.
-fn drained_visits(one: bool, own: Endpoint, peer: Endpoint, t: Transfer) -> Visits
-    ensures { result ≡ (moved_by one (drained_effect own peer t)).visits }
+fn drained_visits(p: Ends, one: bool, x: Exchange) -> Visits
+    ensures { result ≡ (moved_by one (drained_effect (own one p) (peer one p) x)).visits }
 {
+    let peer = endpoint::ends::peer(p, one);
     let first = Pending {
         one,
-        word: own.signals,
-        clear: t.lost,
+        word: endpoint::ends::own(p, one).signals,
+        clear: x.lost,
         set: 0,
     };
     if peer.closed {
-        let none = NO_VISIT;
         return Visits {
             first,
-            second: none,
+            second: NO_VISIT,
         };
     }
     let second = Pending {
         one: !one,
         word: peer.signals,
         clear: 0,
-        set: t.gained,
+        set: x.gained,
     };
     Visits { first, second }
 }
 
 // The ends after a read; a closed peer stays as it is.
-fn drained_moved(one: bool, own: Endpoint, peer: Endpoint, t: Transfer) -> Moved
-    ensures { result ≡ moved_by one (drained_effect own peer t) }
+fn drained_moved(p: Ends, one: bool, x: Exchange) -> Moved
+    ensures { result ≡ moved_by one (drained_effect (own one p) (peer one p) x) }
 {
-    let queue = t.queue;
-    let drained = endpoint::end::with_queue(own, queue);
-    let next = endpoint::end::with_signals(drained, changed(own.signals, t.lost, 0));
-    let visits = drained_visits(one, own, peer, t);
+    let own = endpoint::ends::own(p, one);
+    let peer = endpoint::ends::peer(p, one);
+    let drained = endpoint::end::with_queue(own, x.queue);
+    let next = endpoint::end::with_signals(drained, changed(own.signals, x.lost, 0));
+    let visits = drained_visits(p, one, x);
     if peer.closed {
         return Moved {
             own: next,
@@ -193,7 +144,7 @@ fn drained_moved(one: bool, own: Endpoint, peer: Endpoint, t: Transfer) -> Moved
     }
     Moved {
         own: next,
-        peer: endpoint::end::with_signals(peer, changed(peer.signals, 0, t.gained)),
+        peer: endpoint::end::with_signals(peer, changed(peer.signals, 0, x.gained)),
         visits,
     }
 }
@@ -202,35 +153,22 @@ fn drained_moved(one: bool, own: Endpoint, peer: Endpoint, t: Transfer) -> Moved
 pub fn read_outcome(p: Ends, handle: u32, t: Transfer) -> EndsOutcome
     ensures { result ≡ read_by p handle t }
 {
-    let answer = t.answer;
-    if !t.moves {
-        return endpoint::ends::unchanged(p, answer);
-    }
+    let Some(x) = t.change else {
+        return endpoint::ends::unchanged(p, t.answer);
+    };
     let one = handle == 1;
-    let moved = drained_moved(
-        one,
-        endpoint::ends::own(p, one),
-        endpoint::ends::peer(p, one),
-        t,
-    );
-    endpoint::ends::put_back(p.waits, one, answer, moved, endpoint::ends::no_visits())
+    let moved = drained_moved(p, one, x);
+    endpoint::ends::put_back(p.waits, one, t.answer, moved, endpoint::ends::no_visits())
 }
 
-// Whether bytes left by a read whose peer is open, and no wait can fire.
-pub fn is_read_without_visit(p: Ends, handle: u32, t: Transfer) -> bool
-    ensures { result ≡ (t.moves and not (peer (is_one handle) p).closed
-        and not (can_fire p.waits (moved_by (is_one handle) (drained_effect (own (is_one handle) p) (peer (is_one handle) p) t)).visits)) }
+// Whether the peer is open, and no wait can fire by a read that changes this.
+pub fn is_read_without_visit(p: Ends, handle: u32, x: Exchange) -> bool
+    ensures { result ≡ (not (peer (is_one handle) p).closed
+        and not (can_fire p.waits (moved_by (is_one handle) (drained_effect (own (is_one handle) p) (peer (is_one handle) p) x)).visits)) }
 {
-    if !t.moves {
-        return false;
-    }
     let one = handle == 1;
-    let peer = endpoint::ends::peer(p, one);
-    if peer.closed {
+    if endpoint::ends::peer(p, one).closed {
         return false;
     }
-    !endpoint::ends::can_fire(
-        p.waits,
-        drained_visits(one, endpoint::ends::own(p, one), peer, t),
-    )
+    !endpoint::ends::can_fire(p.waits, drained_visits(p, one, x))
 }

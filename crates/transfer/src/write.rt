@@ -1,16 +1,15 @@
 // Write over both ends of a pair: the bytes go from the caller into the peer's ring, and the waits are visited later.
 // After `Socket::write` of ipc/socket.rs.
-ghost use Rattle.std.specs.Prelude.{◌≡◌, true, not, ◌+◌, ◌≤◌, ◌<◌, ◌^◌, eqb};
-ghost use Rattle.definition.specs.Status.{pick, ◌and◌, count_of};
+ghost use Rattle.std.specs.Prelude.{◌≡◌, true, not, ◌+◌, ◌≤◌, ◌<◌, ◌^◌};
 ghost use Rattle.definition.specs.Pair.{is_one, own, peer};
-ghost use Rattle.definition.specs.Write.{write_effect, fed_queue, ring_fed, ring_written, table_fed, table_written};
+ghost use Rattle.definition.specs.Write.{write_effect, fed_queue, ring_fed, table_fed};
 ghost use Rattle.endpoint.specs.ends.AtOnce.{moved_by};
 ghost use Rattle.endpoint.specs.ends.Outcome.{can_fire};
-ghost use Rattle.transfer.specs.write.WriteChange.{fed_effect, wrote_by, FeedChanges, WriteChanges, Feed, Wrote};
+ghost use Rattle.transfer.specs.write.WriteChange.{fed_effect, wrote_by, Feed, Wrote};
 
-use crate::change::Transfer;
+use crate::change::{Exchange, Transfer, kept};
 use answers::write::write_answer;
-use definition::{Answer, Endpoint, Ends, Queue, Span};
+use definition::{Ends, Queue};
 use endpoint::bits::{gained_by_peer, lost_by_writer};
 use endpoint::ends::{EndsOutcome, Moved, Pending, Visits};
 use endpoint::signal::changed;
@@ -18,81 +17,48 @@ use endpoint::signal::changed;
 pub mod user_memory;
 
 // The queue that m bytes went into.
-fn fed_queue(datagram: bool, m: u32, q: Queue) -> Queue
+fn fed_queue(datagram: bool, m: u32, mut q: Queue) -> Queue
     requires { (q.bytes.count + m < 2 ^ 32) × (datagram ≡ true → q.lengths.count + 1 < 2 ^ 32) }
     ensures { result ≡ fed_queue datagram m q }
 {
-    let bytes = Span {
-        start: q.bytes.start,
-        count: q.bytes.count + m,
-    };
+    q.bytes.count += m;
     if datagram {
-        let more = Span {
-            start: q.lengths.start,
-            count: q.lengths.count + 1,
-        };
-        return Queue {
-            bytes,
-            lengths: more,
-        };
+        q.lengths.count += 1;
     }
-    let lengths = q.lengths;
-    Queue { bytes, lengths }
+    q
 }
 
-// Copies m bytes behind those queued, and on datagram pairs puts their length behind those queued.
-fn feed(
-    datagram: bool,
-    capacity: u32,
-    q: Queue,
-    m: u32,
-    bytes: &[u8],
-    ring: &mut [u8],
-    table: &mut [u32],
-)
-    requires { Feed datagram capacity q m bytes.now ring.old table.old }
-    ensures ring_after { ring.new ≡ ring_fed capacity q m bytes.now ring.old }
-    ensures table_after { table.new ≡ table_fed datagram capacity q m table.old }
+// Copies m bytes behind those queued at the peer, and on datagram pairs puts their length behind those queued.
+fn feed(p: Ends, one: bool, m: u32, bytes: &[u8], ring: &mut [u8], table: &mut [u32])
+    requires { Feed p.datagram p.capacity (peer one p).queue m bytes.now ring.old table.old }
+    ensures ring_after { ring.new ≡ ring_fed p.capacity (peer one p).queue m bytes.now ring.old }
+    ensures table_after { table.new ≡ table_fed p.datagram p.capacity (peer one p).queue m table.old }
 {
-    let at = ring::place::place(
-        capacity as usize,
-        q.bytes.start as usize,
-        q.bytes.count as usize,
-    );
-    ring::copy::copy_in(ring, capacity as usize, at, bytes, m as usize);
-    if datagram {
-        let next = ring::place::place(
-            capacity as usize,
-            q.lengths.start as usize,
-            q.lengths.count as usize,
-        );
+    let capacity = p.capacity as usize;
+    let q = endpoint::ends::peer(p, one).queue;
+    let at = ring::place::place(capacity, q.bytes.start as usize, q.bytes.count as usize);
+    ring::copy::copy_in(ring, capacity, at, bytes, m as usize);
+    if p.datagram {
+        let next = ring::place::place(capacity, q.lengths.start as usize, q.lengths.count as usize);
         table[next] = m;
     }
 }
 
 // What changes where m bytes went in.
-fn fed(
-    datagram: bool,
-    capacity: u32,
-    own: Endpoint,
-    peer: Endpoint,
-    answer: Answer,
-    m: u32,
-) -> Transfer
-    requires { (peer.queue.bytes.count + m ≤ capacity) × (datagram ≡ true → peer.queue.lengths.count + 1 < 2 ^ 32) }
-    ensures { (result.answer ≡ answer) × (result.moves ≡ true) × (fed_effect own peer result ≡ write_effect datagram capacity own peer m) }
+fn fed(p: Ends, one: bool, m: u32) -> Exchange
+    requires { ((peer one p).queue.bytes.count + m ≤ p.capacity) × (p.datagram ≡ true → (peer one p).queue.lengths.count + 1 < 2 ^ 32) }
+    ensures { fed_effect (own one p) (peer one p) result ≡ write_effect p.datagram p.capacity (own one p) (peer one p) m }
 {
-    let q = peer.queue;
-    let queued = q.bytes.count + m;
+    let own = endpoint::ends::own(p, one);
+    let peer = endpoint::ends::peer(p, one);
+    let queued = peer.queue.bytes.count + m;
     let gained = gained_by_peer(peer, queued);
-    let lost = lost_by_writer(own, capacity - queued);
-    let queue = fed_queue(datagram, m, q);
-    Transfer {
+    let lost = lost_by_writer(own, p.capacity - queued);
+    let queue = fed_queue(p.datagram, m, peer.queue);
+    Exchange {
         queue,
         lost,
         gained,
-        moves: true,
-        answer,
     }
 }
 
@@ -106,48 +72,47 @@ pub fn write_transfer(
 ) -> Transfer
     ensures { Wrote p handle bytes.now ring.old ring.new table.old table.new result }
 {
-    let a = write_answer(p, handle, ring, table, bytes.len());
-    let m = endpoint::answer::count_of(a);
-    let one = handle == 1;
-    let own = endpoint::ends::own(p, one);
-    let peer = endpoint::ends::peer(p, one);
-    let q = peer.queue;
+    let answer = write_answer(p, handle, ring, table, bytes.len());
+    let m = endpoint::answer::count_of(answer);
     if m == 0 {
-        return crate::change::kept(q, a);
+        return kept(answer);
     }
-    feed(p.datagram, p.capacity, q, m, bytes, ring, table);
-    fed(p.datagram, p.capacity, own, peer, a, m)
+    let one = handle == 1;
+    feed(p, one, m, bytes, ring, table);
+    let change = Some(fed(p, one, m));
+    Transfer { change, answer }
 }
 
 // The changes of both words by a write.
-fn fed_visits(one: bool, own: Endpoint, peer: Endpoint, t: Transfer) -> Visits
-    ensures { result ≡ (moved_by one (fed_effect own peer t)).visits }
+fn fed_visits(p: Ends, one: bool, x: Exchange) -> Visits
+    ensures { result ≡ (moved_by one (fed_effect (own one p) (peer one p) x)).visits }
 {
     let first = Pending {
         one: !one,
-        word: peer.signals,
+        word: endpoint::ends::peer(p, one).signals,
         clear: 0,
-        set: t.gained,
+        set: x.gained,
     };
     let second = Pending {
         one,
-        word: own.signals,
-        clear: t.lost,
+        word: endpoint::ends::own(p, one).signals,
+        clear: x.lost,
         set: 0,
     };
     Visits { first, second }
 }
 
 // The ends after a write.
-fn fed_moved(one: bool, own: Endpoint, peer: Endpoint, t: Transfer) -> Moved
-    ensures { result ≡ moved_by one (fed_effect own peer t) }
+fn fed_moved(p: Ends, one: bool, x: Exchange) -> Moved
+    ensures { result ≡ moved_by one (fed_effect (own one p) (peer one p) x) }
 {
-    let queue = t.queue;
-    let fed = endpoint::end::with_queue(peer, queue);
+    let own = endpoint::ends::own(p, one);
+    let peer = endpoint::ends::peer(p, one);
+    let fed = endpoint::end::with_queue(peer, x.queue);
     Moved {
-        own: endpoint::end::with_signals(own, changed(own.signals, t.lost, 0)),
-        peer: endpoint::end::with_signals(fed, changed(peer.signals, 0, t.gained)),
-        visits: fed_visits(one, own, peer, t),
+        own: endpoint::end::with_signals(own, changed(own.signals, x.lost, 0)),
+        peer: endpoint::end::with_signals(fed, changed(peer.signals, 0, x.gained)),
+        visits: fed_visits(p, one, x),
     }
 }
 
@@ -155,36 +120,17 @@ fn fed_moved(one: bool, own: Endpoint, peer: Endpoint, t: Transfer) -> Moved
 pub fn write_outcome(p: Ends, handle: u32, t: Transfer) -> EndsOutcome
     ensures { result ≡ wrote_by p handle t }
 {
-    let answer = t.answer;
-    if !t.moves {
-        return endpoint::ends::unchanged(p, answer);
-    }
+    let Some(x) = t.change else {
+        return endpoint::ends::unchanged(p, t.answer);
+    };
     let one = handle == 1;
-    let moved = fed_moved(
-        one,
-        endpoint::ends::own(p, one),
-        endpoint::ends::peer(p, one),
-        t,
-    );
-    endpoint::ends::put_back(p.waits, one, answer, moved, endpoint::ends::no_visits())
+    let moved = fed_moved(p, one, x);
+    endpoint::ends::put_back(p.waits, one, t.answer, moved, endpoint::ends::no_visits())
 }
 
-// Whether bytes went in by a write, and no wait can fire.
-pub fn is_write_without_visit(p: Ends, handle: u32, t: Transfer) -> bool
-    ensures { result ≡ (t.moves
-        and not (can_fire p.waits (moved_by (is_one handle) (fed_effect (own (is_one handle) p) (peer (is_one handle) p) t)).visits)) }
+// Whether no wait can fire by a write that changes this.
+pub fn is_write_without_visit(p: Ends, handle: u32, x: Exchange) -> bool
+    ensures { result ≡ not (can_fire p.waits (moved_by (is_one handle) (fed_effect (own (is_one handle) p) (peer (is_one handle) p) x)).visits) }
 {
-    if !t.moves {
-        return false;
-    }
-    let one = handle == 1;
-    !endpoint::ends::can_fire(
-        p.waits,
-        fed_visits(
-            one,
-            endpoint::ends::own(p, one),
-            endpoint::ends::peer(p, one),
-            t,
-        ),
-    )
+    !endpoint::ends::can_fire(p.waits, fed_visits(p, handle == 1, x))
 }

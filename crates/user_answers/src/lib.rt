@@ -1,5 +1,5 @@
 // What the calls over user memory answer: user memory and its ranges, the lookup of a handle with a right, write and read.
-#![tactic(auto)]
+#![tactic(auto, unfolding(crate::proofs::Opened::user_answers_opened), using(endpoint::proofs::answer::Steps::steps))]
 
 pub mod lookup;
 pub mod memory;

@@ -10,7 +10,8 @@ use answers::tests::{handle_test, sound_test};
 use definition::{Answer, Disposition, Ends, Record, Status};
 use endpoint::end::dispose_checks;
 
-// The rights of an end, as bits of its rights word.
+// The rights of an end, as bits of its rights word: bits and no enum, since create is given that word as one number (`create_answer` of the
+// definition).
 pub const RIGHT_READ: u16 = 1;
 
 pub const RIGHT_WRITE: u16 = 2;
@@ -31,12 +32,8 @@ pub struct Buffer {
 pub fn lookup(p: Ends, handle: u32, right: u16) -> Answer
     ensures { result ≡ lookup p handle right }
 {
-    let opened = handle_test(p, handle);
-    if !endpoint::answer::is_done(opened) {
-        return opened;
-    }
-    let e = endpoint::ends::own(p, handle == 1);
-    if e.rights & right == 0 {
+    handle_test(p, handle)?;
+    if endpoint::ends::own(p, handle == 1).rights & right == 0 {
         return Err(Status::AccessDenied);
     }
     Ok(Record::Empty)
@@ -59,27 +56,15 @@ pub fn disposition_of(n: u32) -> Disposition
 pub fn dispose_answer(p: Ends, handle: u32, disposition: u32, peer_disposition: u32) -> Answer
     ensures { result ≡ user_dispose_answer p handle disposition peer_disposition }
 {
-    let sound = sound_test(p);
-    if !endpoint::answer::is_done(sound) {
-        return sound;
-    }
-    if disposition > 2 {
-        return Err(Status::InvalidArgs);
-    }
-    if peer_disposition > 2 {
-        return Err(Status::InvalidArgs);
-    }
-    let found = lookup(p, handle, RIGHT_MANAGE);
-    if !endpoint::answer::is_done(found) {
-        return found;
-    }
-    let a = disposition_of(disposition);
-    let b = disposition_of(peer_disposition);
+    sound_test(p)?;
+    let own_target = Disposition::try_from(disposition)?;
+    let peer_target = Disposition::try_from(peer_disposition)?;
+    lookup(p, handle, RIGHT_MANAGE)?;
     dispose_checks(
         endpoint::ends::own(p, handle == 1),
         endpoint::ends::peer(p, handle == 1),
-        a,
-        b,
+        own_target,
+        peer_target,
     )
 }
 
@@ -87,9 +72,6 @@ pub fn dispose_answer(p: Ends, handle: u32, disposition: u32, peer_disposition: 
 pub fn shutdown_answer(p: Ends, handle: u32) -> Answer
     ensures { result ≡ user_shutdown_answer p handle }
 {
-    let sound = sound_test(p);
-    if !endpoint::answer::is_done(sound) {
-        return sound;
-    }
+    sound_test(p)?;
     lookup(p, handle, RIGHT_WRITE)
 }

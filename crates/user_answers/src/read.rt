@@ -13,14 +13,11 @@ use definition::{Answer, Ends, Status};
 // The option of a read that is a peek.
 pub const SOCKET_PEEK: u32 = 8;
 
-// The options of a read are 0, or 8 for a peek.
+// The options of a read are 0, or 8 for a peek. They are a number, since every other number is refused (`user_read_answer` of the definition).
 fn has_read_options(options: u32) -> bool
     ensures { result ≡ (eqb options 0 or is_peek options) }
 {
-    if options == 0 {
-        return true;
-    }
-    options == SOCKET_PEEK
+    options == 0 || options == SOCKET_PEEK
 }
 
 // The tests of a read or peek. The range of all the bytes asked for is tested, also where fewer are queued.
@@ -34,30 +31,17 @@ pub fn read_answer(
 ) -> Answer
     ensures { result ≡ user_read_answer p (lent_of p.datagram (own (is_one handle) p).queue ring.now table.now) handle b.base b.size options b.address b.count b.count_at }
 {
-    let sound = sound_test(p);
-    if !endpoint::answer::is_done(sound) {
-        return sound;
-    }
+    sound_test(p)?;
     let from = endpoint::ends::own(p, handle == 1);
     let q = from.queue;
-    let lent = slices_test(p.datagram, p.capacity, handle, q, ring, table);
-    if !endpoint::answer::is_done(lent) {
-        return lent;
-    }
-    if crate::memory::is_null(b.address, b.count) {
+    slices_test(p.datagram, p.capacity, handle, q, ring, table)?;
+    if crate::memory::is_null(b.address, b.count) || !has_read_options(options) {
         return Err(Status::InvalidArgs);
     }
-    if !has_read_options(options) {
-        return Err(Status::InvalidArgs);
-    }
-    let found = lookup(p, handle, RIGHT_READ);
-    if !endpoint::answer::is_done(found) {
-        return found;
-    }
-    if !crate::memory::fits(b.base, b.size, b.address, b.count) {
-        return Err(Status::InvalidArgs);
-    }
-    if !crate::memory::count_fits(b.base, b.size, b.count_at) {
+    lookup(p, handle, RIGHT_READ)?;
+    if !crate::memory::fits(b.base, b.size, b.address, b.count)
+        || !crate::memory::count_fits(b.base, b.size, b.count_at)
+    {
         return Err(Status::InvalidArgs);
     }
     let first = endpoint::end::first_length(q, p.datagram, table);

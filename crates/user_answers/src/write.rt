@@ -13,14 +13,11 @@ use definition::{Answer, Ends, Status};
 fn write_ranges(b: Buffer, a: Answer) -> Answer
     ensures { result ≡ write_ranges b.base b.size b.address b.count_at a }
 {
-    if !endpoint::answer::is_done(a) {
-        return a;
-    }
+    a?;
     let m = endpoint::answer::count_of(a) as u64;
-    if !crate::memory::fits(b.base, b.size, b.address, m) {
-        return Err(Status::InvalidArgs);
-    }
-    if !crate::memory::count_fits(b.base, b.size, b.count_at) {
+    if !crate::memory::fits(b.base, b.size, b.address, m)
+        || !crate::memory::count_fits(b.base, b.size, b.count_at)
+    {
         return Err(Status::InvalidArgs);
     }
     a
@@ -37,26 +34,14 @@ pub fn write_answer(
 ) -> Answer
     ensures { result ≡ user_write_answer p (lent_of p.datagram (peer (is_one handle) p).queue ring.now table.now) handle b.base b.size options b.address b.count b.count_at }
 {
-    let sound = sound_test(p);
-    if !endpoint::answer::is_done(sound) {
-        return sound;
-    }
+    sound_test(p)?;
     let to = endpoint::ends::peer(p, handle == 1);
     let q = to.queue;
-    let lent = slices_test(p.datagram, p.capacity, handle, q, ring, table);
-    if !endpoint::answer::is_done(lent) {
-        return lent;
-    }
-    if options != 0 {
+    slices_test(p.datagram, p.capacity, handle, q, ring, table)?;
+    if options != 0 || crate::memory::is_null(b.address, b.count) {
         return Err(Status::InvalidArgs);
     }
-    if crate::memory::is_null(b.address, b.count) {
-        return Err(Status::InvalidArgs);
-    }
-    let found = lookup(p, handle, RIGHT_WRITE);
-    if !endpoint::answer::is_done(found) {
-        return found;
-    }
+    lookup(p, handle, RIGHT_WRITE)?;
     let from = endpoint::ends::own(p, handle == 1);
     let a = write_size(p.datagram, p.capacity, from, to, b.count as usize);
     write_ranges(b, a)

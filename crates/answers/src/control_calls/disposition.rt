@@ -15,10 +15,7 @@ pub fn dispose_answer(
 ) -> Answer
     ensures { result ≡ dispose_answer p handle disposition peer_disposition }
 {
-    let a = opening_test(p, handle);
-    if !endpoint::answer::is_done(a) {
-        return a;
-    }
+    opening_test(p, handle)?;
     let own = endpoint::ends::own(p, handle == 1);
     let peer = endpoint::ends::peer(p, handle == 1);
     dispose_checks(own, peer, disposition, peer_disposition)

@@ -12,20 +12,11 @@ use definition::{Answer, Ends, Record};
 pub fn info_answer(p: Ends, handle: u32, table: &[u32]) -> Answer
     ensures { result ≡ info_answer p (lent_of p.datagram (own (is_one handle) p).queue [] table.now) handle }
 {
-    let sound = sound_test(p);
-    if !endpoint::answer::is_done(sound) {
-        return sound;
-    }
+    sound_test(p)?;
     let own = endpoint::ends::own(p, handle == 1);
     let q = own.queue;
-    let lent = table_test(p.datagram, p.capacity, handle, q, table);
-    if !endpoint::answer::is_done(lent) {
-        return lent;
-    }
-    let opened = handle_test(p, handle);
-    if !endpoint::answer::is_done(opened) {
-        return opened;
-    }
+    table_test(p.datagram, p.capacity, handle, q, table)?;
+    handle_test(p, handle)?;
     let first = endpoint::end::first_length(q, p.datagram, table);
     Ok(Record::Info(get_info(
         p.datagram,

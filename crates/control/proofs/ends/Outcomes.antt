@@ -3,6 +3,7 @@ use Prim.Native.Nat.{ℕ}
 use mathlib.Core.Path.{◌≡◌, refl, sym, ap, ◌∙◌}
 use mathlib.Core.Bool.{Bool, true, false, not}
 use lib.Dec.{eqb}
+use Rattle.endpoint.proofs.answer.Steps.{done_is}
 use Rattle.definition.specs.Status.{Answer}
 use Rattle.definition.specs.Status.{is_done, pick}
 use Rattle.definition.specs.declared.Ends.{Ends}
@@ -38,7 +39,20 @@ module _ (e : Ends) (h : ℕ) (x g : Answer) (f : Effect) (p : x ≡ g) where
   unfolding moved_if pick
   done d = rw (← p, d)
 
+-- ---- the same by the answer itself: with `using(control::proofs::ends::Outcomes::outcomes)` the check finds what a call by its answer leaves
+
+module _ (e : Ends) (h : ℕ) (g : Answer) (f : Effect) where
+  pub moved_refused : is_done g ≡ false → moved_if e h g f ≡ unchanged_ends e g
+  unfolding moved_if pick
+  moved_refused d = rw d refl
+
+  pub moved_done : is_done g ≡ true → moved_if e h g f ≡ done_outcome e.waits (is_one h) g f
+  unfolding moved_if pick
+  moved_done d = rw d refl
+
   -- the same of a call that drops no wait and has at most two changes
-  pub done-two : f.drops ≡ false → more_by (is_one h) f ≡ no_visits → is_done x ≡ true
-      → outcome_of e.waits (is_one h) x (moved_by (is_one h) f) no_visits ≡ moved_if e h g f
-  done-two k m d = ap (outcome_of e.waits (is_one h) x (moved_by (is_one h) f)) (sym m) ∙ by_kept e.waits (is_one h) x f k ∙ done d
+  pub moved_two : is_done g ≡ true → f.drops ≡ false → more_by (is_one h) f ≡ no_visits
+      → moved_if e h g f ≡ outcome_of e.waits (is_one h) g (moved_by (is_one h) f) no_visits
+  moved_two d k m = moved_done d ∙ sym (by_kept e.waits (is_one h) g f k) ∙ ap (outcome_of e.waits (is_one h) g (moved_by (is_one h) f)) m
+
+pub ruleset outcomes = (moved_refused, moved_done, moved_two, done_is)

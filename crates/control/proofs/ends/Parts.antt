@@ -1,4 +1,4 @@
--- The two ends as the code puts them together are those of the call's effect, by whether the peer is closed, and by each flag. Assumes nothing.
+-- The two ends as the code puts them together are those of the call's effect, of a disposition, by each flag and target. Assumes nothing.
 use Prim.Native.Nat.{ℕ}
 use mathlib.Core.Path.{◌≡◌, refl, ap, ◌∙◌}
 use mathlib.Core.Bool.{Bool, true, false, not}
@@ -9,12 +9,11 @@ use Rattle.definition.specs.declared.Disposition.TheVariants.{Unchanged, Disable
 use Rattle.definition.specs.Status.{pick}
 use Rattle.definition.specs.Signal.{PEER_WRITE_DISABLED, bit_if}
 use Rattle.definition.specs.Pair.{with_signals, with_read_disabled}
-use Rattle.definition.specs.Effect.{WordChange, no_change, own_word, if_open, own_bit, keeping_waits}
-use Rattle.definition.specs.Shutdown.{shutting, shut_reading, shut_effect}
+use Rattle.definition.specs.Effect.{own_word, if_open, own_bit, keeping_waits}
 use Rattle.definition.specs.Disposition.{writing, peer_writing, reading, dispose_effect}
 use Rattle.endpoint.specs.declared.ends.Pending.{Pending}
 use Rattle.endpoint.specs.declared.ends.Moved.{Moved}
-use Rattle.endpoint.specs.ends.Outcome.{no_visit, outcome_of, kept_ends}
+use Rattle.endpoint.specs.ends.Outcome.{outcome_of}
 use Rattle.endpoint.specs.ends.AtOnce.{own_changed, peer_changed, visit_of, own_after, peer_after, visits_of, first_two, moved_by, more_by}
 use Rattle.control.specs.ByEffect.{visit_at, changed_end, moved_last, done_outcome}
 use Rattle.control.proofs.ends.Outcomes.{by_kept}
@@ -22,35 +21,6 @@ use Rattle.control.proofs.ends.Outcomes.{by_kept}
 -- the two ends with their visits
 abbrev moved : (own peer : Endpoint) → (first second : Pending) → Moved
 moved a b v w = record { own = a; peer = b; visits = record { first = v; second = w } }
-
--- ---- a change that only an open peer has
-
-pub if_closed : (b : Endpoint) → b.closed ≡ true → (c : WordChange) → if_open b c ≡ no_change
-unfolding if_open pick
-if_closed b e c = rw e refl
-
-pub if_open_lem : (b : Endpoint) → b.closed ≡ false → (c : WordChange) → if_open b c ≡ c
-unfolding if_open pick
-if_open_lem b e c = rw e refl
-
--- ---- shutdown
-
-abbrev shut_at : Bool → Endpoint → (read write : Bool) → Pending
-shut_at t e read write = visit_at t e.signals (shutting own_word read write)
-
-pub shut-closed : (t : Bool) (a b : Endpoint) (read write : Bool) → b.closed ≡ true
-    → moved (changed_end (shut_at t a read write) (shut_reading read a)) b (shut_at t a read write) no_visit ≡ moved_by t (shut_effect a b read write)
-unfolding visit_at changed_end shut_effect shutting shut_reading keeping_waits if_open moved_by own_after peer_after own_changed peer_changed visits_of visit_of first_two with_read_disabled with_signals pick
-shut-closed t a b true write e = rw e refl
-shut-closed t a b false write e = rw e refl
-
-pub shut_open : (t : Bool) (a b : Endpoint) (read write : Bool) → b.closed ≡ false
-    → moved (changed_end (shut_at t a read write) (shut_reading read a)) (changed_end (shut_at (not t) b (not read) (not write)) (shut_reading (not read) b))
-    (shut_at t a read write) (shut_at (not t) b (not read) (not write))
-    ≡ moved_by t (shut_effect a b read write)
-unfolding visit_at changed_end shut_effect shutting shut_reading keeping_waits if_open moved_by own_after peer_after own_changed peer_changed visits_of visit_of first_two with_read_disabled with_signals pick
-shut_open t a b true write e = rw e refl
-shut_open t a b false write e = rw e refl
 
 -- ---- disposition
 
@@ -60,12 +30,6 @@ writing_at t e off = visit_at t e.signals (writing own_word (pick off Disable En
 abbrev peer_writing_at : Bool → Endpoint → (off : Bool) → Pending
 peer_writing_at t e off = visit_at t e.signals (own_bit off PEER_WRITE_DISABLED)
 
-pub own-closed : (t : Bool) (a b : Endpoint) (off : Bool) → b.closed ≡ true
-    → moved (changed_end (writing_at t a off) a) b (writing_at t a off) no_visit ≡ moved_by t (dispose_effect a b (pick off Disable Enable) Unchanged)
-unfolding visit_at changed_end dispose_effect writing peer_writing reading keeping_waits if_open own_bit moved_by own_after peer_after own_changed peer_changed visits_of visit_of first_two with_read_disabled with_signals bit_if pick
-own-closed t a b true e = rw e refl
-own-closed t a b false e = rw e refl
-
 pub own_open : (t : Bool) (a b : Endpoint) (off : Bool) → b.closed ≡ false
     → moved (changed_end (writing_at t a off) a) (changed_end (peer_writing_at (not t) b off) (with_read_disabled off b))
     (writing_at t a off) (peer_writing_at (not t) b off)
@@ -74,12 +38,6 @@ unfolding visit_at changed_end dispose_effect writing peer_writing reading keepi
 own_open t a b true e = rw e refl
 own_open t a b false e = rw e refl
 
-pub peer-closed : (t : Bool) (a b : Endpoint) (off : Bool) → b.closed ≡ true
-    → kept_ends (with_read_disabled off a) b ≡ moved_last t (dispose_effect a b Unchanged (pick off Disable Enable))
-unfolding kept_ends dispose_effect writing peer_writing reading keeping_waits if_open moved_last moved_by more_by own_after peer_after own_changed peer_changed visits_of visit_of first_two pick
-peer-closed t a b true e = rw e refl
-peer-closed t a b false e = rw e refl
-
 pub peer_open : (t : Bool) (a b : Endpoint) (off : Bool) → b.closed ≡ false
     → moved (changed_end (peer_writing_at t a off) (with_read_disabled off a)) (changed_end (writing_at (not t) b off) b)
     (writing_at (not t) b off) (peer_writing_at t a off)
@@ -87,17 +45,6 @@ pub peer_open : (t : Bool) (a b : Endpoint) (off : Bool) → b.closed ≡ false
 unfolding visit_at changed_end dispose_effect writing peer_writing reading keeping_waits if_open own_bit moved_last moved_by more_by own_after peer_after own_changed peer_changed visits_of visit_of first_two with_read_disabled with_signals bit_if pick
 peer_open t a b true e = rw e refl
 peer_open t a b false e = rw e refl
-
--- a target that is unchanged
-pub none_kept : (t : Bool) (a b : Endpoint)
-    → (kept_ends a b ≡ moved_by t (dispose_effect a b Unchanged Unchanged)) × (kept_ends a b ≡ moved_last t (dispose_effect a b Unchanged Unchanged))
-unfolding kept_ends dispose_effect writing peer_writing reading keeping_waits if_open moved_last moved_by more_by own_after peer_after own_changed peer_changed visits_of visit_of first_two pick
-none_kept t a b = by b.closed refl
-  where
-    by : (c : Bool) → b.closed ≡ c
-        → (kept_ends a b ≡ moved_by t (dispose_effect a b Unchanged Unchanged)) × (kept_ends a b ≡ moved_last t (dispose_effect a b Unchanged Unchanged))
-    by true e = rw e (refl, refl)
-    by false e = rw e (refl, refl)
 
 -- the peer's part, over the ends that the own part left
 abbrev after_own : Bool → (own peer : Endpoint) → (disposition peerDisposition : Disposition) → Moved

@@ -33,7 +33,7 @@ pub fn close_ends(e: Ends, handle: u32) -> EndsOutcome
     ensures { result ≡ moved_if e handle (opening_test e handle) (close_effect (own (is_one handle) e) (peer (is_one handle) e)) }
 {
     let a = answers::tests::opening_test(e, handle);
-    if !endpoint::answer::is_done(a) {
+    if a.is_err() {
         return endpoint::ends::unchanged(e, a);
     }
     let one = handle == 1;

@@ -54,7 +54,7 @@ pub fn shutdown_ends(e: Ends, handle: u32, read: bool, write: bool) -> EndsOutco
     ensures { result ≡ moved_if e handle (opening_test e handle) (shut_effect (own (is_one handle) e) (peer (is_one handle) e) read write) }
 {
     let a = answers::tests::opening_test(e, handle);
-    if !endpoint::answer::is_done(a) {
+    if a.is_err() {
         return endpoint::ends::unchanged(e, a);
     }
     let one = handle == 1;

@@ -1,22 +1,10 @@
-use Rattle.definition.specs.Pair.{is_one, ends_of}
-use Rattle.definition.specs.Tests.{Steps}
-use Rattle.definition.specs.Threshold.{write_threshold_answer, write_threshold_set}
-use Rattle.definition.specs.declared.Step.{Step}
-use Rattle.kept.proofs.pair.Stored.{settled_as}
-use Rattle.socket.proofs.Controlled.{write_threshold_whole}
 use borrow.Author.Rules.{rules}
-use mathlib.Core.Path.{subst}
-use mathlib.Core.Path.{subst}
+use Rattle.socket.proofs.Controlled.{write_threshold_whole}
+use Rattle.host.proofs.Stored.{settled}
 use Rattle.host.proofs.murgwethan_set_write_threshold.Goals as goal
 
 pub returns : goal.returns
 returns c =
     let a = c.args in
-    let h = a.p.now in
-    let r = c.write_threshold_ends-r.result in
-    record {
-      answer = r.answer;
-      word = search rules;
-      kept = subst (λ (k : Step). Steps h (write_threshold_answer (ends_of h) a.handle a.threshold) (write_threshold_set (is_one a.handle) a.threshold h) k) (settled_as r h _ c.outcome.ensures.1)
-          (write_threshold_whole h a.handle c.ends_of.result r c.ends_of.ensures.size c.ends_of.ensures.ends a.threshold c.write_threshold_ends-r.ensures);
-    }
+    settled _ c.write_threshold_ends-r.result a.p.now _ _ (search rules) c.outcome.ensures.1
+    (write_threshold_whole a.p.now a.handle _ _ c.ends_of.ensures.size c.ends_of.ensures.ends a.threshold c.write_threshold_ends-r.ensures)

@@ -3,7 +3,6 @@ use Rattle.definition.specs.declared.Ends.{Ends}
 use Rattle.socket.proofs.Waits.{wait-steps}
 use borrow.Author.Rules.{rules}
 use mathlib.Core.Path.{ap, ◌∙◌}
-use mathlib.Core.Path.{◌∙◌, ap}
 use Rattle.host.proofs.murgwethan_wait.Goals as goal
 
 pub returns : goal.returns

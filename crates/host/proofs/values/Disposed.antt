@@ -8,6 +8,7 @@ use lib.ListN.{length}
 use Rattle.definition.specs.declared.Status.{Status}
 use Rattle.definition.specs.declared.Status.TheVariants.{InvalidArgs}
 use Rattle.definition.specs.Status.{Answer}
+use Rattle.std.specs.Result.{result_and}
 use Rattle.std.specs.declared.result.Result.TheVariants.{Ok, Err}
 use Rattle.definition.specs.declared.Ends.{Ends}
 use Rattle.definition.specs.declared.Pair.{Pair}
@@ -23,6 +24,12 @@ use Rattle.answers.proofs.tests.Sound.{opening_passed}
 use Rattle.control.specs.ByEffect.{moved_if}
 use Rattle.socket.specs.Deferred.{settled_step}
 use Rattle.socket.proofs.Controlled.{call-whole}
+
+-- a refusal behind tests, as the library's `and` gives it
+pub and_is_then : {g : Answer} (x a : Answer) → x ≡ g → result_and x a ≡ (g then a)
+unfolding ◌then◌
+and_is_then (Ok d) a e = rw (← e) refl
+and_is_then (Err s) a e = rw (← e) refl
 
 pub never_done : (g : Answer) (s : Status) → is_done (g then Err s) ≡ false
 unfolding is_done ◌then◌

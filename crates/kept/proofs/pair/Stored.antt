@@ -1,11 +1,10 @@
 -- What the stored pair is, by the way that the code went. Assumes nothing.
 use Prim.Native.Nat.{ℕ}
 use mathlib.Core.Path.{◌≡◌, refl, sym, ap, ◌∙◌}
-use mathlib.Core.Bool.{Bool, true, false, not}
-use lib.Dec.{T}
+use mathlib.Core.Bool.{true, false}
 use lib.ListN.{length}
 use Rattle.definition.specs.Status.{pick}
-use Rattle.endpoint.proofs.answer.Rules.{on-pick, off_pick, pick-on, pick_off}
+use Rattle.endpoint.proofs.answer.Rules.{pick-on, pick_off}
 use Rattle.port.specs.places.Table.{only_wait}
 use Rattle.endpoint.specs.declared.ends.EndsOutcome.{EndsOutcome}
 use Rattle.definition.specs.declared.Pair.{Pair}
@@ -29,25 +28,12 @@ not_visited r p l e = pick_off Pair (needs_visit r p.places) p (visited_all r p)
 
 -- ---- an outcome
 
-pub outcome_settled : (r : EndsOutcome) (p q q' : Pair) → q ≡ with_outcome r p → q' ≡ pick r.fires (visited_all r q) q → q' ≡ (settled_step r p).pair
-unfolding settled_step
-outcome_settled r p q q' e g = g ∙ ap (λ (k : Pair). pick r.fires (visited_all r k) k) e
-
 -- the step of a call whose pair was stored
 pub settled_as : (r : EndsOutcome) (p q : Pair) → q ≡ (settled_step r p).pair → settled_step r p ≡ record { pair = q; answer = r.answer }
 unfolding settled_step
 settled_as r p q e = ap (λ (k : Pair). record { pair = k; answer = r.answer }) (sym e)
 
 -- ---- a close
-
-pub dropped_on : (h : ℕ) (r : EndsOutcome) (p q : Pair) (f : Bool) → f ≡ r.fires → T f → q ≡ visited_all r (without_waits (is_one h) p)
-    → q ≡ closed_waits (is_one h) r p
-unfolding closed_waits
-dropped_on h r p q f e t j = j ∙ on-pick r.fires f (visited_all r (without_waits (is_one h) p)) p e t
-
-pub dropped_off : (h : ℕ) (r : EndsOutcome) (p : Pair) (f : Bool) → f ≡ r.fires → T (not f) → p ≡ closed_waits (is_one h) r p
-unfolding closed_waits
-dropped_off h r p f e t = off_pick r.fires f (visited_all r (without_waits (is_one h) p)) p e t
 
 pub close_settled : (h : ℕ) (r : EndsOutcome) (p q q' : Pair) → q ≡ with_outcome r p → q' ≡ closed_waits (is_one h) r q → q' ≡ (settled_close (is_one h) r p).pair
 close_settled h r p q q' e g = g ∙ ap (closed_waits (is_one h) r) e ∙ closed_later (is_one h) r p

@@ -1,12 +1,10 @@
 -- What the stored pair is, by the way that the code went. Assumes nothing.
 use Prim.Native.Nat.{ℕ}
-use mathlib.Core.Path.{◌≡◌, refl, sym, ap, ◌∙◌}
-use mathlib.Core.Bool.{Bool, true, not}
-use lib.Dec.{T, eqb}
+use mathlib.Core.Path.{◌≡◌, ap, ◌∙◌}
+use mathlib.Core.Bool.{Bool, true}
+use lib.Dec.{eqb}
 use Rattle.definition.specs.Status.{Answer}
 use Rattle.definition.specs.Status.{pick, is_done}
-use Rattle.endpoint.proofs.answer.Rules.{on-pick, off_pick, pick-on}
-use Rattle.port.specs.places.Table.{unused}
 use Rattle.definition.specs.Pair.{is_one}
 use Rattle.socket.specs.Deferred.{registered_pair, appends_few, appended_pair}
 use Rattle.socket.proofs.Waits.{few_registered}
@@ -16,12 +14,6 @@ use Rattle.definition.specs.declared.Pair.{Pair}
 use Rattle.socket.proofs.Created.{new_held}
 use Rattle.definition.specs.Tests.{Steps}
 
-pub made-on : (a : Answer) (n p : Pair) (b : Bool) (q : Pair) → b ≡ is_done a → T b → q ≡ n → q ≡ pick (is_done a) n p
-made-on a n p b q e t g = g ∙ on-pick (is_done a) b n p e t
-
-pub made_off : (a : Answer) (n p : Pair) (b : Bool) → b ≡ is_done a → T (not b) → p ≡ pick (is_done a) n p
-made_off a n p b e t = off_pick (is_done a) b n p e t
-
 pub created_steps : (p : Pair) (kind C r s ring1 table1 ring2 table2 : ℕ) (a : Answer) (q : Pair) → a ≡ create_answer kind C r s ring1 table1 ring2 table2
     → q ≡ pick (is_done a) (new_pair (eqb kind 1) C (held_rights r) (held_rights s)) p
     → Steps p (create_answer kind C r s ring1 table1 ring2 table2) (new_pair (eqb kind 1) C r s) (record { pair = q; answer = a })
@@ -30,13 +22,6 @@ created_steps p kind C r s ring1 table1 ring2 table2 a q e g =
       answer = e;
       pair = g ∙ ap (λ (k : Answer). pick (is_done k) (new_pair (eqb kind 1) C (held_rights r) (held_rights s)) p) e ∙ new_held kind C r s ring1 table1 ring2 table2 p;
     }
-
-pub waited-on : (p q : Pair) (b : Bool) (n : Pair) → b ≡ unused p.places → T b → q ≡ pick (unused p.places) n p → q ≡ n
-waited-on p q b n e t g = g ∙ sym (on-pick (unused p.places) b n p e t)
-
--- a choice whose test came out true
-pub pick_taken : {A : Type 0} {r b : Bool} {n q : A} (p : A) → r ≡ b → r ≡ true → q ≡ pick b n p → q ≡ n
-pick_taken {A} {r} {b} {n} {q} p e t g = g ∙ sym (pick-on A b n n p (sym e ∙ t) refl)
 
 pub few_waited_on : (p q : Pair) (asked : Bool) (h key mask edge : ℕ) → appends_few (is_one h) mask edge p ≡ true
     → q ≡ appended_pair asked (is_one h) key mask p → q ≡ registered_pair asked (is_one h) key mask edge p

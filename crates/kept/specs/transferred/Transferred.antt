@@ -1,7 +1,7 @@
 -- How the code goes: what a write and a read change, put into the pair. 01 "Delivered bytes", write, read. The
 -- laws of proofs/transferred/NoVisit say that this is the pair of the call, where no wait can fire and, of a read, the peer is open.
 use Rattle.std.specs.Prelude.{ℕ, Bool, not}
-use Rattle.transfer.specs.declared.change.Transfer.{Transfer}
+use Rattle.transfer.specs.declared.change.Exchange.{Exchange}
 use Rattle.definition.specs.declared.Pair.{Pair}
 use Rattle.endpoint.specs.declared.ends.Moved.{Moved}
 use Rattle.definition.specs.Status.{pick, ◌and◌}
@@ -14,7 +14,7 @@ use Rattle.endpoint.specs.ends.AtOnce.{moved_by}
 use Rattle.endpoint.specs.ends.Outcome.{can_fire}
 
 -- the pair after a call by end t, whose end 1 takes the queue if so asked, and else end 2
-unfoldable pub transferred_pair : (t takes : Bool) → Transfer → Pair → Pair
+unfoldable pub transferred_pair : (t takes : Bool) → Exchange → Pair → Pair
 transferred_pair t takes x p =
     with_ends
     (with_signals (changed_word (pick t x.lost 0) (pick t 0 x.gained) p.one.signals) (with_queue (pick takes x.queue p.one.queue) p.one))
@@ -26,19 +26,18 @@ unfoldable pub with_moved : Bool → Moved → Pair → Pair
 with_moved t d p = with_ends (pick t d.own d.peer) (pick t d.peer d.own) p
 
 -- after a write, and after a read, by end t
-unfoldable pub wrote_pair : Bool → Transfer → Pair → Pair
+unfoldable pub wrote_pair : Bool → Exchange → Pair → Pair
 wrote_pair t x p = with_moved t (moved_by t (fed_effect (own t (ends_of p)) (peer t (ends_of p)) x)) p
 
-unfoldable pub read_pair : Bool → Transfer → Pair → Pair
+unfoldable pub read_pair : Bool → Exchange → Pair → Pair
 read_pair t x p = with_moved t (moved_by t (drained_effect (own t (ends_of p)) (peer t (ends_of p)) x)) p
 
--- whether bytes went in by a write of the end of handle h, and no wait can fire; of a read also whether its peer is open
-unfoldable pub write_without_visit : (h : ℕ) → Transfer → Pair → Bool
+-- whether no wait can fire by a write of the end of handle h that changes this; of a read also whether its peer is open
+unfoldable pub write_without_visit : (h : ℕ) → Exchange → Pair → Bool
 write_without_visit h x p =
-    x.moves and not (can_fire (ends_of p).waits (moved_by (is_one h) (fed_effect (own (is_one h) (ends_of p)) (peer (is_one h) (ends_of p)) x)).visits)
+    not (can_fire (ends_of p).waits (moved_by (is_one h) (fed_effect (own (is_one h) (ends_of p)) (peer (is_one h) (ends_of p)) x)).visits)
 
-unfoldable pub read_without_visit : (h : ℕ) → Transfer → Pair → Bool
+unfoldable pub read_without_visit : (h : ℕ) → Exchange → Pair → Bool
 read_without_visit h x p =
-    x.moves
-    and not (peer (is_one h) (ends_of p)).closed
+    not (peer (is_one h) (ends_of p)).closed
     and not (can_fire (ends_of p).waits (moved_by (is_one h) (drained_effect (own (is_one h) (ends_of p)) (peer (is_one h) (ends_of p)) x)).visits)

@@ -7,8 +7,8 @@ use mathlib.Core.List.{List, [], ◌∷◌, ◌++◌, append_assoc}
 use native.Mathlib.Omega.{arith}
 use native.Mathlib.Numerals.{add-one}
 use lib.Dec.{leb, ltb, eqb}
-use lib.ListN.{length, take, drop, get_or, set, length-append, length-set, take-append-drop}
-use lib.Seq.{slice, length-slice, length-take-le, take-suc, take_at, drop_at, drop-cons, drop-drop, set_at, drop-set-lt, get_or_at, get_or-take, get_or-drop, get_or-append-add, get_or-set_same, get_or-set_other}
+use lib.ListN.{length, take, drop, get_or, set, length-append, take-append-drop}
+use lib.Seq.{slice, length-slice, length-take-le, take-suc, take_at, drop_at, drop-cons, drop-drop, set_at, get_or_at, get_or-take, get_or-drop, get_or-append-add}
 use borrow.Author.Tests.{ltb-true, ltb-false, leb-true, leb-false, eqb-true, eqb-false, lt-ltb, le-ltb, lt-leb, ne_eqb}
 use Rattle.definition.specs.Status.{pick, ◌and◌}
 use Rattle.definition.specs.Port.{filter}
@@ -173,37 +173,6 @@ module _ {A : Type 0} where
         by true b =
             let low = ltb-true last 8 b in
             rw b (alike_later (removed_at k last z tab) tab (suc last) 8 (omega (arith, low)) (removed-rest tab z d k last (on b) (omega (arith, low))))
-        by false b = rw b refl
-
-  -- ---- an element put in at one of the first 8 places
-
-  module _ (tab : List A) (x d : A) (at : ℕ) (l : 8 ≤ length tab) where
-    pub put-at : (i : ℕ) → i < 8 → pick (eqb i at) x (get_or tab i d) ≡ get_or (pick (ltb at 8) (set tab at x) tab) i d
-    unfolding pick
-    put-at i h = by (eqb i at) (ltb at 8) refl refl
-      where
-        by : (e b : Bool) → eqb i at ≡ e → ltb at 8 ≡ b → pick (eqb i at) x (get_or tab i d) ≡ get_or (pick (ltb at 8) (set tab at x) tab) i d
-        by true true e b =
-            let same = eqb-true i at e in
-            rw (e, b) (sym (ap (λ (n : ℕ). get_or (set tab at x) n d) same ∙ get_or-set_same tab at x d (omega (arith, same, h))))
-        by true false e b = absurd (omega (arith, eqb-true i at e, ltb-false at 8 b, h))
-        by false true e b = rw (e, b) (sym (get_or-set_other tab at i x d (eqb-false i at e)))
-        by false false e b = rw (e, b) refl
-
-    pub put-size : length (pick (ltb at 8) (set tab at x) tab) ≡ length tab
-    unfolding pick
-    put-size = by (ltb at 8) refl
-      where
-        by : (b : Bool) → ltb at 8 ≡ b → length (pick (ltb at 8) (set tab at x) tab) ≡ length tab
-        by true b = rw b (length-set tab at x)
-        by false b = rw b refl
-
-    pub put_rest : drop 8 (pick (ltb at 8) (set tab at x) tab) ≡ drop 8 tab
-    unfolding pick
-    put_rest = by (ltb at 8) refl
-      where
-        by : (b : Bool) → ltb at 8 ≡ b → drop 8 (pick (ltb at 8) (set tab at x) tab) ≡ drop 8 tab
-        by true b = rw b (drop-set-lt 8 tab at x (ltb-true at 8 b))
         by false b = rw b refl
 
   -- ---- the only element that passes

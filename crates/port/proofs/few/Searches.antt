@@ -9,19 +9,20 @@ use native.Mathlib.Numerals.{add-one}
 use lib.Dec.{leb, ltb, eqb}
 use lib.ListN.{length, take, get_or, drop_of_length-le}
 use lib.Seq.{slice, slice-cons, length-take-le}
-use borrow.Author.Tests.{ltb-true, ltb-false, leb-true, ne_eqb, eqb-true}
+use borrow.Author.Tests.{ltb-true, ltb-false, leb-true, ne_eqb, eqb-true, lt-ltb}
 use Rattle.definition.specs.Status.{pick, ◌and◌}
 use Rattle.definition.specs.declared.Places.{Places}
 use Rattle.definition.specs.Port.{filter, used, matches, matching}
 use Rattle.port.specs.few.Few.{index_of, only_match}
 use Rattle.port.proofs.places.Lists.{filter-yes, filter-no}
-use Rattle.port.proofs.few.Cancelled.{all-matching}
+use Rattle.std.proofs.Common.{Some, None}
+use Rattle.port.proofs.few.Cancelled.{all-matching, at-used}
 
 module _ {A : Type 0} where
-  -- of the elements of tab from i to u, n pass; the first of them stands at k, which is 8 where none does
+  -- of the elements of tab from i to u, n pass; the first of them stands at k, which is 0 where none does
   pub record Found (f : A → Bool) (tab : List A) (u i n k : ℕ) : Type 0 where
     pub count : n ≡ length (filter f (slice i u tab))
-    pub first : k ≡ pick (eqb n 0) 8 (i + index_of f (slice i u tab))
+    pub first : k ≡ pick (eqb n 0) 0 (i + index_of f (slice i u tab))
 
   module _ (f : A → Bool) (tab : List A) (u : ℕ) (fits : u ≤ length tab) where
     none_from : (i : ℕ) → u ≤ i → slice i u tab ≡ []
@@ -29,7 +30,7 @@ module _ {A : Type 0} where
         let l : length (take u tab) ≤ i = omega (arith, length-take-le u tab fits) in
         drop_of_length-le (take u tab) l
 
-    pub found-start : (i : ℕ) → u ≤ i → Found f tab u i 0 8
+    pub found-start : (i : ℕ) → u ≤ i → Found f tab u i 0 0
     unfolding filter pick
     found-start i h = record { count = rw (none_from i h) refl; first = refl }
 
@@ -75,7 +76,7 @@ module _ {A : Type 0} where
         let s : (i + 1) + index_of f (slice (i + 1) u tab) ≡ i + index_of f (slice i u tab) = omega (arith, first_out i d h e) in
         record {
           count = c.count ∙ sym (count-out i d h e);
-          first = c.first ∙ ap (λ (m : ℕ). pick (eqb n 0) 8 m) s;
+          first = c.first ∙ ap (λ (m : ℕ). pick (eqb n 0) 0 m) s;
         }
 
     pub found_turn : (i n k : ℕ) (d : A) (hit : Bool) → hit ≡ (ltb i u and f (get_or tab i d)) → Found f tab u (i + 1) n k
@@ -90,26 +91,37 @@ module _ {A : Type 0} where
 
 -- what is found in the whole table
 pub found_all : (asked one : Bool) (key : ℕ) (t : Places) (u n k : ℕ) → length t.table ≡ 128 → u ≡ pick (leb (used t) 8) (used t) 0
-    → Found (matches one key) t.table u 0 n k → pick (asked and eqb n 1) k 8 ≡ only_match asked one key t
+    → Found (matches one key) t.table u 0 n k
+    → pick (asked and eqb n 1) (Some k) None ≡ pick (ltb (only_match asked one key t) 8) (Some (only_match asked one key t)) None
 unfolding only_match pick ◌and◌ filter
 found_all false one key t u n k l e c = refl
 found_all true one key t u n k l e c = by (leb (used t) 8) refl
   where
-    by : (b : Bool) → leb (used t) 8 ≡ b
-        → pick (eqb n 1) k 8 ≡ pick (leb (used t) 8 and eqb (matching one key t) 1) (index_of (matches one key) (take (used t) t.table)) 8
+    at : ℕ
+    at = index_of (matches one key) (take (used t) t.table)
+
+    m : ℕ
+    m = pick (leb (used t) 8 and eqb (matching one key t) 1) at 8
+
+    by : (b : Bool) → leb (used t) 8 ≡ b → pick (eqb n 1) (Some k) None ≡ pick (ltb m 8) (Some m) None
     by true b =
+        let few = leb-true (used t) 8 b in
+        let h : used t ≤ length t.table = omega (arith, few, l) in
         let w : u ≡ used t = e ∙ rw b refl in
-        let m : n ≡ matching one key t = c.count ∙ rw w (all-matching one key t (omega (arith, leb-true (used t) 8 b, l))) in
+        let q : n ≡ matching one key t = c.count ∙ rw w (all-matching one key t h) in
         let f = matches one key in
-        let z : 0 + index_of f (slice 0 u t.table) ≡ index_of f (take (used t) t.table) =
+        let z : 0 + index_of f (slice 0 u t.table) ≡ at =
         zero-add (index_of f (slice 0 u t.table)) ∙ ap (λ (v : ℕ). index_of f (take v t.table)) w in
-        let i : k ≡ pick (eqb n 0) 8 (index_of f (take (used t) t.table)) = c.first ∙ ap (λ (m : ℕ). pick (eqb n 0) 8 m) z in
-        rw (b, ← m) (counted (eqb n 1) refl i)
+        let i : k ≡ pick (eqb n 0) 0 at = c.first ∙ ap (λ (v : ℕ). pick (eqb n 0) 0 v) z in
+        rw (b, ← q) (counted (eqb n 1) refl h few q i)
       where
-        counted : (y : Bool) → eqb n 1 ≡ y → k ≡ pick (eqb n 0) 8 (index_of (matches one key) (take (used t) t.table))
-            → pick (eqb n 1) k 8 ≡ pick (eqb n 1) (index_of (matches one key) (take (used t) t.table)) 8
-        counted true y i = rw y (i ∙ rw (eqb-true n 1 y) refl)
-        counted false y i = rw y refl
+        counted : (y : Bool) → eqb n 1 ≡ y → used t ≤ length t.table → used t ≤ 8 → n ≡ matching one key t → k ≡ pick (eqb n 0) 0 at
+            → pick (eqb n 1) (Some k) None ≡ pick (ltb (pick (eqb n 1) at 8) 8) (Some (pick (eqb n 1) at 8)) None
+        counted true y h few q i =
+            let o = eqb-true n 1 y in
+            let below = at-used one key t h (sym q ∙ o) in
+            rw (y, lt-ltb at 8 (omega (arith, below, few)), i, o) refl
+        counted false y h few q i = rw y refl
     by false b =
         let w : u ≡ 0 = e ∙ rw b refl in
         let z : n ≡ 0 = c.count ∙ rw w refl in

@@ -1,8 +1,7 @@
 -- The table that the loops over the first 8 places leave, with its counts. Assumes nothing.
 use Prim.Native.Nat.{ℕ, suc, ◌+◌, ◌-◌, ◌≤◌, ◌<◌}
 use mathlib.Core.Path.{◌≡◌, refl, sym, ap, ◌∙◌}
-use mathlib.Core.Bool.{Bool, true, false, false≢true}
-use mathlib.Core.Logic.{◌⊎◌, inl, inr}
+use mathlib.Core.Bool.{Bool, true, false}
 use mathlib.Core.List.{List, [], ◌∷◌, ◌++◌, append_assoc}
 use native.Mathlib.Omega.{arith}
 use native.Mathlib.Numerals.{add-one}
@@ -56,26 +55,7 @@ appended_few asked t x room u at more w l r e f g h = rw (h, g, f, e, r) (by ask
     by true false b = rw b (same-places refl (omega arith) refl)
     by false b' b = same-places refl (omega arith) refl
 
--- the count of the waits has room for one more where one is put
-pub room_fits : (asked room : Bool) (n m more : ℕ) → room ≡ (asked and leb (n + m) 7) → more ≡ pick room 1 0 → (more ≡ 0) ⊎ (m + more ≤ 8)
-unfolding pick ◌and◌
-room_fits asked false n m more r e = inl e
-room_fits true true n m more r e = inr (omega (arith, e, leb-true (n + m) 7 (sym r)))
-room_fits false true n m more r e = absurd (false≢true (sym r))
-
 -- ---- a place taken out
-
-pub taken_needs : (k u ks ls : ℕ) → u ≤ 8 → ks ≡ pick (ltb k u) k 8 → ls ≡ pick (ltb k u) (u - 1) 8 → (ltb ls 8 ≡ true → ks ≤ ls) × (ltb ls 8 ≡ false → 8 ≤ ks)
-unfolding pick
-taken_needs k u ks ls few e f = rw (e, f) (by (ltb k u) refl)
-  where
-    by : (b : Bool) → ltb k u ≡ b
-        → (ltb (pick (ltb k u) (u - 1) 8) 8 ≡ true → pick (ltb k u) k 8 ≤ pick (ltb k u) (u - 1) 8)
-        × (ltb (pick (ltb k u) (u - 1) 8) 8 ≡ false → 8 ≤ pick (ltb k u) k 8)
-    by true b =
-        let h = ltb-true k u b in
-        rw b (λ _. omega (arith, h), λ (z : ltb (u - 1) 8 ≡ false). absurd (omega (arith, h, few, ltb-false (u - 1) 8 z)))
-    by false b = rw b (λ _. omega arith, λ _. omega arith)
 
 pub removed_few : (t : Places) (k u ks ls : ℕ) (w : Places) (b₁ b₂ : Bool) (np nw : ℕ) → u ≡ pick (leb (used t) 8) (used t) 0
     → ks ≡ pick (ltb k u) k 8 → ls ≡ pick (ltb k u) (u - 1) 8

@@ -1,7 +1,7 @@
 -- A table whose only place used is a packet: what taking it leaves. Assumes nothing.
 use Prim.Native.Nat.{ℕ, ◌<◌}
 use mathlib.Core.Path.{◌≡◌, refl, sym, ap, ◌∙◌}
-use mathlib.Core.Bool.{Bool, true, false, not}
+use mathlib.Core.Bool.{Bool, true, not}
 use mathlib.Core.List.{List, [], ◌∷◌}
 use native.Mathlib.Omega.{arith}
 use lib.ListN.{length, set}
@@ -35,7 +35,3 @@ module _ (asked : Bool) (t : Places) (l : length t.table ≡ 128) where
       ∙ take_if_on asked t (both-on _ _ r.0 (both-on _ _ (sound_below t (omega arith)) (ap not (ne_eqb t.packets 0 (λ z. omega arith)))))
       ∙ pick_true _ _ _ r.0
       ∙ sym (pick_true _ _ _ e)
-
-  pub taken_off : (u : Places) → (asked and only_packet t) ≡ false → t ≡ pick (asked and only_packet t) u t
-  unfolding pick
-  taken_off u e = rw e refl

@@ -2,19 +2,17 @@
 use Prim.Native.Nat.{◌≤◌, ◌<◌}
 use mathlib.Core.Path.{◌≡◌, refl}
 use mathlib.Core.Bool.{Bool, true, false, not, false≢true}
-use mathlib.Core.Logic.{⊎_elim}
 use native.Mathlib.Omega.{arith}
 use lib.ListN.{get_or}
 use lib.Dec.{eqb}
-use borrow.Author.Tests.{leb-true, eq-eqb, ne_eqb, eqb-true, eqb-false, not-true, not-false}
+use borrow.Author.Tests.{leb-true, eq-eqb, ne_eqb, eqb-false, not-true}
 use Rattle.definition.specs.Status.{pick, ◌and◌}
 use Rattle.definition.specs.declared.Status.TheVariants.{Internal, ShouldWait}
 use Rattle.definition.specs.declared.Record.TheVariants.{Packet}
 use Rattle.std.specs.declared.result.Result.TheVariants.{Ok}
-use Rattle.endpoint.proofs.answer.Chains.{both, both_off}
+use Rattle.endpoint.proofs.answer.Chains.{both}
 use Rattle.definition.specs.declared.Places.{Places}
 use Rattle.definition.specs.Port.{free, used, sound, packets_of, packet_of, refused, taken_of, take_of}
-use Rattle.port.proofs.places.Lists.{either}
 use Rattle.port.proofs.places.Tests.{sound_below}
 
 pub take_unsound : (t : Places) → sound t ≡ false → take_of t ≡ refused Internal t
@@ -42,14 +40,3 @@ take_if_on true t e =
     let r = take_possible true t e in
     rw (take_done t (sound_below t r.0) r.1) refl
 take_if_on false t e = absurd (false≢true e)
-
-pub take_if_off : (asked : Bool) (t : Places) → (asked and sound t and not (eqb t.packets 0)) ≡ false → t ≡ pick asked (take_of t).places t
-unfolding pick ◌and◌ refused
-take_if_off true t e =
-    ⊎_elim
-    (λ (s : sound t ≡ true).
-    let none = eqb-true t.packets 0 (not-false (eqb t.packets 0) (both_off (sound t) (not (eqb t.packets 0)) e s)) in
-    rw (take_none t s none) refl)
-    (λ (s : sound t ≡ false). rw (take_unsound t s) refl)
-    (either (sound t))
-take_if_off false t e = refl

@@ -1,12 +1,13 @@
 -- Laws of lists, for any element type. Assumes nothing.
-use Prim.Native.Nat.{ℕ, zero, suc, ◌+◌, ◌≤◌, ◌<◌}
+use Prim.Native.Nat.{ℕ, zero, suc, ◌+◌, ◌-◌, ◌≤◌, ◌<◌}
 use mathlib.Core.Path.{◌≡◌, refl, sym, ap, ◌∙◌}
 use mathlib.Core.Bool.{Bool, true, false, not, false≢true}
 use mathlib.Core.List.{List, [], ◌∷◌, ◌++◌, map, reverse, reverse-cons, map-append}
 use mathlib.Core.Logic.{◌⊎◌, inl, inr, ⊎_elim}
 use native.Mathlib.Omega.{arith}
 use lib.ListN.{length, take, drop, get_or, set, replicate, length-set, take-append-drop}
-use lib.Seq.{slice, take-suc, take-take, drop-set-lt, drop-cons, drop-drop, drop-append-le, get_or-drop, get_or-take, get_or-set_same, length-take-le}
+use lib.Seq.{slice, take-suc, take-take, drop-set-lt, drop-cons, drop-drop, drop-append-le, get_or-drop, get_or-set_same, length-take-le}
+use Rattle.std.proofs.lemmas.List.{drop-take}
 use Rattle.definition.specs.Status.{pick, ◌or◌}
 use Rattle.definition.specs.Port.{filter, any}
 
@@ -122,12 +123,15 @@ module _ {A : Type 0} where
   pub read-from : (a b : List A) (i k : ℕ) (d : A) → drop i a ≡ drop i b → get_or a (i + k) d ≡ get_or b (i + k) d
   read-from a b i k d e = sym (get_or-drop i a k d) ∙ ap (λ (l : List A). get_or l k d) e ∙ get_or-drop i b k d
 
-  pub read_to : (a b : List A) (i k : ℕ) (d : A) → take i a ≡ take i b → k < i → get_or a k d ≡ get_or b k d
-  read_to a b i k d e h = sym (get_or-take i a k d h) ∙ ap (λ (l : List A). get_or l k d) e ∙ get_or-take i b k d h
-
   -- the first u elements are the first p and those from p to u
   pub two_parts : (tab : List A) (p u : ℕ) → p ≤ u → take u tab ≡ take p tab ++ slice p u tab
   two_parts tab p u h = sym (take-append-drop p (take u tab)) ∙ rw (take-take p u tab h) refl
+
+  -- a part as a slice of the code has it
+  pub as_slice : (tab : List A) (p u : ℕ) → p ≤ u → take (u - p) (drop p tab) ≡ slice p u tab
+  as_slice tab p u h =
+      let e : p + (u - p) ≡ u = omega arith in
+      sym (drop-take p (u - p) tab) ∙ ap (λ (j : ℕ). drop p (take j tab)) e
 
   pub slice_snoc : (tab : List A) (p i : ℕ) (d : A) → p ≤ i → i < length tab → slice p (suc i) tab ≡ slice p i tab ++ (get_or tab i d ∷ [])
   slice_snoc tab p i d h k =

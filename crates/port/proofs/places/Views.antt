@@ -3,6 +3,7 @@ use Prim.Native.Nat.{◌+◌, ◌≤◌, ◌-◌}
 use mathlib.Core.Path.{◌≡◌, refl, sym, ap, ◌∙◌}
 use mathlib.Core.List.{List, [], ◌++◌, append_assoc}
 use native.Mathlib.Omega.{arith}
+use native.Mathlib.Nat.{zero-add}
 use lib.ListN.{length, take, drop, take-append-drop}
 use lib.Seq.{slice, length-slice, length-take-le, take-append_seam, drop-append_seam, take-append-add, drop-append-add, slice_empty}
 use Rattle.definition.specs.declared.Places.{Places}
@@ -52,3 +53,8 @@ new_waits = refl
 pub none_waiting : (t : Places) → t.waits ≡ 0 → waits_of t ≡ []
 unfolding waits_of
 none_waiting t e = let s : t.packets + t.waits ≡ t.packets = omega arith in rw s (slice_empty t.packets t.table)
+
+-- the waits where no packet stands before them
+pub first_waits : (t : Places) → t.packets ≡ 0 → take t.waits t.table ≡ waits_of t
+unfolding waits_of
+first_waits t e = rw (e, zero-add t.waits) refl

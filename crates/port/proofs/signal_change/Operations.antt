@@ -1,7 +1,7 @@
 -- What a change of an end's word comes to, by the table it meets. Assumes nothing.
 use Prim.Native.Nat.{ℕ}
-use mathlib.Core.Path.{◌≡◌, refl, sym, ap, ◌∙◌}
-use mathlib.Core.Bool.{Bool, true, false, not, false≢true}
+use mathlib.Core.Path.{◌≡◌, refl}
+use mathlib.Core.Bool.{Bool, true, false, not}
 use mathlib.Core.Logic.{⊎_elim}
 use lib.Dec.{eqb}
 use borrow.Author.Tests.{eq-eqb}
@@ -28,12 +28,6 @@ pub change_same : (one : Bool) (w clear set : ℕ) (t : Places) → sound t ≡ 
     → change_of one w clear set t ≡ record { places = t; word = changed_word clear set w; answer = ok }
 unfolding change_of pick
 change_same one w clear set t e s = rw (e, eq-eqb (changed_word clear set w) w s) refl
-
--- the word is another only if the table is sound
-pub other_word : (b : Bool) (n w : ℕ) → not (eqb (pick b n w) w) ≡ true → b ≡ true
-unfolding pick
-other_word true n w e = refl
-other_word false n w e = absurd (false≢true (sym (ap not (eq-eqb w w refl)) ∙ e))
 
 -- in one record
 pub change_as : (one : Bool) (w clear set : ℕ) (t : Places)

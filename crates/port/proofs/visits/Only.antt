@@ -14,7 +14,8 @@ use Rattle.port.proofs.places.Lists.{either}
 use Rattle.port.proofs.signal_change.Only.{only_on, only_off}
 use Rattle.endpoint.specs.declared.ends.Pending.{Pending}
 use Rattle.endpoint.specs.declared.ends.EndsOutcome.{EndsOutcome}
-use Rattle.port.specs.visits.Visits.{visited, visited_each}
+use Rattle.std.specs.List.{fold}
+use Rattle.port.specs.visits.Visits.{changes_of, visited, visited_each}
 use Rattle.port.proofs.visits.Visiting.{visited_idle}
 
 -- a table with no wait, or with one wait and nothing else
@@ -55,10 +56,10 @@ few_only : (a : Pending) (t : Places) → Few t → pick (only_wait t) (visited 
 few_only a t (l, inl w) = ap (pick (only_wait t) (visited a t)) (sym (visited_idle a t w l)) ∙ same-pick (only_wait t) (visited a t)
 few_only a t (l, inr o) = on-pick (only_wait t) (visited a t) t o
 
-abbrev only : Pending → Places → Places
+abbrev pub only : Pending → Places → Places
 only a t = pick (only_wait t) (visited a t) t
 
-pub only_each : (r : EndsOutcome) (t : Places) → length t.table ≡ 128
+only_each : (r : EndsOutcome) (t : Places) → length t.table ≡ 128
     → only r.more.second (only r.more.first (only r.visits.second (only r.visits.first t))) ≡ pick (only_wait t) (visited_each r t) t
 unfolding visited_each
 only_each r t l = by (either (only_wait t))
@@ -81,3 +82,9 @@ only_each r t l = by (either (only_wait t))
         ∙ ap (λ (u : Places). only r.more.second u) (stay r.more.first)
         ∙ stay r.more.second
         ∙ sym (off_pick (only_wait t) (visited_each r t) t o)
+
+-- the four changes, visited as a list
+pub all-visited_only : (r : EndsOutcome) (t : Places) → length t.table ≡ 128
+    → fold (λ (u : Places) (a : Pending). only a u) t (changes_of r) ≡ pick (only_wait t) (visited_each r t) t
+unfolding changes_of
+all-visited_only r t l = only_each r t l

@@ -2,8 +2,9 @@
 use mathlib.Core.Path.{◌≡◌, refl, sym, ap}
 use mathlib.Core.Bool.{Bool, true, false, not, false≢true}
 use mathlib.Core.Logic.{⊎_elim}
+use mathlib.Core.List.{List}
+use Rattle.std.specs.List.{fold}
 use lib.ListN.{length}
-use lib.Seq.{slice}
 use lib.Dec.{eqb}
 use borrow.Author.Tests.{eqb-true}
 use Rattle.definition.specs.Status.{pick, ◌or◌}
@@ -74,8 +75,17 @@ unfolding ◌or◌
 or-false true = refl
 or-false false = refl
 
+pub four-changes : (r : EndsOutcome) (all : List Pending) → all ≡ changes_of r → length all ≡ 4
+unfolding changes_of
+four-changes r all e = ap length e
+
+-- the four changes, visited as a list
+pub all-visited : (r : EndsOutcome) (t : Places) → fold (λ (u : Places) (a : Pending). visited a u) t (changes_of r) ≡ visited_each r t
+unfolding changes_of visited_each
+all-visited r t = refl
+
 -- the four changes, asked as a list
-pub all-due : (r : EndsOutcome) (t : Places) → any (λ (a : Pending). due a t) (slice 0 4 (changes_of r)) ≡ any_due r t
+pub all-due : (r : EndsOutcome) (t : Places) → any (λ (a : Pending). due a t) (changes_of r) ≡ any_due r t
 unfolding any_due changes_of any
 all-due r t =
     ap (λ (d : Bool). due r.visits.first t or due r.visits.second t or due r.more.first t or d) (or-false (due r.more.second t))

@@ -46,7 +46,3 @@ module _ (asked : Bool) (t : Places) (l : length t.table ≡ 128) where
       ∙ register_if asked one w key mask edge t
       ∙ pick_true _ _ _ r.0
       ∙ sym (pick_true _ _ _ e)
-
-  pub registered_off : (u : Places) → (asked and unused t) ≡ false → t ≡ pick (asked and unused t) u t
-  unfolding pick
-  registered_off u e = rw e refl

@@ -19,11 +19,6 @@ unfolding pick
 index_fits true p w = omega arith
 index_fits false p w = omega arith
 
-pub at_most_one : (b : Bool) → pick b 1 0 ≤ 1
-unfolding pick
-at_most_one true = omega arith
-at_most_one false = omega arith
-
 pub placed_as : (t : Places) (x : Place) (packet : Bool) (at more : ℕ) → at ≡ pick packet t.packets (used t) → more ≡ pick packet 1 0 → used t < length t.table
     → ◌≡◌ {A = Places} (record {
       packets = t.packets + more;

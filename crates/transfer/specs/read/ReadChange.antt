@@ -9,28 +9,31 @@ use Rattle.definition.specs.Pair.{own, peer, is_one, with_queue}
 use Rattle.definition.specs.Read.{read_effect, leaving, read_answer, buffer_read}
 use Rattle.definition.specs.Status.{◌or◌, count_of}
 use Rattle.definition.specs.Tests.{first_length, lent_of}
+use Rattle.std.specs.Option.{option_map}
+use Rattle.std.specs.declared.option.Option.{Option}
 use Rattle.endpoint.specs.declared.ends.EndsOutcome.{EndsOutcome}
+use Rattle.transfer.specs.declared.change.Exchange.{Exchange}
 use Rattle.transfer.specs.declared.change.Transfer.{Transfer}
 use Rattle.transfer.specs.change.Changes.{transfer_outcome, Changes}
 
--- the effect that t stands for: the reader has the queue and loses, then an open peer gains
-unfoldable pub drained_effect : (own peer : Endpoint) → Transfer → Effect
-drained_effect own peer t = keeping_waits (with_queue t.queue own) peer (own_word t.lost 0 ∷ if_open peer (peer_word 0 t.gained) ∷ [])
+-- the effect that x stands for: the reader has the queue and loses, then an open peer gains
+unfoldable pub drained_effect : (own peer : Endpoint) → Exchange → Effect
+drained_effect own peer x = keeping_waits (with_queue x.queue own) peer (own_word x.lost 0 ∷ if_open peer (peer_word 0 x.gained) ∷ [])
 
 -- the outcome of a read by the end of handle h that gives t
 unfoldable pub read_by : Ends → (h : ℕ) → Transfer → EndsOutcome
-read_by e h t = transfer_outcome e h t (drained_effect (own (is_one h) e) (peer (is_one h) e) t)
+read_by e h t = transfer_outcome e h t.answer (option_map (drained_effect (own (is_one h) e) (peer (is_one h) e)) t.change)
 
--- t is what a read or peek by end `own` that delivered k bytes changes; first is the first queued length
-abbrev pub DrainChanges : (datagram : Bool) → (C : ℕ) → (own peer : Endpoint) → (peek : Bool) → (first k : ℕ) → Transfer → Type 0
-DrainChanges datagram C own peer peek first k t =
-    Changes (peek or eqb k 0) own.queue (drained_effect own peer t) (read_effect datagram C own peer (leaving datagram first k)) t
+-- c is what a read or peek by end `own` that delivered k bytes changes; first is the first queued length
+abbrev pub DrainChanges : (datagram : Bool) → (C : ℕ) → (own peer : Endpoint) → (peek : Bool) → (first k : ℕ) → (c : Option Exchange) → Type 0
+DrainChanges datagram C own peer peek first k c =
+    Changes (peek or eqb k 0) (drained_effect own peer) (read_effect datagram C own peer (leaving datagram first k)) c
 
 -- the same for the end of handle h, by the answer of t; table is its own
 abbrev pub ReadChanges : Ends → (h : ℕ) → (peek : Bool) → (table : List ℕ) → Transfer → Type 0
 ReadChanges e h peek table t =
     DrainChanges e.datagram e.capacity (own (is_one h) e) (peer (is_one h) e) peek (first_length e.datagram (own (is_one h) e).queue table)
-    (count_of t.answer) t
+    (count_of t.answer) t.change
 
 -- what the code that takes n bytes out of a queue relies on; an answer above 0 shows it
 pub record Drain (datagram : Bool) (C n : ℕ) (q : Queue) : Type 0 where

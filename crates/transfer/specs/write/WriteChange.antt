@@ -9,25 +9,28 @@ use Rattle.definition.specs.Pair.{own, peer, is_one, with_queue}
 use Rattle.definition.specs.Status.{count_of}
 use Rattle.definition.specs.Tests.{lent_of}
 use Rattle.definition.specs.Write.{write_effect, write_answer, ring_written, table_written}
+use Rattle.std.specs.Option.{option_map}
+use Rattle.std.specs.declared.option.Option.{Option}
 use Rattle.endpoint.specs.declared.ends.EndsOutcome.{EndsOutcome}
+use Rattle.transfer.specs.declared.change.Exchange.{Exchange}
 use Rattle.transfer.specs.declared.change.Transfer.{Transfer}
 use Rattle.transfer.specs.change.Changes.{transfer_outcome, Changes}
 
--- the effect that t stands for: the peer has the queue and gains, then the writer loses
-unfoldable pub fed_effect : (own peer : Endpoint) → Transfer → Effect
-fed_effect own peer t = keeping_waits own (with_queue t.queue peer) (peer_word 0 t.gained ∷ own_word t.lost 0 ∷ [])
+-- the effect that x stands for: the peer has the queue and gains, then the writer loses
+unfoldable pub fed_effect : (own peer : Endpoint) → Exchange → Effect
+fed_effect own peer x = keeping_waits own (with_queue x.queue peer) (peer_word 0 x.gained ∷ own_word x.lost 0 ∷ [])
 
 -- the outcome of a write by the end of handle h that gives t
 unfoldable pub wrote_by : Ends → (h : ℕ) → Transfer → EndsOutcome
-wrote_by e h t = transfer_outcome e h t (fed_effect (own (is_one h) e) (peer (is_one h) e) t)
+wrote_by e h t = transfer_outcome e h t.answer (option_map (fed_effect (own (is_one h) e) (peer (is_one h) e)) t.change)
 
--- t is what a write of m bytes by end `own` changes
-abbrev pub FeedChanges : (datagram : Bool) → (C : ℕ) → (own peer : Endpoint) → (m : ℕ) → Transfer → Type 0
-FeedChanges datagram C own peer m t = Changes (eqb m 0) peer.queue (fed_effect own peer t) (write_effect datagram C own peer m) t
+-- c is what a write of m bytes by end `own` changes
+abbrev pub FeedChanges : (datagram : Bool) → (C : ℕ) → (own peer : Endpoint) → (m : ℕ) → (c : Option Exchange) → Type 0
+FeedChanges datagram C own peer m c = Changes (eqb m 0) (fed_effect own peer) (write_effect datagram C own peer m) c
 
 -- the same for the end of handle h, by the answer of t
 abbrev pub WriteChanges : Ends → (h : ℕ) → Transfer → Type 0
-WriteChanges e h t = FeedChanges e.datagram e.capacity (own (is_one h) e) (peer (is_one h) e) (count_of t.answer) t
+WriteChanges e h t = FeedChanges e.datagram e.capacity (own (is_one h) e) (peer (is_one h) e) (count_of t.answer) t.change
 
 -- what the code that puts m bytes into a queue relies on; an answer above 0 shows it
 pub record Feed (datagram : Bool) (C : ℕ) (q : Queue) (m : ℕ) (src ring table : List ℕ) : Type 0 where

@@ -4,7 +4,7 @@ ghost use Rattle.std.specs.Prelude.{◌≡◌};
 ghost use Rattle.transfer.specs.read.user_memory.UserRead.{UserBytesRead, UserRead};
 
 use crate::change::{Transfer, kept};
-use crate::read::{deliver, drain_transfer};
+use crate::read::{deliver, drain};
 use definition::Ends;
 use user_answers::lookup::Buffer;
 use user_answers::memory::land_count;
@@ -34,21 +34,20 @@ pub fn read_bytes_transfer(
         count,
         count_at,
     };
-    let a = user_answers::read::read_answer(p, handle, options, b, ring, table);
-    let k = endpoint::answer::count_of(a);
-    let one = handle == 1;
-    let own = endpoint::ends::own(p, one);
-    let peer = endpoint::ends::peer(p, one);
-    let q = own.queue;
+    let answer = user_answers::read::read_answer(p, handle, options, b, ring, table);
+    let k = endpoint::answer::count_of(answer);
     if k == 0 {
-        return kept(q, a);
+        return kept(answer);
     }
+    let one = handle == 1;
+    let q = endpoint::ends::own(p, one).queue;
     let first = endpoint::end::first_length(q, p.datagram, table);
     let from = (address - base) as usize;
     let to = from + k as usize;
     deliver(p.capacity, q.bytes.start, k, ring, &mut memory[from..to]);
     let peek = options == SOCKET_PEEK;
-    drain_transfer(p.datagram, p.capacity, own, peer, a, peek, first, k)
+    let change = drain(p, one, peek, first, k);
+    Transfer { change, answer }
 }
 
 // The same with its count, which lands over the bytes.
@@ -70,9 +69,8 @@ pub fn read_transfer(
     let t = read_bytes_transfer(
         p, handle, options, base, memory, address, count, count_at, ring, table,
     );
-    let a = t.answer;
-    if endpoint::answer::is_done(a) {
-        land_count(memory, base, count_at, endpoint::answer::count_of(a));
+    if t.answer.is_ok() {
+        land_count(memory, base, count_at, endpoint::answer::count_of(t.answer));
     }
     t
 }

@@ -15,7 +15,7 @@ use user_answers::memory::land_count;
 fn land_none(memory: &mut [u8], base: u64, count_at: u64, answer: Answer)
     ensures { memory.new ≡ pick (is_done answer) (count_put base count_at 0 memory.old) memory.old }
 {
-    if endpoint::answer::is_done(answer) {
+    if answer.is_ok() {
         land_count(memory, base, count_at, 0);
     }
 }
@@ -44,19 +44,17 @@ pub fn write_transfer(
         count,
         count_at,
     };
-    let a = user_answers::write::write_answer(p, handle, options, b, ring, table);
-    let m = endpoint::answer::count_of(a);
-    let one = handle == 1;
-    let own = endpoint::ends::own(p, one);
-    let peer = endpoint::ends::peer(p, one);
-    let q = peer.queue;
+    let answer = user_answers::write::write_answer(p, handle, options, b, ring, table);
+    let m = endpoint::answer::count_of(answer);
     if m == 0 {
-        land_none(memory, base, count_at, a);
-        return kept(q, a);
+        land_none(memory, base, count_at, answer);
+        return kept(answer);
     }
+    let one = handle == 1;
     let from = (address - base) as usize;
     let to = from + m as usize;
-    feed(p.datagram, p.capacity, q, m, &memory[from..to], ring, table);
+    feed(p, one, m, &memory[from..to], ring, table);
     land_count(memory, base, count_at, m);
-    fed(p.datagram, p.capacity, own, peer, a, m)
+    let change = Some(fed(p, one, m));
+    Transfer { change, answer }
 }

@@ -1,18 +1,19 @@
--- The count in memory: its bytes one by one, and where its range fits. Assumes nothing.
-use Prim.Native.Nat.{ℕ, suc, ◌+◌, ◌-◌, ◌/◌, ◌%◌, ◌≤◌, ◌<◌}
+-- The count in memory: its bytes, and where its range fits. Assumes nothing.
+use Prim.Native.Nat.{ℕ, ◌+◌, ◌-◌, ◌/◌, ◌≤◌}
 use mathlib.Core.Path.{◌≡◌, refl, sym}
 use mathlib.Core.Bool.{Bool, true, false}
 use mathlib.Core.List.{List}
 use native.Mathlib.Omega.{arith}
 use lib.Dec.{eqb}
-use lib.ListN.{length, set}
-use lib.Seq.{paste, paste-zero}
+use lib.ListN.{length}
+use lib.Seq.{paste}
 use borrow.Author.Tests.{leb-true, eq-eqb, ne_eqb}
 use Rattle.definition.specs.Status.{◌or◌}
 use Rattle.endpoint.proofs.answer.Rules.{pick-on, pick_off, or-on, or_off}
 use Rattle.endpoint.proofs.answer.Chains.{both}
 use Rattle.definition.specs.Memory.{fits, count_fits, little_endian, count_landed, count_put}
-use Rattle.user_answers.proofs.memory.Lists.{paste-cons}
+use Rattle.std.specs.Int.{to_le_bytes, w64}
+use Rattle.std.proofs.Common.{◌^◌}
 
 -- a range that fits, of more than 0 bytes
 pub fits_in : (base size address n : ℕ) → fits base size address n ≡ true → (n ≡ 0 → ⊥) → (base ≤ address) × (address - base + n ≤ size)
@@ -21,21 +22,21 @@ fits_in base size address n e z =
     let w = both _ _ (rw (ne_eqb n 0 z) at e) in
     (leb-true _ _ w.0, leb-true _ _ w.1)
 
--- one byte of a number, and the bytes that are left
-pub byte_put : (l : List ℕ) (at i rest : ℕ) → at + 8 ≤ length l → i < 8
-    → paste (set l (at + i) (rest % 256)) (at + (i + 1)) (little_endian (8 - (i + 1)) (rest / 256)) (8 - (i + 1))
-    ≡ paste l (at + i) (little_endian (8 - i) rest) (8 - i)
+-- the 8 bytes of a number as the library makes them
+pub le_bytes : (n : ℕ) → to_le_bytes w64 n ≡ little_endian 8 n
 unfolding little_endian
-byte_put l at i rest room h =
-    let a : at + (i + 1) ≡ at + i + 1 = omega arith in
-    let b : 8 - i ≡ suc (8 - (i + 1)) = omega arith in
-    rw (a, b) (paste-cons l (at + i) (rest % 256) (little_endian (8 - (i + 1)) (rest / 256)) (8 - (i + 1)) (omega arith))
+le_bytes n =
+    let b : n / 256 ^ 2 ≡ n / 256 / 256 = omega arith in
+    let c : n / 256 ^ 3 ≡ n / 256 / 256 / 256 = omega arith in
+    let d : n / 256 ^ 4 ≡ n / 256 / 256 / 256 / 256 = omega arith in
+    let e : n / 256 ^ 5 ≡ n / 256 / 256 / 256 / 256 / 256 = omega arith in
+    let f : n / 256 ^ 6 ≡ n / 256 / 256 / 256 / 256 / 256 / 256 = omega arith in
+    let g : n / 256 ^ 7 ≡ n / 256 / 256 / 256 / 256 / 256 / 256 / 256 = omega arith in
+    rw (b, c, d, e, f, g) refl
 
--- no byte is left
-pub all-put : (l : List ℕ) (at i rest : ℕ) → 8 ≤ i → paste l (at + i) (little_endian (8 - i) rest) (8 - i) ≡ l
-all-put l at i rest h =
-    let a : 8 - i ≡ 0 = omega arith in
-    rw a (sym (paste-zero l (at + i) (little_endian 0 rest)))
+pub little-length : (n : ℕ) → 8 ≡ length (little_endian 8 n)
+unfolding little_endian
+little-length n = refl
 
 -- where the count's range fits, the count lands
 pub count_put_lem : (base countAt n : ℕ) (memory : List ℕ) → count_fits base (length memory) countAt ≡ true

@@ -1,11 +1,6 @@
 use mathlib.Core.Path.{◌∙◌}
-use Rattle.control.proofs.ends.Parts.{own-closed, own_open}
+use Rattle.control.proofs.ends.Parts.{own_open}
 use Rattle.control.proofs.disposition.own_disposed.Goals as goal
-
-pub returns-then-peer : goal.returns-then-peer
-returns-then-peer c =
-    (rw (c.changed_end-next.ensures, c.writing_visit-first.ensures) at c.first_only.ensures)
-    ∙ own-closed _ _ _ _ c.if-peer.true
 
 pub returns : goal.returns
 returns c =

@@ -1,14 +1,6 @@
-use mathlib.Core.Path.{ap, ◌∙◌}
-use Rattle.definition.specs.declared.Endpoint.{Endpoint}
-use Rattle.endpoint.specs.ends.Outcome.{kept_ends}
-use Rattle.control.proofs.ends.Parts.{peer-closed, peer_open}
+use mathlib.Core.Path.{◌∙◌}
+use Rattle.control.proofs.ends.Parts.{peer_open}
 use Rattle.control.proofs.disposition.peer_disposed.Goals as goal
-
-pub returns-then-peer : goal.returns-then-peer
-returns-then-peer c =
-    c.kept_ends.ensures
-    ∙ ap (λ (e : Endpoint). kept_ends e c.args.peer) c.with_read_disabled-flagged.ensures
-    ∙ peer-closed _ _ _ _ c.if-peer.true
 
 pub returns : goal.returns
 returns c =

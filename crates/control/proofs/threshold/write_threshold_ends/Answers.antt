@@ -1,20 +1,8 @@
-use mathlib.Core.Path.{refl, ◌∙◌}
-use Rattle.endpoint.proofs.answer.Rules.{via_not, via_not-not}
 use Rattle.definition.specs.Pair.{is_one}
 use Rattle.answers.proofs.tests.Sound.{sound-peer}
 use Rattle.answers.proofs.threshold.Passed.{threshold_sound}
-use Rattle.control.proofs.ends.Outcomes.{refused, done-two}
-use Rattle.definition.specs.Effect.{keeping_waits}
-use Rattle.definition.specs.Threshold.{write_threshold_effect}
-use Rattle.endpoint.specs.ends.AtOnce.{visits_of, first_two, more_by}
+use Rattle.endpoint.proofs.answer.Steps.{err_done}
 use Rattle.control.proofs.threshold.write_threshold_ends.Goals as goal
 
-pub returns-then-not-is_done : goal.returns-then-not-is_done
-returns-then-not-is_done c = c.unchanged.ensures ∙ refused _ _ _ _ _ c.write_threshold_answer-a.ensures (via_not c.is_done.ensures c.if-not-is_done.true-raw)
-
 pub write_threshold_moved-moved-requires : goal.write_threshold_moved-moved-requires
-write_threshold_moved-moved-requires c = rw c.peer.ensures (sound-peer (is_one c.args.handle) _ (threshold_sound _ _ _ _ c.write_threshold_answer-a.ensures (via_not-not c.is_done.ensures c.if-not-is_done.false-raw))).queued
-
-pub returns : goal.returns
-unfolding write_threshold_effect keeping_waits more_by visits_of first_two
-returns c = rw (c.write_threshold_moved-moved.ensures, c.own.ensures, c.peer.ensures) at c.put_both.ensures ∙ done-two _ _ _ _ _ c.write_threshold_answer-a.ensures refl refl (via_not-not c.is_done.ensures c.if-not-is_done.false-raw)
+write_threshold_moved-moved-requires c = rw c.peer.ensures (sound-peer (is_one c.args.handle) _ (threshold_sound _ _ _ _ c.write_threshold_answer-a.ensures (err_done _ _ c.is_err.ensures.value c.if-is_err.false))).queued

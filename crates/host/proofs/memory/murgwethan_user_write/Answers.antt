@@ -21,12 +21,12 @@ returns c =
     let e = c.ends_of.result in
     let t = c.write_transfer-t.result in
     let r = wrote_by e a.handle t in
-    let word : to_z w64 (of_z w64 c.user_wrote.result) ≡ answer_word t.answer = search rules in
+    let word : to_z w64 (of_z w64 c.wrote.result) ≡ answer_word t.answer = search rules in
     let ends = ap (λ (k : Ends). wrote_by k a.handle t) (sym c.ends_of.ensures.ends) in
     record {
       answer = r.answer;
       word = word ∙ ap answer_word (wrote-answer e a.handle t);
       kept = subst (λ (k : Step). UserWrites h a.handle a.base a.options a.address a.count a.count_at a.memory.now c.write_transfer-t.new.memory a.ring.now c.write_transfer-t.new.ring a.table.now c.write_transfer-t.new.table k)
-          (settled_as r h _ (passed_on r (wrote_by (ends_of h) a.handle t) h _ ends c.user_wrote.ensures.1))
+          (settled_as r h _ (passed_on r (wrote_by (ends_of h) a.handle t) h _ ends c.wrote.ensures.1))
           (wrote-whole h a.handle a.base a.options a.address a.count a.count_at e t c.ends_of.ensures.size c.ends_of.ensures.ends a.memory.now _ a.ring.now _ a.table.now _ c.write_transfer-t.ensures);
     }

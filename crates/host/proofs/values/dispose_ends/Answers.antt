@@ -1,23 +1,29 @@
-use mathlib.Core.Path.{◌∙◌}
-use borrow.Author.Tests.{lt-ltb, le-ltb}
+use mathlib.Core.Path.{◌≡◌, ap, ◌∙◌}
+use Rattle.std.specs.declared.result.Result.TheVariants.{Err}
+use Rattle.definition.specs.declared.Status.TheVariants.{InvalidArgs}
+use Rattle.definition.specs.Status.{is_done, ◌then◌}
+use Rattle.definition.specs.Tests.{opening_test}
+use Rattle.definition.specs.Disposition.{plain_dispose_answer}
 use Rattle.control.proofs.ends.Outcomes.{refused}
-use Rattle.host.proofs.values.Disposed.{never_done, first_above, second_above, within}
+use Rattle.endpoint.proofs.answer.Steps.{number_taken, number_refused}
+use Rattle.host.proofs.values.Disposed.{and_is_then, never_done, first_above, second_above, within}
+use Rattle.host.proofs.values.dispose_ends.Goals.{in_default-via-in-Ok+in_default, in_default-via-in_default}
 use Rattle.host.proofs.values.dispose_ends.Goals as goal
 
-pub returns-then-disposition-gt2 : goal.returns-then-disposition-gt2
-returns-then-disposition-gt2 c =
+pub returns-in-Ok-Ok : goal.returns-in-Ok-Ok
+returns-in-Ok-Ok c =
     let a = c.args in
-    c.bad_number.ensures
-    ∙ refused _ _ _ _ _ (first_above a.e a.handle a.disposition a.peer_disposition (lt-ltb 2 a.disposition c.if-disposition-gt2.true)) (never_done _ _)
+    let first = number_taken _ _ _ c.try_from.ensures c.in-Ok-Ok.is-0 in
+    let second = number_taken _ _ _ c.try_from-2.ensures c.in-Ok-Ok.is-1 in
+    rw (← first.1, ← second.1, within a.e a.handle a.disposition a.peer_disposition first.0 second.0) at c.dispose_ends.ensures
 
-pub returns-then-peer_disposition-gt2 : goal.returns-then-peer_disposition-gt2
-returns-then-peer_disposition-gt2 c =
+pub returns-in_default : goal.returns-in_default
+returns-in_default c =
     let a = c.args in
-    c.bad_number-then-peer_disposition-gt2.ensures
-    ∙ refused _ _ _ _ _ (second_above a.e a.handle a.disposition a.peer_disposition (le-ltb 2 a.disposition c.if-disposition-gt2.false) (lt-ltb 2 a.peer_disposition c.if-peer_disposition-gt2.true)) (never_done _ _)
-
-pub returns : goal.returns
-returns c =
-    let a = c.args in
-    let same = within a.e a.handle a.disposition a.peer_disposition (le-ltb 2 a.disposition c.if-disposition-gt2.false) (le-ltb 2 a.peer_disposition c.if-peer_disposition-gt2.false) in
-    rw (c.disposition_of.ensures, c.disposition_of-2.ensures, same) at c.dispose_ends.ensures
+    let told = c.and.ensures ∙ and_is_then _ _ c.opening_test.ensures in
+    let plain : (opening_test a.e a.handle then Err InvalidArgs) ≡ plain_dispose_answer a.e a.handle a.disposition a.peer_disposition
+    = elim c.in_default.branch [
+      | in_default-via-in-Ok+in_default w ↦ second_above _ _ _ _ (number_taken _ _ _ c.try_from.ensures w.in_default.is-0).0 (number_refused _ _ _ c.try_from-2.ensures w.in_default.is-1).0
+      | in_default-via-in_default w ↦ first_above _ _ _ _ (number_refused _ _ _ c.try_from.ensures w.in_default.is-0).0
+    ] in
+    c.unchanged.ensures ∙ refused _ _ _ _ _ (told ∙ plain) (ap is_done told ∙ never_done _ _)

@@ -1,10 +1,7 @@
 use borrow.Author.Rules.{rules}
 use Rattle.endpoint.proofs.answer.Rules.{via}
-use Rattle.kept.proofs.places.Stored.{pick_taken, few_waited_on}
+use Rattle.kept.proofs.places.Stored.{few_waited_on}
 use Rattle.kept.proofs.places.wait.Goals as goal
-
-pub returns-then-is_unused : goal.returns-then-is_unused
-returns-then-is_unused c = (search rules, pick_taken c.args.p.now c.is_unused.ensures c.if-is_unused.true c.registered_first.ensures)
 
 pub returns-then-appends_few : goal.returns-then-appends_few
 returns-then-appends_few c =

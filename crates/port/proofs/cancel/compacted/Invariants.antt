@@ -1,4 +1,4 @@
-use Prim.Native.Nat.{◌-◌, ◌≤◌, ◌<◌}
+use Prim.Native.Nat.{◌≤◌, ◌<◌}
 use mathlib.Core.Path.{◌≡◌}
 use lib.ListN.{length, take}
 use Rattle.definition.specs.Port.{filter, free}
@@ -12,6 +12,3 @@ abbrev pub invariant-loop-i : goal.invariant-loop-i
 invariant-loop-i l =
     Compacted (keeps l.one l.key) free l.initial.out.table 0 l.used l.out.table l.n l.i
     × (((l.packets < l.i → l.m ≡ length (filter (keeps l.one l.key) (take l.packets l.initial.out.table))) × (l.packets ≤ l.used)) × (l.used ≤ 128))
-
-abbrev pub decreases-loop-i : goal.decreases-loop-i
-decreases-loop-i l = l.used - l.i

@@ -1,4 +1,4 @@
-use Prim.Native.Nat.{◌-◌, ◌≤◌}
+use Prim.Native.Nat.{◌≤◌}
 use mathlib.Core.Path.{◌≡◌}
 use mathlib.Core.List.{◌++◌}
 use lib.Dec.{ltb}
@@ -12,6 +12,3 @@ abbrev pub invariant-loop-i : goal.invariant-loop-i
 invariant-loop-i l =
     (l.out.table ≡ take l.i (pick (ltb l.last 8) (removed_at l.k l.last free l.t.table) l.t.table) ++ drop l.i l.t.table)
     × (((l.out.packets ≡ l.t.packets) × (l.out.waits ≡ l.t.waits)) × (l.i ≤ 8))
-
-abbrev pub decreases-loop-i : goal.decreases-loop-i
-decreases-loop-i l = 8 - l.i

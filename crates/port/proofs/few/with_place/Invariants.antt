@@ -1,4 +1,4 @@
-use Prim.Native.Nat.{◌-◌, ◌≤◌}
+use Prim.Native.Nat.{◌≤◌}
 use mathlib.Core.Path.{◌≡◌}
 use mathlib.Core.List.{◌++◌}
 use lib.Dec.{ltb}
@@ -10,6 +10,3 @@ abbrev pub invariant-loop-i : goal.invariant-loop-i
 invariant-loop-i l =
     (l.out.table ≡ take l.i (pick (ltb l.at 8) (set l.t.table l.at l.p) l.t.table) ++ drop l.i l.t.table)
     × (((l.out.packets ≡ l.t.packets) × (l.out.waits ≡ l.t.waits)) × (l.i ≤ 8))
-
-abbrev pub decreases-loop-i : goal.decreases-loop-i
-decreases-loop-i l = 8 - l.i

@@ -1,20 +1,28 @@
-use Prim.Native.Nat.{◌+◌}
-use Rattle.port.proofs.few.Searches.{at-most-eight}
-use Rattle.port.proofs.few.Whole.{taken_needs, removed_few}
+use mathlib.Core.Path.{◌≡◌}
+use lib.Dec.{leb, ltb}
+use borrow.Author.Tests.{lt-ltb, le-ltb}
+use Rattle.definition.specs.Status.{◌and◌}
+use Rattle.endpoint.proofs.answer.Rules.{and-on}
+use Rattle.port.proofs.places.Tests.{first_fails}
+use Rattle.port.proofs.few.Whole.{removed_few}
 use Rattle.port.proofs.few.without_place.Goals as goal
-
-pub removed_at-out-requires : goal.removed_at-out-requires
-removed_at-out-requires c =
-    let u = c.used_within-used in
-    let t = c.args.t in
-    taken_needs c.args.k u.result c.count_if.result c.count_if-2.result (rw u.ensures (at-most-eight (t.packets + t.waits)))
-    c.count_if.ensures (rw c.less_one.ensures at c.count_if-2.ensures)
+use Rattle.port.proofs.few.without_place.Goals.{then-is_used, else-is_used, then-is_used-2, else-is_used-2}
 
 pub returns : goal.returns
 returns c =
     let t = c.args.t in
-    removed_few t c.args.k c.used_within-used.result c.count_if.result c.count_if-2.result c.removed_at-out.result c.both.result
-    c.both-2.result c.count_if-3.result c.count_if-4.result c.used_within-used.ensures c.count_if.ensures
-    (rw c.less_one.ensures at c.count_if-2.ensures)
-    c.removed_at-out.ensures c.both.ensures (rw c.less_one-2.ensures at c.count_if-3.ensures) c.both-2.ensures
-    (rw c.less_one-3.ensures at c.count_if-4.ensures)
+    let k = c.args.k in
+    let u = c.used_within-used in
+    let packet : c.if-is_used.pick ≡ (ltb k u.result and ltb k t.packets) = elim c.if-is_used.branch [
+      | then-is_used w ↦ and-on _ _ _ (lt-ltb _ _ w.if-is_used.true) w.pick-is
+      | else-is_used w ↦ first_fails _ _ _ (le-ltb _ _ w.if-is_used.false) w.pick-is
+    ] in
+    let wait : c.if-is_used-2.pick ≡ (ltb k u.result and leb t.packets k) = elim c.if-is_used-2.branch [
+      | then-is_used-2 w ↦ and-on _ _ _ (lt-ltb _ _ w.if-is_used-2.true) w.pick-is
+      | else-is_used-2 w ↦ first_fails _ _ _ (le-ltb _ _ w.if-is_used-2.false) w.pick-is
+    ] in
+    removed_few t k u.result c.pick.result c.pick-2.result c.removed_at-out.result c.if-is_used.pick
+    c.if-is_used-2.pick c.pick-3.result c.pick-4.result u.ensures c.pick.ensures
+    (rw c.saturating_sub.ensures at c.pick-2.ensures)
+    c.removed_at-out.ensures packet (rw c.saturating_sub-2.ensures at c.pick-3.ensures) wait
+    (rw c.saturating_sub-3.ensures at c.pick-4.ensures)

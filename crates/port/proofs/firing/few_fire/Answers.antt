@@ -1,46 +1,43 @@
-use Prim.Native.Nat.{ℕ, ◌+◌, ◌<◌}
-use mathlib.Core.Path.{◌≡◌, sym, ◌∙◌, subst}
+use Prim.Native.Nat.{◌≤◌}
+use mathlib.Core.Path.{◌≡◌, sym, ap, ◌∙◌}
 use native.Mathlib.Omega.{arith}
 use lib.ListN.{length}
-use borrow.Author.Tests.{ltb-true}
-use Rattle.endpoint.proofs.answer.Chains.{both}
-use Rattle.definition.specs.Port.{free, waits_of, fires, any_fires}
+use Rattle.definition.specs.Port.{any, free, fires, any_fires}
+use Rattle.port.proofs.firing.Any.{few_hit, few_miss, few_past, few_not}
 use Rattle.port.proofs.places.Size.{table_128}
-use Rattle.port.proofs.firing.Any.{Searched, search_start, search_hit, few_miss, search_none}
+use Rattle.port.proofs.places.Views.{first_waits}
 use Rattle.port.proofs.firing.few_fire.Goals as goal
+use Rattle.port.proofs.firing.few_fire.Goals.{else-i-t-via-then-i-t+else-is_fired, else-i-t-via-else-i-t}
 
-pub loop-i-init : goal.loop-i-init
-loop-i-init c =
+pub returns-then-is_fired : goal.returns-then-is_fired
+unfolding any_fires
+returns-then-is_fired c =
     let t = c.args.t in
-    let l : length t.table ≡ 128 = table_128 t _ c.well_formed.0 in
     let f = fires c.args.one c.args.word in
-    subst (λ (i : ℕ). Searched f t.table t.packets (t.packets + t.waits) i) (omega (arith, c.requires.0))
-    (search_start f t.table t.packets (t.packets + t.waits) (omega arith) (omega (arith, c.requires.0, c.requires.1, l)))
-
-pub returns-then-is_fired_wait : goal.returns-then-is_fired_wait
-unfolding any_fires waits_of
-returns-then-is_fired_wait c =
-    let a = c.args in
-    let t = a.t in
-    let o = c.loop-i in
-    let w = both _ _ (sym c.is_fired_wait.ensures ∙ c.if-is_fired_wait.true) in
-    let below : o.i < t.waits = ltb-true _ _ w.0 in
-    search_hit (fires a.one a.word) t.table t.packets (t.packets + t.waits) o.i free
-    (subst (λ (i : ℕ). Searched (fires a.one a.word) t.table t.packets (t.packets + t.waits) i) (omega (arith, below)) o.invariant)
-    (omega (arith, below)) w.1
+    let l : length t.table ≡ 128 = table_128 t _ c.well_formed.0 in
+    let few : t.waits ≤ 8 = c.requires.1 in
+    few_hit f t.table t.waits c.loop-i.i free (omega arith) c.if-i-t.true (sym c.is_fired.ensures ∙ c.if-is_fired.true)
+    ∙ ap (any f) (first_waits t c.requires.0)
 
 pub loop-i-preserved : goal.loop-i-preserved
 loop-i-preserved c =
-    let a = c.args in
-    let t = a.t in
+    let t = c.args.t in
     let o = c.loop-i in
-    few_miss (fires a.one a.word) t.table t.packets t.waits o.i free o.invariant (sym c.is_fired_wait.ensures ∙ c.if-is_fired_wait.false)
+    let f = fires c.args.one c.args.word in
+    let l : length t.table ≡ 128 = table_128 t _ c.well_formed.0 in
+    let few : t.waits ≤ 8 = c.requires.1 in
+    elim c.else-i-t.branch [
+      | else-i-t-via-then-i-t+else-is_fired w ↦
+          few_miss f t.table t.waits o.i free (omega arith) w.if-i-t.true o.invariant (sym w.is_fired.ensures ∙ w.if-is_fired.false)
+      | else-i-t-via-else-i-t w ↦ few_past f t.table t.waits o.i w.if-i-t.false o.invariant
+    ]
 
 pub returns : goal.returns
-unfolding any_fires waits_of
+unfolding any_fires
 returns c =
-    let a = c.args in
-    let t = a.t in
+    let t = c.args.t in
     let o = c.loop-i in
-    let pre = c.requires in
-    search_none (fires a.one a.word) t.table t.packets (t.packets + t.waits) _ o.invariant (omega (arith, pre.0, pre.1, c.loop-i-test.false))
+    let f = fires c.args.one c.args.word in
+    let few : t.waits ≤ 8 = c.requires.1 in
+    few_not f t.table t.waits o.i (omega (arith, few, c.loop-i-test.false)) o.invariant
+    ∙ ap (any f) (first_waits t c.requires.0)

@@ -8,12 +8,6 @@ use lib.ListN.{length}
 use mathlib.Core.Path.{◌≡◌, refl, sym, ◌∙◌}
 use Rattle.port.proofs.signal_change.fired.Goals as goal
 
-pub overflow_add-used : goal.overflow_add-used
-overflow_add-used c =
-    let t = c.args.t in
-    let h : t.packets + t.waits ≤ 128 = c.requires c.if-visit.true in
-    omega arith
-
 pub loop-i-init : goal.loop-i-init
 loop-i-init c =
     let a = c.args in
@@ -28,8 +22,8 @@ loop-i-preserved-then-is_fired c =
     let t = a.t in
     let o = c.loop-i in
     let m = c.is_fired in (
-      step_hit (fires a.one a.word) (observe a.word) t.table t.packets (t.packets + t.waits) o.out.table o.front o.back o.i free c.observed_at-q.result o.invariant.0
-          c.loop-i-test.true (sym m.ensures ∙ c.if-is_fired.true) c.observed_at-q.ensures,
+      step_hit (fires a.one a.word) (observe a.word) t.table t.packets (t.packets + t.waits) o.out.table o.front o.back o.i free c.observed_at.result o.invariant.0
+          c.loop-i-test.true (sym m.ensures ∙ c.if-is_fired.true) c.observed_at.ensures,
       o.invariant.1,
     )
 
@@ -60,7 +54,3 @@ returns-after-loop-i c =
       partition-front f g t.table t.packets u o.out.table o.front o.back o.i o.invariant.0 done,
       partition-all f g t.table t.packets u o.out.table o.front o.back o.i o.invariant.0 done,
     ) refl
-
-pub returns-else-visit : goal.returns-else-visit
-unfolding pick
-returns-else-visit c = rw c.if-visit.false refl

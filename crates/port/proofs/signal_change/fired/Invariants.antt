@@ -7,6 +7,3 @@ use Rattle.port.proofs.signal_change.fired.Given as goal
 abbrev pub invariant-loop-i : goal.invariant-loop-i
 invariant-loop-i l =
     Partitioned (fires l.one l.word) (observe l.word) l.t.table l.packets l.used l.out.table l.front l.back l.i × (l.used ≤ 128)
-
-abbrev pub decreases-loop-i : goal.decreases-loop-i
-decreases-loop-i l = l.i

@@ -1,12 +1,11 @@
-use Prim.Native.Nat.{◌-◌}
-use Rattle.port.proofs.firing.Any.{Searched}
+use mathlib.Core.Path.{◌≡◌}
+use mathlib.Core.Bool.{false}
+use lib.ListN.{take}
+use Rattle.definition.specs.Port.{any}
 use Rattle.endpoint.specs.declared.ends.Pending.{Pending}
-use Rattle.port.specs.visits.Visits.{changes_of, due}
+use Rattle.port.specs.visits.Visits.{due}
 use Rattle.port.proofs.visits.any_due.Given as goal
 
--- No change below i is due.
-abbrev pub invariant-loop-i : goal.invariant-loop-i
-invariant-loop-i l = Searched (λ (a : Pending). due a l.t) (changes_of l.r) 0 4 l.i
-
-abbrev pub decreases-loop-i : goal.decreases-loop-i
-decreases-loop-i l = 4 - l.i
+-- No change that was looked at is due.
+abbrev pub invariant-loop-a : goal.invariant-loop-a
+invariant-loop-a l = any (λ (a : Pending). due a l.t) (take l.a-index l.a-items) ≡ false

@@ -1,10 +1,5 @@
-use borrow.Author.Tests.{leb-true}
-use mathlib.Core.Path.{sym, ◌∙◌}
 use Rattle.port.proofs.waits.Operations.{drop_as}
 use Rattle.port.proofs.waits.drop_waits.Goals as goal
-
-pub dropped-requires : goal.dropped-requires
-dropped-requires c e = leb-true _ _ (sym c.is_sound-sound.ensures ∙ e)
 
 pub returns : goal.returns
 returns c =

@@ -10,12 +10,7 @@ use native.Mathlib.Omega.{arith}
 use Prim.Native.Nat.{◌+◌, ◌-◌, ◌≤◌}
 use lib.ListN.{length, take}
 use Rattle.port.proofs.waits.dropped.Goals as goal
-
-pub overflow_add-used : goal.overflow_add-used
-overflow_add-used c =
-    let t = c.args.t in
-    let h : t.packets + t.waits ≤ 128 = c.requires c.if-sound.true in
-    omega arith
+use Rattle.port.proofs.waits.dropped.Goals.{then-p-end, else-p-end}
 
 pub loop-i-init : goal.loop-i-init
 loop-i-init c =
@@ -24,15 +19,6 @@ loop-i-init c =
     let h : t.packets + t.waits ≤ 128 = c.requires c.if-sound.true in
     (compact_start (of_other c.args.one) free t.table t.packets (t.packets + t.waits) (omega arith) (omega arith), (refl, h))
 
-pub loop-i-preserved-then-p-end : goal.loop-i-preserved-then-p-end
-unfolding of_other
-loop-i-preserved-then-p-end c =
-    let a = c.args in
-    let t = a.t in
-    let o = c.loop-i in
-    let e = c.end_number-end.ensures in
-    (compact_keep (of_other a.one) free t.table t.packets (t.packets + t.waits) o.out.table o.n o.i free o.invariant.0 c.loop-i-test.true (ap not (ne_eqb _ _ (λ s. c.if-p-end.true (s ∙ sym e)))), o.invariant.1)
-
 pub loop-i-preserved : goal.loop-i-preserved
 unfolding of_other
 loop-i-preserved c =
@@ -40,7 +26,18 @@ loop-i-preserved c =
     let t = a.t in
     let o = c.loop-i in
     let e = c.end_number-end.ensures in
-    (compact_drop (of_other a.one) free t.table t.packets (t.packets + t.waits) o.out.table o.n o.i free o.invariant.0 c.loop-i-test.true (ap not (eq-eqb _ _ (c.if-p-end.false ∙ e))), o.invariant.1)
+    elim c.if-p-end.branch [
+      | then-p-end w ↦ rw (w.out-is, w.n-is) (
+        compact_keep (of_other a.one) free t.table t.packets (t.packets + t.waits) o.out.table o.n o.i free o.invariant.0 c.loop-i-test.true
+            (ap not (ne_eqb _ _ (λ s. w.if-p-end.true (s ∙ sym e)))),
+        o.invariant.1,
+      )
+      | else-p-end w ↦ rw (w.out-is, w.n-is) (
+        compact_drop (of_other a.one) free t.table t.packets (t.packets + t.waits) o.out.table o.n o.i free o.invariant.0 c.loop-i-test.true
+            (ap not (eq-eqb _ _ (w.if-p-end.false ∙ e))),
+        o.invariant.1,
+      )
+    ]
 
 pub returns-after-loop-i : goal.returns-after-loop-i
 unfolding pick dropped_of others table_of packets_of waits_of unused_of
@@ -57,7 +54,3 @@ returns-after-loop-i c =
     let size : length (take p t.table) ≡ p = length-take-le p t.table (omega arith) in
     let gone : u - o.n ≡ t.waits - length (filter f (slice p u t.table)) = omega arith in
     rw c.if-sound.true (same-places (o.invariant.1.0 ∙ sym size) (omega arith) (rw (← gone) (compact_all f free t.table p u o.out.table o.n o.i o.invariant.0 done)))
-
-pub returns-else-sound : goal.returns-else-sound
-unfolding pick
-returns-else-sound c = rw c.if-sound.false refl

@@ -21,5 +21,5 @@ returns c =
       | then-r w ↦ pick-on _ _ _ _ _ w.if-r.true (w.p-is ∙ w.without_waits-p.ensures)
       | else-r w ↦ pick_off _ _ _ _ _ w.if-r.false w.p-is
     ] in
-    subst (Steps p (close_answer p h) (closed (is_one h) p)) (sym (c.stepped.ensures ∙ (c.settle.ensures ∙ ap (settled_step r) q)))
+    subst (Steps p (close_answer p h) (closed (is_one h) p)) (sym (c.into.ensures ∙ (c.settle.ensures ∙ ap (settled_step r) q)))
     (close-whole p h _ r (inner_128 c.args.self _ c.well_formed.0) c.ends_of.ensures.ends c.close_ends-r.ensures)

@@ -4,5 +4,5 @@ use Rattle.socket.proofs.SocketPair.shutdown.Goals as goal
 
 pub returns : goal.returns
 returns c =
-    rw (c.stepped.ensures, c.settle.ensures)
+    rw (c.into.ensures, c.settle.ensures)
     (shutdown-whole c.args.self.inner c.args.handle _ _ (inner_128 c.args.self _ c.well_formed.0) c.ends_of.ensures.ends c.args.read c.args.write c.shutdown_ends-r.ensures)

@@ -1,7 +1,6 @@
 -- A write over user memory, put together from its parts. Assumes nothing.
 use Prim.Native.Nat.{ℕ, ◌-◌, ◌≤◌}
 use mathlib.Core.Path.{◌≡◌, sym, ◌∙◌}
-use mathlib.Core.Bool.{true}
 use mathlib.Core.List.{List}
 use native.Mathlib.Omega.{arith}
 use lib.ListN.{length, take, drop, length-drop}
@@ -16,6 +15,8 @@ use Rattle.definition.specs.Write.{write_effect, ring_fed, table_fed, user_write
 use Rattle.endpoint.proofs.answer.Rules.{pick-on}
 use Rattle.endpoint.proofs.answer.Chains.{counted}
 use Rattle.ring.proofs.copy.Laws.{put-take}
+use Rattle.std.specs.declared.option.Option.TheVariants.{Some}
+use Rattle.transfer.specs.declared.change.Exchange.{Exchange}
 use Rattle.transfer.specs.declared.change.Transfer.{Transfer}
 use Rattle.transfer.specs.change.Changes.{kept_transfer}
 use Rattle.transfer.specs.write.WriteChange.{fed_effect}
@@ -29,39 +30,40 @@ ring_part : (e : Ends) (q : Endpoint) (m k : ℕ) (src ring : List ℕ) → k �
 unfolding ring_fed
 ring_part e q m k src ring fk has = rw fk (put-take e.capacity _ m src ring has)
 
--- a write with the answer x, whose count is m, by end o to its peer t, that gives d
-module _ (e : Ends) (h base options address n countAt : ℕ) (memory ring table : List ℕ) (x : Answer) (m : ℕ) (o t : Endpoint) (d : Transfer)
+-- a write with the answer x, whose count is m, that gives d
+module _ (e : Ends) (h base options address n countAt : ℕ) (memory ring table : List ℕ) (x : Answer) (m : ℕ)
     (told : x ≡ user_write_answer e (lent_of e.datagram (peer (is_one h) e).queue ring table) h base (length memory) options address n countAt)
-    (fm : m ≡ count_of x) (fo : o ≡ own (is_one h) e) (ft : t ≡ peer (is_one h) e) where
-  pub wrote_none : (memory' : List ℕ) → m ≡ 0 → memory' ≡ pick (is_done x) (count_put base countAt 0 memory) memory → d ≡ kept_transfer t.queue x
+    (fm : m ≡ count_of x) where
+  pub wrote_none : (memory' : List ℕ) (d : Transfer) → m ≡ 0 → memory' ≡ pick (is_done x) (count_put base countAt 0 memory) memory → d ≡ kept_transfer x
       → UserWrote e h base options address n countAt memory memory' ring ring table table d
-  wrote_none memory' z u k =
-      let c = none-changes e h x m o t d fm fo ft z k in
-      let s = none-fed e h x m o t d fm fo ft (drop (address - base) memory) ring table z c.0 in
-      record {
-        answer = c.0 ∙ told;
-        changes = c.1;
+  unfolding kept_transfer
+  wrote_none memory' d z u k =
+      let s = none-fed e h x m fm (drop (address - base) memory) ring table z in
+      rw k
+      (record {
+        answer = told;
+        changes = none-changes e h x m fm z;
         bytes = s.0;
         lengths = s.1;
-        user = rw c.0 (count-written e h base options address n countAt memory ring table x told 0 memory' (sym z ∙ fm) u);
-      }
+        user = count-written e h base options address n countAt memory ring table x told 0 memory' (sym z ∙ fm) u;
+      })
 
-  pub wrote-some : (k : ℕ) (memory' ring' table' : List ℕ) → (m ≡ 0 → ⊥) → k ≡ m
-      → ring' ≡ ring_fed e.capacity t.queue m (take k (drop (address - base) memory)) ring
-      → table' ≡ table_fed e.datagram e.capacity t.queue m table
+  pub wrote-some : (k : ℕ) (memory' ring' table' : List ℕ) (y : Exchange) → (m ≡ 0 → ⊥) → k ≡ m
+      → ring' ≡ ring_fed e.capacity (peer (is_one h) e).queue m (take k (drop (address - base) memory)) ring
+      → table' ≡ table_fed e.datagram e.capacity (peer (is_one h) e).queue m table
       → memory' ≡ count_put base countAt m memory
-      → (d.answer ≡ x) × (d.moves ≡ true) × (fed_effect o t d ≡ write_effect e.datagram e.capacity o t m)
-      → UserWrote e h base options address n countAt memory memory' ring ring' table table' d
-  wrote-some k memory' ring' table' z fk fr fl u g =
+      → fed_effect (own (is_one h) e) (peer (is_one h) e) y ≡ write_effect e.datagram e.capacity (own (is_one h) e) (peer (is_one h) e) m
+      → UserWrote e h base options address n countAt memory memory' ring ring' table table' (record { change = Some y; answer = x })
+  wrote-some k memory' ring' table' y z fk fr fl u g =
       let some : count_of x ≡ 0 → ⊥ = λ y. z (fm ∙ y) in
       let room = write-room e h base options address n countAt memory ring table x told some in
       let has : length (drop (address - base) memory) ≡ length memory - (address - base) = length-drop (address - base) memory in
-      let all = ring_part e t m k (drop (address - base) memory) ring fk (omega (arith, room.1)) in
-      let s = some-fed e h x m o t d fm fo ft (drop (address - base) memory) ring ring' table table' z g.0 (fr ∙ all) fl in
+      let all = ring_part e (peer (is_one h) e) m k (drop (address - base) memory) ring fk (omega (arith, room.1)) in
+      let s = some-fed e h x m fm (drop (address - base) memory) ring ring' table table' z (fr ∙ all) fl in
       record {
-        answer = g.0 ∙ told;
-        changes = some-changes e h x m o t d fm fo ft z g;
+        answer = told;
+        changes = some-changes e h x m fm y z g;
         bytes = s.0;
         lengths = s.1;
-        user = rw g.0 (count-written e h base options address n countAt memory ring table x told m memory' fm (pick-on _ _ _ _ _ (counted x some) u));
+        user = count-written e h base options address n countAt memory ring table x told m memory' fm (pick-on _ _ _ _ _ (counted x some) u);
       }

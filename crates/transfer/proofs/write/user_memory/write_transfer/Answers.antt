@@ -9,21 +9,19 @@ pub returns-then-m-eq0 : goal.returns-then-m-eq0
 returns-then-m-eq0 c =
     let a = c.args in
     wrote_none a.p a.handle a.base a.options a.address a.count a.count_at a.memory.now a.ring.now a.table.now
-    _ _ _ _ _ c.write_answer-a.ensures c.count_of-m.ensures c.own-own.ensures
-    c.peer-peer.ensures
-    _ c.if-m-eq0.true c.land_none.ensures c.kept.ensures
+    _ _ c.write_answer-answer.ensures c.count_of-m.ensures _ _ c.if-m-eq0.true c.land_none.ensures c.kept.ensures
 
 pub overflow_sub-from : goal.overflow_sub-from
 overflow_sub-from c =
     let a = c.args in
     (write-room a.p a.handle a.base a.options a.address a.count a.count_at a.memory.now a.ring.now a.table.now
-    _ c.write_answer-a.ensures (λ y. c.if-m-eq0.false (c.count_of-m.ensures ∙ y))).0
+    _ c.write_answer-answer.ensures (λ y. c.if-m-eq0.false (c.count_of-m.ensures ∙ y))).0
 
 pub overflow_add-to : goal.overflow_add-to
 overflow_add-to c =
     let a = c.args in
     let room = write-room a.p a.handle a.base a.options a.address a.count a.count_at a.memory.now a.ring.now
-    a.table.now _ c.write_answer-a.ensures (λ y. c.if-m-eq0.false (c.count_of-m.ensures ∙ y)) in
+    a.table.now _ c.write_answer-answer.ensures (λ y. c.if-m-eq0.false (c.count_of-m.ensures ∙ y)) in
     omega
     (arith, c.count_of-m.ensures, room.1, c.well_formed.1.1.1.1.0.0)
 
@@ -31,7 +29,7 @@ pub slice_bounds-feed-end : goal.slice_bounds-feed-end
 slice_bounds-feed-end c =
     let a = c.args in
     let room = write-room a.p a.handle a.base a.options a.address a.count a.count_at a.memory.now a.ring.now
-    a.table.now _ c.write_answer-a.ensures (λ y. c.if-m-eq0.false (c.count_of-m.ensures ∙ y))
+    a.table.now _ c.write_answer-answer.ensures (λ y. c.if-m-eq0.false (c.count_of-m.ensures ∙ y))
     in
     omega (arith, c.count_of-m.ensures, room.1)
 
@@ -39,28 +37,26 @@ pub feed-requires : goal.feed-requires
 feed-requires c =
     let a = c.args in
     let m = c.count_of-m.result in
-    rw c.peer-peer.ensures
-    (user_feeds a.p a.handle a.base a.options a.address a.count a.count_at a.memory.now a.ring.now a.table.now
-    _ c.write_answer-a.ensures m (a.address - a.base + m - (a.address - a.base))
-    c.count_of-m.ensures c.if-m-eq0.false (omega arith))
+    user_feeds a.p a.handle a.base a.options a.address a.count a.count_at a.memory.now a.ring.now a.table.now
+    _ c.write_answer-answer.ensures m (a.address - a.base + m - (a.address - a.base))
+    c.count_of-m.ensures c.if-m-eq0.false (omega arith)
 
 pub fed-requires : goal.fed-requires
 fed-requires c =
     let a = c.args in
     let m = c.count_of-m.result in
     let f = user_feeds a.p a.handle a.base a.options a.address a.count a.count_at a.memory.now a.ring.now
-    a.table.now _ c.write_answer-a.ensures m m c.count_of-m.ensures
+    a.table.now _ c.write_answer-answer.ensures m m c.count_of-m.ensures
     c.if-m-eq0.false refl in
-    rw c.peer-peer.ensures (f.fits, λ d. let l = f.lengths d in omega (arith, l, f.small))
+    (f.fits, λ d. let l = f.lengths d in omega (arith, l, f.small))
 
 pub returns : goal.returns
 returns c =
     let a = c.args in
     let m = c.count_of-m.result in
     wrote-some a.p a.handle a.base a.options a.address a.count a.count_at a.memory.now a.ring.now a.table.now
-    _ _ _ _ _ c.write_answer-a.ensures c.count_of-m.ensures c.own-own.ensures
-    c.peer-peer.ensures
-    (a.address - a.base + m - (a.address - a.base)) _ _ _
+    _ _ c.write_answer-answer.ensures c.count_of-m.ensures
+    (a.address - a.base + m - (a.address - a.base)) _ _ _ _
     c.if-m-eq0.false (omega arith)
     c.feed.ensures.ring_after
     c.feed.ensures.table_after c.land_count.ensures

@@ -1,4 +1,0 @@
-use Rattle.kept.proofs.transferred.with_read.Goals as goal
-
-pub returns : goal.returns
-returns c = c.with_transfer.ensures

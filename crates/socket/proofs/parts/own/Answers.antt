@@ -1,7 +1,0 @@
-use Rattle.socket.proofs.parts.own.Goals as goal
-
-pub returns-then-one : goal.returns-then-one
-returns-then-one c = rw c.if-one.true
-
-pub returns : goal.returns
-returns c = rw c.if-one.false

@@ -1,6 +1,0 @@
-use Rattle.definition.specs.Pair.{with_places}
-use Rattle.socket.proofs.parts.with_first_places.Goals as goal
-
-pub returns : goal.returns
-unfolding with_places
-returns c = cc

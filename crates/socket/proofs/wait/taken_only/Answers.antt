@@ -1,8 +1,0 @@
-use mathlib.Core.Path.{◌∙◌}
-use Rattle.socket.specs.Deferred.{taken_pair}
-use Rattle.socket.proofs.Waits.{first_only}
-use Rattle.socket.proofs.wait.taken_only.Goals as goal
-
-pub returns : goal.returns
-unfolding taken_pair
-returns c = (rw (c.only_taken-next.ensures, c.is_done.ensures) at c.with_first_places.ensures) ∙ first_only _ _ _ _
