@@ -6,7 +6,7 @@ ghost use Rattle.script_call.specs.Lent.{rings_of};
 use crate::lent::Lent;
 use crate::record::fields;
 use definition::{Pair, Step};
-use socket::{SocketPair, inner_step};
+use socket::SocketPair;
 
 pub(crate) fn create(body: &[u8], lent: &Lent) -> Step
     ensures { result ≡ create_step (rings_of lent.now) body.now }
@@ -15,7 +15,7 @@ pub(crate) fn create(body: &[u8], lent: &Lent) -> Step
     let capacity = fields::u32_at(body, 4);
     let one = fields::u8_at(body, 8) as u32;
     let two = fields::u8_at(body, 9) as u32;
-    inner_step(SocketPair::create(
+    SocketPair::create(
         kind,
         capacity,
         one,
@@ -24,7 +24,8 @@ pub(crate) fn create(body: &[u8], lent: &Lent) -> Step
         lent.table_one,
         lent.ring_two,
         lent.table_two,
-    ))
+    )
+    .into()
 }
 
 pub(crate) fn set_disposition(p: Pair, body: &[u8]) -> Step
@@ -50,7 +51,7 @@ pub(crate) fn set_read_threshold(p: Pair, body: &[u8]) -> Step
     let handle = fields::u32_at(body, 0);
     let threshold = fields::u64_at(body, 4);
     let q = SocketPair { inner: p };
-    inner_step(q.set_read_threshold(handle, threshold))
+    q.set_read_threshold(handle, threshold).into()
 }
 
 pub(crate) fn set_write_threshold(p: Pair, body: &[u8]) -> Step
@@ -59,7 +60,7 @@ pub(crate) fn set_write_threshold(p: Pair, body: &[u8]) -> Step
     let handle = fields::u32_at(body, 0);
     let threshold = fields::u64_at(body, 4);
     let q = SocketPair { inner: p };
-    inner_step(q.set_write_threshold(handle, threshold))
+    q.set_write_threshold(handle, threshold).into()
 }
 
 // Info is lent the table of its own end.
@@ -72,7 +73,7 @@ pub(crate) fn get_info(p: Pair, body: &[u8], lent: &Lent) -> Step
         _ => lent.table_two,
     };
     let q = SocketPair { inner: p };
-    inner_step(q.get_info(handle, table))
+    q.get_info(handle, table).into()
 }
 
 pub(crate) fn close(p: Pair, body: &[u8]) -> Step
@@ -80,7 +81,7 @@ pub(crate) fn close(p: Pair, body: &[u8]) -> Step
 {
     let handle = fields::u32_at(body, 0);
     let q = SocketPair { inner: p };
-    inner_step(q.close(handle))
+    q.close(handle).into()
 }
 
 pub(crate) fn wait(p: Pair, body: &[u8]) -> Step
@@ -91,14 +92,14 @@ pub(crate) fn wait(p: Pair, body: &[u8]) -> Step
     let mask = fields::u32_at(body, 12);
     let edge = fields::u8_at(body, 16);
     let q = SocketPair { inner: p };
-    inner_step(q.wait(handle, key, mask, edge))
+    q.wait(handle, key, mask, edge).into()
 }
 
 pub(crate) fn take(p: Pair) -> Step
     ensures { result ≡ take_step p }
 {
     let q = SocketPair { inner: p };
-    inner_step(q.take())
+    q.take().into()
 }
 
 pub(crate) fn cancel(p: Pair, body: &[u8]) -> Step
@@ -107,5 +108,5 @@ pub(crate) fn cancel(p: Pair, body: &[u8]) -> Step
     let handle = fields::u32_at(body, 0);
     let key = fields::u64_at(body, 4);
     let q = SocketPair { inner: p };
-    inner_step(q.cancel(handle, key))
+    q.cancel(handle, key).into()
 }

@@ -18,4 +18,4 @@ returns c =
     ]
     in
     rw (← c.u32_at-handle.ensures, own)
-    (c.inner_step.ensures ∙ steps_are c.get_info.ensures)
+    (c.into.ensures ∙ steps_are c.get_info.ensures)
