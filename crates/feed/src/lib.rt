@@ -2,10 +2,12 @@
 #![tactic(auto)]
 
 ghost use Rattle.std.specs.Prelude.{◌≡◌, true, length};
-ghost use Rattle.definition_script.specs.Call.{rings};
+ghost use Rattle.script_call.specs.Lent.{SameLent, rings_of};
 ghost use Rattle.feed.specs.Feed.{is_ready, FeedDone};
 
+use crate::turn::Turned;
 use definition_script::ScriptState;
+use script_call::lent::Lent;
 
 pub mod state;
 mod turn;
@@ -18,76 +20,45 @@ pub struct Fed {
     pub written: usize,
 }
 
+// A quarter of what 64 bits count, so that sums of two such numbers fit.
+const LIMIT: u64 = 4611686018427387904;
+
 fn is_ready(st: ScriptState, offset: u64, input: usize, memory: usize) -> bool
     ensures { result ≡ is_ready st offset input memory }
 {
-    if st.number > 4611686018427387904 {
-        return false;
-    }
-    if offset > 4611686018427387904 {
-        return false;
-    }
-    if input > 4611686018427387904 {
-        return false;
-    }
-    memory <= 4096
+    st.number <= LIMIT && offset <= LIMIT && input as u64 <= LIMIT && memory <= 4096
 }
 
-// Moves as long as there is one to make and room for its line.
-fn feed_ready(
-    st: ScriptState,
-    offset: u64,
-    input: &[u8],
-    memory: &mut [u8],
-    ring_one: &mut [u8],
-    table_one: &mut [u32],
-    ring_two: &mut [u8],
-    table_two: &mut [u32],
-    out: &mut [u8],
-) -> Fed
-    requires { is_ready st offset (length input.now) (length memory.old) ≡ true }
-    ensures { FeedDone st offset input.now memory.old memory.new (rings ring_one.old table_one.old ring_two.old table_two.old) (rings ring_one.new table_one.new ring_two.new table_two.new) out.old out.new result }
+// Moves as long as there is one to make and room for its line, 8254 bytes. Each move says where the next begins, so that there is nothing to iterate over.
+fn feed_ready(st: ScriptState, offset: u64, input: &[u8], lent: &mut Lent, out: &mut [u8]) -> Fed
+    requires { is_ready st offset (length input.now) (length lent.old.memory.now) ≡ true }
+    ensures same { SameLent lent.old lent.new }
+    ensures done { FeedDone st offset input.now lent.old.memory.now lent.new.memory.now (rings_of lent.old) (rings_of lent.new) out.old out.new result }
 {
-    let mut s = st;
-    let mut from: usize = 0;
-    let mut at: usize = 0;
-    let mut more = true;
-    while more && out.len() - at >= 8254 {
-        let t = turn::turn(
-            s, offset, input, from, memory, ring_one, table_one, ring_two, table_two, out, at,
-        );
-        let next = t.state;
-        s = next;
-        from = t.from;
-        at = t.at;
-        more = t.more;
+    let mut t = Turned {
+        state: st,
+        from: 0,
+        at: 0,
+        more: true,
+    };
+    while t.more && out.len() - t.at >= 8254 {
+        t = turn::turn(t.state, offset, input, t.from, lent, out, t.at);
     }
     Fed {
-        state: s,
-        taken: from,
-        written: at,
+        state: t.state,
+        taken: t.from,
+        written: t.at,
     }
 }
 
 // Feeds a block before which `offset` bytes came. The caller puts out the text, and feeds again from the first byte that is not done with: at once
 // if there was text, else with more bytes behind.
-pub fn feed(
-    st: ScriptState,
-    offset: u64,
-    input: &[u8],
-    memory: &mut [u8],
-    ring_one: &mut [u8],
-    table_one: &mut [u32],
-    ring_two: &mut [u8],
-    table_two: &mut [u32],
-    out: &mut [u8],
-) -> Fed
-    ensures { FeedDone st offset input.now memory.old memory.new (rings ring_one.old table_one.old ring_two.old table_two.old) (rings ring_one.new table_one.new ring_two.new table_two.new) out.old out.new result }
+pub fn feed(st: ScriptState, offset: u64, input: &[u8], lent: &mut Lent, out: &mut [u8]) -> Fed
+    ensures same { SameLent lent.old lent.new }
+    ensures done { FeedDone st offset input.now lent.old.memory.now lent.new.memory.now (rings_of lent.old) (rings_of lent.new) out.old out.new result }
 {
-    if is_ready(st, offset, input.len(), memory.len()) {
-        return feed_ready(
-            st, offset, input, memory, ring_one, table_one, ring_two, table_two, out,
-        );
+    if is_ready(st, offset, input.len(), lent.memory.len()) {
+        return feed_ready(st, offset, input, lent, out);
     }
     Fed {
         state: st,

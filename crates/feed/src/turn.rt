@@ -1,10 +1,11 @@
 // One move of the machine that a script drives: a record is run and its line put out, or the script stops.
 ghost use Rattle.std.specs.Prelude.{◌+◌, ◌≤◌, ◌≡◌, length, drop};
-ghost use Rattle.definition_script.specs.Call.{rings};
-ghost use Rattle.definition_script.specs.Listing.{machine, move_of};
+ghost use Rattle.definition_script.specs.Listing.{move_of};
+ghost use Rattle.script_call.specs.Lent.{SameLent, machine_with, rings_of};
 ghost use Rattle.feed.specs.Turn.{LIMIT, next_of, StepMay, StepDone, StopDone, TurnMay, TurnDone};
 
 use definition_script::{Decoded, ScriptState};
+use script_call::lent::Lent;
 
 // After a step: the state, and the place in the output.
 #[derive(Clone, Copy)]
@@ -13,7 +14,8 @@ pub struct Stepped {
     pub at: usize,
 }
 
-// After a move: the state, the place in the input, the place in the output, and whether another move may follow.
+// After a move: the state, the place in the input, the place in the output, and whether another move may follow, which `TurnDone` says of each move. All
+// four are there after every move, so that no case has more or less than another.
 #[derive(Clone, Copy)]
 pub struct Turned {
     pub state: ScriptState,
@@ -27,33 +29,26 @@ fn step(
     st: ScriptState,
     tag: u8,
     body: &[u8],
-    memory: &mut [u8],
-    ring_one: &mut [u8],
-    table_one: &mut [u32],
-    ring_two: &mut [u8],
-    table_two: &mut [u32],
+    lent: &mut Lent,
     out: &mut [u8],
     at: usize,
 ) -> Stepped
-    requires { StepMay st tag body.now memory.old }
-    ensures { StepDone (machine st memory.old (rings ring_one.old table_one.old ring_two.old table_two.old)) tag body.now at memory.new (rings ring_one.new table_one.new ring_two.new table_two.new) out.old out.new result }
+    requires { StepMay st tag body.now lent.old.memory.now }
+    ensures same { SameLent lent.old lent.new }
+    ensures done { StepDone (machine_with st lent.old) tag body.now at lent.new.memory.now (rings_of lent.new) out.old out.new result }
 {
-    let p = st.pair;
-    let r = script_call::call::call(
-        p, tag, body, memory, ring_one, table_one, ring_two, table_two,
+    let r = script_call::call::call(st.pair, tag, body, lent);
+    let memory = &mut *lent.memory;
+    let to = line::call_line::print(
+        out, at, st.number, tag, body, r.answer, r.pair.one, r.pair.two, memory,
     );
-    let a = r.answer;
-    let pair = r.pair;
-    let e = pair.one;
-    let f = pair.two;
-    let to = line::call_line::print(out, at, st.number, tag, body, a, e, f, memory);
-    script_call::delivered::settle(tag, body, a, memory);
+    script_call::delivered::settle(tag, body, r.answer, memory);
     let number = st.number + 1;
     Stepped {
         state: ScriptState {
-            pair,
+            pair: r.pair,
             number,
-            ended: script_call::record::is_last(tag, a),
+            ended: script_call::record::is_last(tag, r.answer),
         },
         at: to,
     }
@@ -65,21 +60,16 @@ fn stop(st: ScriptState, offset: u64, from: usize, out: &mut [u8], at: usize) ->
     ensures { StopDone st offset from at out.old out.new result }
 {
     let to = text::stop(out, at, offset + from as u64);
-    let pair = st.pair;
     Turned {
-        state: ScriptState {
-            pair,
-            number: st.number,
-            ended: true,
-        },
+        state: ScriptState { ended: true, ..st },
         from,
         at: to,
         more: false,
     }
 }
 
-// What the bytes of the input begin with from a place on. A script that has ended waits as for a record that is cut, and a record out of its place is
-// bad.
+// What the bytes of the input begin with from a place on, for which `next_of` keeps the three cases. A script that has ended waits as for a record that
+// is cut, and a record out of its place is bad.
 fn next(ended: bool, number: u64, input: &[u8], from: usize) -> Decoded
     requires { from ≤ length input.now }
     ensures { result ≡ next_of ended number (drop from input.now) }
@@ -90,12 +80,8 @@ fn next(ended: bool, number: u64, input: &[u8], from: usize) -> Decoded
     match script_call::record::decode(&input[from..]) {
         Decoded::Cut => Decoded::Cut,
         Decoded::Bad => Decoded::Bad,
-        Decoded::Whole(tag, n) => {
-            if script_call::record::is_misplaced(tag, number) {
-                return Decoded::Bad;
-            }
-            Decoded::Whole(tag, n)
-        }
+        Decoded::Whole(tag, _) if script_call::record::is_misplaced(tag, number) => Decoded::Bad,
+        Decoded::Whole(tag, n) => Decoded::Whole(tag, n),
     }
 }
 
@@ -105,16 +91,13 @@ pub(crate) fn turn(
     offset: u64,
     input: &[u8],
     from: usize,
-    memory: &mut [u8],
-    ring_one: &mut [u8],
-    table_one: &mut [u32],
-    ring_two: &mut [u8],
-    table_two: &mut [u32],
+    lent: &mut Lent,
     out: &mut [u8],
     at: usize,
 ) -> Turned
-    requires { TurnMay st offset input.now from memory.old }
-    ensures { TurnDone (machine st memory.old (rings ring_one.old table_one.old ring_two.old table_two.old)) (move_of (machine st memory.old (rings ring_one.old table_one.old ring_two.old table_two.old)) (drop from input.now)) offset from at memory.new (rings ring_one.new table_one.new ring_two.new table_two.new) out.old out.new result }
+    requires { TurnMay st offset input.now from lent.old.memory.now }
+    ensures same { SameLent lent.old lent.new }
+    ensures done { TurnDone (machine_with st lent.old) (move_of (machine_with st lent.old) (drop from input.now)) offset from at lent.new.memory.now (rings_of lent.new) out.old out.new result }
 {
     match next(st.ended, st.number, input, from) {
         Decoded::Cut => Turned {
@@ -127,24 +110,11 @@ pub(crate) fn turn(
         Decoded::Whole(tag, n) => {
             let b = from + 3;
             let e = b + n;
-            let s = step(
-                st,
-                tag,
-                &input[b..e],
-                memory,
-                ring_one,
-                table_one,
-                ring_two,
-                table_two,
-                out,
-                at,
-            );
-            let state = s.state;
-            let to = s.at;
+            let s = step(st, tag, &input[b..e], lent, out, at);
             Turned {
-                state,
+                state: s.state,
                 from: e,
-                at: to,
+                at: s.at,
                 more: true,
             }
         }

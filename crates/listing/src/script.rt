@@ -17,10 +17,7 @@ pub fn header(out: &mut [u8]) -> usize
 pub fn finish(st: ScriptState, offset: u64, left: &[u8], out: &mut [u8]) -> usize
     ensures { Written 26 0 (closing offset st.ended left.now) result out.old out.new }
 {
-    if left.len() == 0 {
-        return 0;
-    }
-    if st.ended {
+    if left.is_empty() || st.ended {
         return 0;
     }
     text::stop(out, 0, offset)

@@ -1,103 +1,105 @@
 // The call that a record makes on the pair, on memory, and on the rings and tables of both ends.
-ghost use Rattle.definition_script.specs.Call.{rings, write_call, read_call};
+ghost use Rattle.std.specs.Prelude.{◌≡◌, true, length};
+ghost use Rattle.definition_script.specs.Call.{write_call, read_call, call_of};
+ghost use Rattle.definition_script.specs.Record.{is_body};
+ghost use Rattle.definition_script.specs.Tag.{tag_number};
 ghost use Rattle.script_call.specs.call.CallDone.{CallDone};
 ghost use Rattle.script_call.specs.call.CallMade.{CallMade};
+ghost use Rattle.script_call.specs.Lent.{rings_of, SameLent};
 
-use crate::fill::BASE;
-use crate::record::fields;
-use definition::{Answer, Pair, Status, Step};
-use definition_script::TransferBody;
+use crate::fill::{BASE, fill};
+use crate::lent::Lent;
+use crate::plain_call;
+use crate::record::{fields, takes};
+use definition::{Pair, Status, Step};
+use definition_script::{Tag, TransferBody};
 
-// A write is lent the ring and the table of the peer.
-fn write(
-    p: Pair,
-    t: TransferBody,
-    memory: &mut [u8],
-    ring_one: &mut [u8],
-    table_one: &mut [u32],
-    ring_two: &mut [u8],
-    table_two: &mut [u32],
-) -> Step
-    ensures { CallDone (write_call memory.old (rings ring_one.old table_one.old ring_two.old table_two.old) p t) memory.new (rings ring_one.new table_one.new ring_two.new table_two.new) result }
+// A write is lent the ring and the table of the peer. Each end has a call of its own: of a reference that is one of two, by the handle, a caller could not
+// say what is left in either.
+fn write(p: Pair, t: TransferBody, lent: &mut Lent) -> Step
+    ensures same { SameLent lent.old lent.new }
+    ensures made { CallDone (write_call lent.old.memory.now (rings_of lent.old) p t) lent.new.memory.now (rings_of lent.new) result }
 {
+    let memory = &mut *lent.memory;
     if t.handle == 1 {
+        let ring = &mut *lent.ring_two;
+        let table = &mut *lent.table_two;
         return syscall::write(
-            p, t.handle, t.options, BASE, memory, t.address, t.count, t.count_at, ring_two,
-            table_two,
+            p, t.handle, t.options, BASE, memory, t.address, t.count, t.count_at, ring, table,
         );
     }
+    let ring = &mut *lent.ring_one;
+    let table = &mut *lent.table_one;
     syscall::write(
-        p, t.handle, t.options, BASE, memory, t.address, t.count, t.count_at, ring_one, table_one,
+        p, t.handle, t.options, BASE, memory, t.address, t.count, t.count_at, ring, table,
     )
 }
 
 // A read is lent the ring and the table of its own end. Its count does not land yet.
-fn read(
-    p: Pair,
-    t: TransferBody,
-    memory: &mut [u8],
-    ring_one: &[u8],
-    table_one: &[u32],
-    ring_two: &[u8],
-    table_two: &[u32],
-) -> Step
-    ensures { CallDone (read_call memory.old (rings ring_one.now table_one.now ring_two.now table_two.now) p t) memory.new (rings ring_one.now table_one.now ring_two.now table_two.now) result }
+fn read(p: Pair, t: TransferBody, lent: &mut Lent) -> Step
+    ensures same { SameLent lent.old lent.new }
+    ensures made { CallDone (read_call lent.old.memory.now (rings_of lent.old) p t) lent.new.memory.now (rings_of lent.new) result }
 {
+    let memory = &mut *lent.memory;
     if t.handle == 1 {
+        let ring = &mut *lent.ring_one;
+        let table = &mut *lent.table_one;
         return syscall::read_bytes(
-            p, t.handle, t.options, BASE, memory, t.address, t.count, t.count_at, ring_one,
-            table_one,
+            p, t.handle, t.options, BASE, memory, t.address, t.count, t.count_at, ring, table,
         );
     }
+    let ring = &mut *lent.ring_two;
+    let table = &mut *lent.table_two;
     syscall::read_bytes(
-        p, t.handle, t.options, BASE, memory, t.address, t.count, t.count_at, ring_two, table_two,
+        p, t.handle, t.options, BASE, memory, t.address, t.count, t.count_at, ring, table,
     )
 }
 
-// By the tag; the count of a read does not land yet. With a body that is not right for the tag no call is made.
-pub fn call(
-    p: Pair,
-    tag: u8,
-    body: &[u8],
-    memory: &mut [u8],
-    ring_one: &mut [u8],
-    table_one: &mut [u32],
-    ring_two: &mut [u8],
-    table_two: &mut [u32],
-) -> Step
-    ensures { CallMade memory.old (rings ring_one.old table_one.old ring_two.old table_two.old) p tag body.now memory.new (rings ring_one.new table_one.new ring_two.new table_two.new) result }
+// A fill is no call on the pair.
+fn fill_step(p: Pair, body: &[u8], lent: &mut Lent) -> Step
+    requires { is_body 11 (length body.now) ≡ true }
+    ensures same { SameLent lent.old lent.new }
+    ensures made { CallDone (call_of lent.old.memory.now (rings_of lent.old) p 11 body.now) lent.new.memory.now (rings_of lent.new) result }
 {
-    if !crate::record::is_body(tag, body.len()) {
-        return Step {
+    let memory = &mut *lent.memory;
+    let answer = fill(memory, body);
+    Step { pair: p, answer }
+}
+
+// By the tag, for which the body is right.
+fn make(p: Pair, tag: Tag, body: &[u8], lent: &mut Lent) -> Step
+    requires { is_body (tag_number tag) (length body.now) ≡ true }
+    ensures same { SameLent lent.old lent.new }
+    ensures made { CallDone (call_of lent.old.memory.now (rings_of lent.old) p (tag_number tag) body.now) lent.new.memory.now (rings_of lent.new) result }
+{
+    match tag {
+        Tag::Create => plain_call::create(body, lent),
+        Tag::Write => write(p, fields::transfer_at(body), lent),
+        Tag::Read => read(p, fields::transfer_at(body), lent),
+        Tag::SetDisposition => plain_call::set_disposition(p, body),
+        Tag::Shutdown => plain_call::shutdown(p, body),
+        Tag::SetReadThreshold => plain_call::set_read_threshold(p, body),
+        Tag::SetWriteThreshold => plain_call::set_write_threshold(p, body),
+        Tag::GetInfo => plain_call::get_info(p, body, lent),
+        Tag::Close => plain_call::close(p, body),
+        Tag::Wait => plain_call::wait(p, body),
+        Tag::Take => plain_call::take(p),
+        Tag::Fill => fill_step(p, body, lent),
+        Tag::Cancel => plain_call::cancel(p, body),
+    }
+}
+
+// By the tag, any number, since `is_last` and the other definitions speak of every one; the count of a read does not land yet. With a body that is not
+// right for the tag no call is made.
+pub fn call(p: Pair, tag: u8, body: &[u8], lent: &mut Lent) -> Step
+    ensures same { SameLent lent.old lent.new }
+    ensures made { CallMade lent.old.memory.now (rings_of lent.old) p tag body.now lent.new.memory.now (rings_of lent.new) result }
+{
+    match Tag::try_from(tag) {
+        Ok(tag) if takes(tag, body.len()) => make(p, tag, body, lent),
+        _ => Step {
             pair: p,
             answer: Err(Status::InvalidArgs),
-        };
-    }
-    match tag {
-        1 => write(
-            p,
-            fields::transfer_at(body),
-            memory,
-            ring_one,
-            table_one,
-            ring_two,
-            table_two,
-        ),
-        2 => read(
-            p,
-            fields::transfer_at(body),
-            memory,
-            ring_one,
-            table_one,
-            ring_two,
-            table_two,
-        ),
-        11 => {
-            let answer = crate::fill::fill(memory, body);
-            Step { pair: p, answer }
-        }
-        0 | 3..=10 | 12..=255 => crate::plain_call::plain(
-            p, tag, body, ring_one, table_one, ring_two, table_two,
-        ),
+        },
     }
 }

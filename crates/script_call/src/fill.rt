@@ -5,6 +5,7 @@ ghost use Rattle.script_call.specs.fill.FillMade.{FillMade};
 
 use crate::record::fields;
 use definition::{Answer, Record, Status};
+use definition_script::Tag;
 
 // Where the memory begins.
 pub const BASE: u64 = 65536;
@@ -18,18 +19,18 @@ fn put(memory: &mut [u8], address: u64, bytes: &[u8]) -> Answer
         return Err(Status::InvalidArgs);
     }
     let at = (address - BASE) as usize;
-    if text::has_room(memory.len(), at, bytes.len()) {
-        text::copy(memory, at, bytes);
-        return Ok(Record::Count(bytes.len() as u32));
+    if !text::has_room(memory.len(), at, bytes.len()) {
+        return Err(Status::InvalidArgs);
     }
-    Err(Status::InvalidArgs)
+    text::copy(memory, at, bytes);
+    Ok(Record::Count(bytes.len() as u32))
 }
 
 // The bytes stand in the body behind their address. With a body that is not right for a fill nothing is put.
 pub fn fill(memory: &mut [u8], body: &[u8]) -> Answer
     ensures { FillMade memory.old body.now memory.new result }
 {
-    if !crate::record::is_body(11, body.len()) {
+    if !crate::record::takes(Tag::Fill, body.len()) {
         return Err(Status::InvalidArgs);
     }
     let address = fields::u64_at(body, 0);

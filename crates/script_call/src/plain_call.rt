@@ -1,30 +1,34 @@
 // The call that a record makes where it changes neither memory nor a ring: every call but write, read and fill.
 ghost use Rattle.std.specs.Prelude.{◌≡◌};
-ghost use Rattle.definition_script.specs.Call.{rings, create_step, disposition_step, shutdown_step, read_threshold_step, write_threshold_step, info_by, close_step, wait_step, take_step, cancel_step, control_step};
+ghost use Rattle.definition_script.specs.Call.{create_step, disposition_step, shutdown_step, read_threshold_step, write_threshold_step, info_step, close_step, wait_step, take_step, cancel_step};
+ghost use Rattle.script_call.specs.Lent.{rings_of};
 
+use crate::lent::Lent;
 use crate::record::fields;
 use definition::{Pair, Step};
-use socket::{SocketPair, inner_step};
+use socket::SocketPair;
 
-fn create(
-    body: &[u8],
-    ring_one: &[u8],
-    table_one: &[u32],
-    ring_two: &[u8],
-    table_two: &[u32],
-) -> Step
-    ensures { result ≡ create_step (rings ring_one.now table_one.now ring_two.now table_two.now) body.now }
+pub(crate) fn create(body: &[u8], lent: &Lent) -> Step
+    ensures { result ≡ create_step (rings_of lent.now) body.now }
 {
     let kind = fields::u32_at(body, 0);
     let capacity = fields::u32_at(body, 4);
     let one = fields::u8_at(body, 8) as u32;
     let two = fields::u8_at(body, 9) as u32;
-    inner_step(SocketPair::create(
-        kind, capacity, one, two, ring_one, table_one, ring_two, table_two,
-    ))
+    SocketPair::create(
+        kind,
+        capacity,
+        one,
+        two,
+        lent.ring_one,
+        lent.table_one,
+        lent.ring_two,
+        lent.table_two,
+    )
+    .into()
 }
 
-fn set_disposition(p: Pair, body: &[u8]) -> Step
+pub(crate) fn set_disposition(p: Pair, body: &[u8]) -> Step
     ensures { result ≡ disposition_step p body.now }
 {
     let handle = fields::u32_at(body, 0);
@@ -33,7 +37,7 @@ fn set_disposition(p: Pair, body: &[u8]) -> Step
     syscall::set_disposition(p, handle, own, peer)
 }
 
-fn shutdown(p: Pair, body: &[u8]) -> Step
+pub(crate) fn shutdown(p: Pair, body: &[u8]) -> Step
     ensures { result ≡ shutdown_step p body.now }
 {
     let handle = fields::u32_at(body, 0);
@@ -41,51 +45,46 @@ fn shutdown(p: Pair, body: &[u8]) -> Step
     syscall::shutdown(p, handle, options)
 }
 
-fn set_read_threshold(p: Pair, body: &[u8]) -> Step
+pub(crate) fn set_read_threshold(p: Pair, body: &[u8]) -> Step
     ensures { result ≡ read_threshold_step p body.now }
 {
     let handle = fields::u32_at(body, 0);
     let threshold = fields::u64_at(body, 4);
     let q = SocketPair { inner: p };
-    inner_step(q.set_read_threshold(handle, threshold))
+    q.set_read_threshold(handle, threshold).into()
 }
 
-fn set_write_threshold(p: Pair, body: &[u8]) -> Step
+pub(crate) fn set_write_threshold(p: Pair, body: &[u8]) -> Step
     ensures { result ≡ write_threshold_step p body.now }
 {
     let handle = fields::u32_at(body, 0);
     let threshold = fields::u64_at(body, 4);
     let q = SocketPair { inner: p };
-    inner_step(q.set_write_threshold(handle, threshold))
+    q.set_write_threshold(handle, threshold).into()
 }
 
 // Info is lent the table of its own end.
-fn get_info(
-    p: Pair,
-    handle: u32,
-    ring_one: &[u8],
-    table_one: &[u32],
-    ring_two: &[u8],
-    table_two: &[u32],
-) -> Step
-    ensures { result ≡ info_by (rings ring_one.now table_one.now ring_two.now table_two.now) p handle }
+pub(crate) fn get_info(p: Pair, body: &[u8], lent: &Lent) -> Step
+    ensures { result ≡ info_step (rings_of lent.now) p body.now }
 {
+    let handle = fields::u32_at(body, 0);
+    let table: &[u32] = match handle {
+        1 => lent.table_one,
+        _ => lent.table_two,
+    };
     let q = SocketPair { inner: p };
-    if handle == 1 {
-        return inner_step(q.get_info(handle, table_one));
-    }
-    inner_step(q.get_info(handle, table_two))
+    q.get_info(handle, table).into()
 }
 
-fn close(p: Pair, body: &[u8]) -> Step
+pub(crate) fn close(p: Pair, body: &[u8]) -> Step
     ensures { result ≡ close_step p body.now }
 {
     let handle = fields::u32_at(body, 0);
     let q = SocketPair { inner: p };
-    inner_step(q.close(handle))
+    q.close(handle).into()
 }
 
-fn wait(p: Pair, body: &[u8]) -> Step
+pub(crate) fn wait(p: Pair, body: &[u8]) -> Step
     ensures { result ≡ wait_step p body.now }
 {
     let handle = fields::u32_at(body, 0);
@@ -93,54 +92,21 @@ fn wait(p: Pair, body: &[u8]) -> Step
     let mask = fields::u32_at(body, 12);
     let edge = fields::u8_at(body, 16);
     let q = SocketPair { inner: p };
-    inner_step(q.wait(handle, key, mask, edge))
+    q.wait(handle, key, mask, edge).into()
 }
 
-fn take(p: Pair) -> Step
+pub(crate) fn take(p: Pair) -> Step
     ensures { result ≡ take_step p }
 {
     let q = SocketPair { inner: p };
-    inner_step(q.take())
+    q.take().into()
 }
 
-fn cancel(p: Pair, body: &[u8]) -> Step
+pub(crate) fn cancel(p: Pair, body: &[u8]) -> Step
     ensures { result ≡ cancel_step p body.now }
 {
     let handle = fields::u32_at(body, 0);
     let key = fields::u64_at(body, 4);
     let q = SocketPair { inner: p };
-    inner_step(q.cancel(handle, key))
-}
-
-// By the tag: 0, 3 to 10, and 12. Tags 1 and 2 are taken as 3, 11 and those above 12 as 12; `call` passes none of these.
-pub fn plain(
-    p: Pair,
-    tag: u8,
-    body: &[u8],
-    ring_one: &[u8],
-    table_one: &[u32],
-    ring_two: &[u8],
-    table_two: &[u32],
-) -> Step
-    ensures { result ≡ control_step (rings ring_one.now table_one.now ring_two.now table_two.now) p tag body.now }
-{
-    match tag {
-        0 => create(body, ring_one, table_one, ring_two, table_two),
-        1..=3 => set_disposition(p, body),
-        4 => shutdown(p, body),
-        5 => set_read_threshold(p, body),
-        6 => set_write_threshold(p, body),
-        7 => get_info(
-            p,
-            fields::u32_at(body, 0),
-            ring_one,
-            table_one,
-            ring_two,
-            table_two,
-        ),
-        8 => close(p, body),
-        9 => wait(p, body),
-        10 => take(p),
-        11..=255 => cancel(p, body),
-    }
+    q.cancel(handle, key).into()
 }

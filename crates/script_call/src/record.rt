@@ -1,8 +1,9 @@
 // A record of a script: what the bytes at hand begin with, the fields of its body, where a create may stand, and which record ends a script.
 ghost use Rattle.std.specs.Prelude.{◌≡◌};
 ghost use Rattle.definition_script.specs.Record.{is_body, record_of};
+ghost use Rattle.definition_script.specs.Tag.{tag_number};
 
-use definition_script::Decoded;
+use definition_script::{Decoded, Tag};
 
 pub mod fields;
 mod order;
@@ -10,26 +11,31 @@ mod order;
 pub use order::{is_last, is_misplaced};
 
 // Whether a body of n bytes is right for the tag.
+#[tactic(auto, unfolding(definition_script::specs::Record::is_body, definition::specs::Status::pick))]
+pub(crate) fn takes(tag: Tag, n: usize) -> bool
+    ensures { result ≡ is_body (tag_number tag) n }
+{
+    match tag {
+        Tag::Create => n == 10,
+        Tag::Write | Tag::Read => n == 32,
+        Tag::SetDisposition | Tag::SetReadThreshold | Tag::SetWriteThreshold | Tag::Cancel => {
+            n == 12
+        }
+        Tag::Shutdown => n == 8,
+        Tag::GetInfo | Tag::Close => n == 4,
+        Tag::Wait => n == 17,
+        Tag::Take => n == 0,
+        Tag::Fill => n >= 9 && n <= 4104,
+    }
+}
+
+// Whether a body of n bytes is right for the tag with this number.
 pub fn is_body(tag: u8, n: usize) -> bool
     ensures { result ≡ is_body tag n }
 {
-    match tag {
-        0 => n == 10,
-        1..=2 => n == 32,
-        3 => n == 12,
-        4 => n == 8,
-        5..=6 => n == 12,
-        7..=8 => n == 4,
-        9 => n == 17,
-        10 => n == 0,
-        11 => {
-            if n < 9 {
-                return false;
-            }
-            n <= 4104
-        }
-        12 => n == 12,
-        13..=255 => false,
+    match Tag::try_from(tag) {
+        Ok(tag) => takes(tag, n),
+        Err(_) => false,
     }
 }
 

@@ -3,12 +3,14 @@
 
 ghost use Rattle.std.specs.Prelude.{◌≤◌, ◌≡◌, length, take};
 ghost use Rattle.std.specs.Io.{ReadsAtMost};
-ghost use Rattle.definition_script.specs.Call.{written_at, rings};
+ghost use Rattle.definition_script.specs.Call.{written_at};
 ghost use Rattle.definition_script.specs.Listing.{header, closing};
+ghost use Rattle.script_call.specs.Lent.{SameLent, rings_of};
 ghost use Rattle.buffer.specs.blocks.Drain.{ReadIn, DrainMay, held, Drained};
 ghost use Rattle.buffer.specs.blocks.BlocksRun.{RunMay, RunDone};
 
 use buffer::buffer::Progress;
+use script_call::lent::Lent;
 use std::io;
 use std::io::{ErrorKind, Read};
 
@@ -49,14 +51,13 @@ fn read_in(rt: &HostRuntime, buffer: &mut [u8], used: usize) -> usize
     got.unwrap_or(0)
 }
 
-// Writes the first bytes of the output. The first write that fails is told and noted in `failed`; after it nothing is written and nothing is told.
-fn put(rt: &HostRuntime, out: &[u8], n: usize, failed: &mut bool)
-    requires { n ≤ length out.now }
-{
+// Writes a text. The first write that fails is told and noted in `failed`; after it nothing is written and nothing is told.
+// The flag alone is enough, since the error is told where it comes.
+fn put(rt: &HostRuntime, text: &[u8], failed: &mut bool) {
     if *failed {
         return;
     }
-    let done = rt.write_all(&out[0..n]).is_ok();
+    let done = rt.write_all(text).is_ok();
     tell_failed_write(rt, done);
     *failed = !done;
 }
@@ -66,25 +67,19 @@ fn drain(
     rt: &HostRuntime,
     p: Progress,
     buffer: &mut [u8],
-    memory: &mut [u8],
-    ring_one: &mut [u8],
-    table_one: &mut [u32],
-    ring_two: &mut [u8],
-    table_two: &mut [u32],
+    lent: &mut Lent,
     out: &mut [u8],
     failed: &mut bool,
 ) -> Progress
-    requires { DrainMay p buffer.old memory.old out.old }
-    ensures { Drained (held p buffer.old memory.old (rings ring_one.old table_one.old ring_two.old table_two.old) out.old) (held result buffer.new memory.new (rings ring_one.new table_one.new ring_two.new table_two.new) out.new) }
+    requires { DrainMay p buffer.old lent.old.memory.now out.old }
+    ensures same { SameLent lent.old lent.new }
+    ensures done { Drained (held p buffer.old lent.old.memory.now (rings_of lent.old) out.old) (held result buffer.new lent.new.memory.now (rings_of lent.new) out.new) }
 {
     let mut q = p;
     loop {
         let used = q.used;
-        q = buffer::buffer::advance(
-            q, buffer, memory, ring_one, table_one, ring_two, table_two, out,
-        );
-        let written = q.written;
-        put(rt, out, written, failed);
+        q = buffer::buffer::advance(q, buffer, lent, out);
+        put(rt, &out[..q.written], failed);
         if q.used == used {
             break;
         }
@@ -98,7 +93,7 @@ fn begin(rt: &HostRuntime, out: &mut [u8], failed: &mut bool)
     ensures { out.new ≡ written_at 0 header out.old }
 {
     let n = listing::script::header(out);
-    put(rt, out, n, failed);
+    put(rt, &out[..n], failed);
 }
 
 // The end of the input.
@@ -106,43 +101,25 @@ fn finish(rt: &HostRuntime, p: Progress, buffer: &[u8], out: &mut [u8], failed: 
     requires { (p.used ≤ length buffer.now) × (26 ≤ length out.old) }
     ensures { out.new ≡ written_at 0 (closing p.offset p.state.ended (take p.used buffer.now)) out.old }
 {
-    let st = p.state;
-    let used = p.used;
-    let n = listing::script::finish(st, p.offset, &buffer[0..used], out);
-    put(rt, out, n, failed);
+    let n = listing::script::finish(p.state, p.offset, &buffer[..p.used], out);
+    put(rt, &out[..n], failed);
 }
 
 // The whole script, from the header to the end of the input.
-fn run(
-    rt: &HostRuntime,
-    memory: &mut [u8],
-    ring_one: &mut [u8],
-    table_one: &mut [u32],
-    ring_two: &mut [u8],
-    table_two: &mut [u32],
-    buffer: &mut [u8],
-    out: &mut [u8],
-    failed: &mut bool,
-)
-    requires { RunMay memory.old (rings ring_one.old table_one.old ring_two.old table_two.old) buffer.old out.old }
-    ensures { RunDone memory.old (rings ring_one.old table_one.old ring_two.old table_two.old) buffer.old out.old memory.new (rings ring_one.new table_one.new ring_two.new table_two.new) buffer.new out.new }
+fn run(rt: &HostRuntime, lent: &mut Lent, buffer: &mut [u8], out: &mut [u8], failed: &mut bool)
+    requires { RunMay lent.old.memory.now (rings_of lent.old) buffer.old out.old }
+    ensures same { SameLent lent.old lent.new }
+    ensures done { RunDone lent.old.memory.now (rings_of lent.old) buffer.old out.old lent.new.memory.now (rings_of lent.new) buffer.new out.new }
 {
     let mut p = buffer::buffer::first();
-    let mut reading = true;
     begin(rt, out, failed);
-    while reading {
-        let used = p.used;
-        let got = read_in(rt, buffer, used);
+    while buffer::blocks::reads_on(p.state.ended, p.offset) {
+        let got = read_in(rt, buffer, p.used);
         if got == 0 {
             break;
         }
-        p.used = used + got;
-        p = drain(
-            rt, p, buffer, memory, ring_one, table_one, ring_two, table_two, out, failed,
-        );
-        if !buffer::blocks::reads_on(p.state.ended, p.offset) {
-            reading = false;
-        }
+        p.used += got;
+        p = drain(rt, p, buffer, lent, out, failed);
     }
     finish(rt, p, buffer, out, failed);
 }
@@ -161,23 +138,20 @@ fn output_space() -> [u8; 262144]
 }
 
 fn main(rt: HostRuntime) {
-    let mut memory_array = [0u8; 4096];
-    let mut ring_one_array = [0u8; 4096];
-    let mut table_one_array = [0u32; 4096];
-    let mut ring_two_array = [0u8; 4096];
-    let mut table_two_array = [0u32; 4096];
-    let mut buffer_array = input_space();
-    let mut out_array = output_space();
-    let mut failed_before = false;
-    let memory: &mut [u8] = &mut memory_array;
-    let ring_one: &mut [u8] = &mut ring_one_array;
-    let table_one: &mut [u32] = &mut table_one_array;
-    let ring_two: &mut [u8] = &mut ring_two_array;
-    let table_two: &mut [u32] = &mut table_two_array;
-    let buffer: &mut [u8] = &mut buffer_array;
-    let out: &mut [u8] = &mut out_array;
-    let failed: &mut bool = &mut failed_before;
-    run(
-        &rt, memory, ring_one, table_one, ring_two, table_two, buffer, out, failed,
-    );
+    let mut memory = [0u8; 4096];
+    let mut ring_one = [0u8; 4096];
+    let mut table_one = [0u32; 4096];
+    let mut ring_two = [0u8; 4096];
+    let mut table_two = [0u32; 4096];
+    let mut lent = Lent {
+        memory: &mut memory,
+        ring_one: &mut ring_one,
+        table_one: &mut table_one,
+        ring_two: &mut ring_two,
+        table_two: &mut table_two,
+    };
+    let mut buffer = input_space();
+    let mut out = output_space();
+    let mut failed = false;
+    run(&rt, &mut lent, &mut buffer, &mut out, &mut failed);
 }

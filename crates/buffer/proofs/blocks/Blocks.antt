@@ -30,11 +30,7 @@ begun {p} {buffer} {memory} {out₁} {z} {y} out e f b =
     subst (λ (q : Progress). Blocks (held q buffer memory z (written_at 0 header out)) y) e
     (subst (λ (o : List ℕ). Blocks (held p buffer memory z o) y) f b)
 
--- before the first block the program reads on
-pub reads_first : {p : Progress} → p ≡ first_progress → true ≡ reads_on p.state.ended p.offset
-unfolding reads_on pick start_state
-reads_first e = subst (λ (q : Progress). true ≡ reads_on q.state.ended q.offset) (sym e) refl
-
+-- why no block follows, where the program does not read on
 pub stops-reading : {x : Held} {buffer : List ℕ} → reads_on_at x ≡ false → buffer ≡ x.buffer → Stops x buffer
 stops-reading {x} {buffer} e f = subst (λ (l : List ℕ). Stops x l) (sym f) (reads_no_more e)
 

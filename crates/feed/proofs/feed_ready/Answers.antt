@@ -1,103 +1,54 @@
-use Prim.Native.Nat.{◌+◌, ◌-◌, ◌≤◌, ◌<◌}
-use borrow.Author.Tests.{leb-true, leb-false}
+use Prim.Native.Nat.{◌+◌, ◌≤◌, ◌<◌}
+use borrow.Author.Rules.{rules}
 use lib.ListN.{length}
 use mathlib.Core.Bool.{Bool}
 use mathlib.Core.Path.{refl, sym, ◌∙◌, subst}
 use native.Mathlib.Omega.{arith}
 use Rattle.feed.proofs.Feeding.{ready, SoFar, begins, next, left, falls, done_full, done-stay}
-use Rattle.definition_script.specs.Call.{rings}
 use Rattle.line.specs.line.LineDone.{LINE}
-use Rattle.definition_script.specs.Listing.{machine}
+use Rattle.script_call.specs.Lent.{machine_with, rings_of}
+use Rattle.feed.proofs.feed_ready.Goals.{then-loop-t-test+else-out-t-ge8254, else-loop-t-test}
 use Rattle.feed.proofs.feed_ready.Goals as goal
 
-pub loop-more-init : goal.loop-more-init
-loop-more-init c =
+pub loop-t-init : goal.loop-t-init
+loop-t-init c =
     let a = c.args in
-    (begins (machine a.st a.memory.now (rings a.ring_one.now a.table_one.now a.ring_two.now a.table_two.now)) a.offset a.input.now a.out.now, ready a.st a.offset (length a.input.now) (length a.memory.now) c.requires, refl, refl, refl, refl, refl, refl)
+    (begins (machine_with a.st a.lent.now) a.offset a.input.now a.out.now, ready a.st a.offset (length a.input.now) (length a.lent.now.memory.now) c.requires, search rules, refl)
 
-pub overflow_sub-out : goal.overflow_sub-out
-overflow_sub-out c = c.loop-more.invariant.0.fits
-
-pub turn-t-requires : goal.turn-t-requires
-turn-t-requires c =
-    let l = c.loop-more in
-    let i = l.invariant.0 in
-    let y = l.invariant.1 in
-    record { within = i.within; input = y.input; offset = y.offset; size = omega (arith, y.memory, l.invariant.2); number = omega (arith, i.count, i.within, y.number, y.input) }
-
-pub loop-more-smaller : goal.loop-more-smaller
-loop-more-smaller c =
-    let l = c.loop-more in
+pub loop-t-smaller : goal.loop-t-smaller
+loop-t-smaller c =
+    let l = c.loop-t in
     let a = c.args in
     let k = c.turn-t in
-    subst (λ (b : Bool). left a.input.now k.result.from k.result.more < left a.input.now l.from b) (sym c.loop-more-test.true)
-    (falls (machine l.s l.memory (rings l.ring_one l.table_one l.ring_two l.table_two)) a.offset a.input.now l.from l.at k.new.memory (rings k.new.ring_one k.new.table_one k.new.ring_two k.new.table_two) l.out k.new.out k.result l.invariant.0.within k.ensures)
+    subst (λ (b : Bool). left a.input.now k.result.from k.result.more < left a.input.now l.t.from b) (sym c.loop-t-test.true)
+    (falls (machine_with l.t.state l.lent) a.offset a.input.now l.t.from l.t.at k.new.lent.memory.now (rings_of k.new.lent) l.out k.new.out k.result l.invariant.0.within k.ensures.done)
 
-pub loop-more-preserved : goal.loop-more-preserved
-loop-more-preserved c =
-    let l = c.loop-more in
+pub loop-t-preserved : goal.loop-t-preserved
+loop-t-preserved c =
+    let l = c.loop-t in
     let a = c.args in
     let k = c.turn-t in
-    let m = (machine l.s l.memory (rings l.ring_one l.table_one l.ring_two l.table_two)) in
-    let i = subst (λ (b : Bool). SoFar (machine a.st a.memory.now (rings a.ring_one.now a.table_one.now a.ring_two.now a.table_two.now)) a.offset a.input.now a.out.now m l.out l.from l.at b) c.loop-more-test.true l.invariant.0 in
-    let room : l.at + LINE ≤ length l.out = omega (arith, leb-true 8254 (length l.out - l.at) c.if-out-at-ge8254.true-raw, i.fits) in (
-      next (machine a.st a.memory.now (rings a.ring_one.now a.table_one.now a.ring_two.now a.table_two.now)) m a.offset a.input.now a.out.now l.out l.from l.at i k.new.memory (rings k.new.ring_one k.new.table_one k.new.ring_two k.new.table_two) k.new.out k.result k.ensures room,
+    let first = machine_with a.st a.lent.now in
+    let m = machine_with l.t.state l.lent in
+    let i = subst (λ (b : Bool). SoFar first a.offset a.input.now a.out.now m l.out l.t.from l.t.at b) c.loop-t-test.true l.invariant.0 in
+    let room : l.t.at + LINE ≤ length l.out = omega (arith, i.fits) in (
+      next first m a.offset a.input.now a.out.now l.out l.t.from l.t.at i k.new.lent.memory.now (rings_of k.new.lent) k.new.out k.result k.ensures.done room,
       l.invariant.1,
-      k.auto.memory ∙ l.invariant.2,
-      k.auto.ring_one ∙ l.invariant.3,
-      k.auto.table_one ∙ l.invariant.4,
-      k.auto.ring_two ∙ l.invariant.5,
-      k.auto.table_two ∙ l.invariant.6,
-      k.auto.out ∙ l.invariant.7,
+      search rules,
+      k.auto.out ∙ l.invariant.3,
     )
 
-pub shape_of-memory-else-out-at-ge8254 : goal.shape_of-memory-else-out-at-ge8254
-shape_of-memory-else-out-at-ge8254 c = c.loop-more.invariant.2
-
-pub shape_of-ring_one-else-out-at-ge8254 : goal.shape_of-ring_one-else-out-at-ge8254
-shape_of-ring_one-else-out-at-ge8254 c = c.loop-more.invariant.3
-
-pub shape_of-table_one-else-out-at-ge8254 : goal.shape_of-table_one-else-out-at-ge8254
-shape_of-table_one-else-out-at-ge8254 c = c.loop-more.invariant.4
-
-pub shape_of-ring_two-else-out-at-ge8254 : goal.shape_of-ring_two-else-out-at-ge8254
-shape_of-ring_two-else-out-at-ge8254 c = c.loop-more.invariant.5
-
-pub shape_of-table_two-else-out-at-ge8254 : goal.shape_of-table_two-else-out-at-ge8254
-shape_of-table_two-else-out-at-ge8254 c = c.loop-more.invariant.6
-
-pub shape_of-out-else-out-at-ge8254 : goal.shape_of-out-else-out-at-ge8254
-shape_of-out-else-out-at-ge8254 c = c.loop-more.invariant.7
-
-pub returns-else-out-at-ge8254 : goal.returns-else-out-at-ge8254
-returns-else-out-at-ge8254 c =
-    let l = c.loop-more in
+pub returns-clause-done : goal.returns-clause-done
+returns-clause-done c =
+    let l = c.loop-t in
     let a = c.args in
-    done_full (machine a.st a.memory.now (rings a.ring_one.now a.table_one.now a.ring_two.now a.table_two.now)) a.offset a.input.now a.out.now l.s l.memory (rings l.ring_one l.table_one l.ring_two l.table_two) l.out l.from l.at l.more l.invariant.0
-    (omega (arith, leb-false 8254 (length l.out - l.at) c.if-out-at-ge8254.false-raw))
-    c.requires
-
-pub shape_of-memory-after-loop-more : goal.shape_of-memory-after-loop-more
-shape_of-memory-after-loop-more c = c.loop-more.invariant.2
-
-pub shape_of-ring_one-after-loop-more : goal.shape_of-ring_one-after-loop-more
-shape_of-ring_one-after-loop-more c = c.loop-more.invariant.3
-
-pub shape_of-table_one-after-loop-more : goal.shape_of-table_one-after-loop-more
-shape_of-table_one-after-loop-more c = c.loop-more.invariant.4
-
-pub shape_of-ring_two-after-loop-more : goal.shape_of-ring_two-after-loop-more
-shape_of-ring_two-after-loop-more c = c.loop-more.invariant.5
-
-pub shape_of-table_two-after-loop-more : goal.shape_of-table_two-after-loop-more
-shape_of-table_two-after-loop-more c = c.loop-more.invariant.6
-
-pub shape_of-out-after-loop-more : goal.shape_of-out-after-loop-more
-shape_of-out-after-loop-more c = c.loop-more.invariant.7
-
-pub returns-after-loop-more : goal.returns-after-loop-more
-returns-after-loop-more c =
-    let l = c.loop-more in
-    let a = c.args in
-    done-stay (machine a.st a.memory.now (rings a.ring_one.now a.table_one.now a.ring_two.now a.table_two.now)) a.offset a.input.now a.out.now l.s l.memory (rings l.ring_one l.table_one l.ring_two l.table_two) l.out l.from l.at l.more l.invariant.0 c.loop-more-test.false
-    c.requires
+    let first = machine_with a.st a.lent.now in
+    elim c.loop-t-test.branch [
+      | then-loop-t-test+else-out-t-ge8254 w ↦
+          done_full first a.offset a.input.now a.out.now l.t.state l.lent.memory.now (rings_of l.lent) l.out l.t.from l.t.at l.t.more l.invariant.0
+          (omega (arith, w.if-out-t-ge8254.false))
+          c.requires
+      | else-loop-t-test w ↦
+          done-stay first a.offset a.input.now a.out.now l.t.state l.lent.memory.now (rings_of l.lent) l.out l.t.from l.t.at l.t.more l.invariant.0 w.loop-t-test.false
+          c.requires
+    ]

@@ -59,36 +59,6 @@ pub out-length : (n w : ℕ) (out out₁ sub sub₂ : List ℕ) → length out�
 out-length n w out out₁ sub sub₂ same₁ same same₂ =
     same_len_mid (n + w) (length (behind n out₁ sub) - (n + w)) (behind n out₁ sub) sub₂ same₂ ∙ same_len_mid n (length out₁ - n) out₁ sub same ∙ same₁
 
--- the header lies in the output, and so do the lines behind it
-pub header-fits : (n : ℕ) (out out₁ : List ℕ) → Written 22 0 header n out out₁ → length out₁ ≡ length out → n ≤ length out₁
-header-fits n out out₁ h same₁ = omega (arith, written-fits h (let z : 0 ≤ length out = omega arith in z))
-
-pub lines_fit : (n w : ℕ) (out out₁ sub : List ℕ) → Written 22 0 header n out out₁ → length out₁ ≡ length out → length sub ≡ length (mid_of n (length out₁ - n) out₁)
-    → w ≤ length sub → n + w ≤ length out
-lines_fit n w out out₁ sub h same₁ same fits =
-    omega (arith, header-fits n out out₁ h same₁, length-take (length out₁ - n) (drop n out₁), length-drop n out₁)
-
-pub lines-within : (n w : ℕ) (out out₁ sub : List ℕ) → Written 22 0 header n out out₁ → length out₁ ≡ length out → length sub ≡ length (mid_of n (length out₁ - n) out₁)
-    → w ≤ length sub → n + w ≤ length (behind n out₁ sub)
-lines-within n w out out₁ sub h same₁ same fits =
-    omega (arith, lines_fit n w out out₁ sub h same₁ same fits, same_len_mid n (length out₁ - n) out₁ sub same)
-
--- the end of the input lies in the part behind the lines
-pub closing-fits : (n w c : ℕ) (out out₁ sub text sub₂ : List ℕ) → Written 22 0 header n out out₁ → length out₁ ≡ length out
-    → length sub ≡ length (mid_of n (length out₁ - n) out₁) → w ≤ length sub
-    → Written 26 0 text c (mid_of (n + w) (length (behind n out₁ sub) - (n + w)) (behind n out₁ sub)) sub₂ → n + w + c ≤ length out
-closing-fits n w c out out₁ sub text sub₂ h same₁ same fits d =
-    let out₂ : List ℕ = behind n out₁ sub in
-    let part : List ℕ = mid_of (n + w) (length out₂ - (n + w)) out₂ in
-    omega (
-      arith,
-      lines-within n w out out₁ sub h same₁ same fits,
-      same_len_mid n (length out₁ - n) out₁ sub same,
-      written-fits d (let z : 0 ≤ length part = omega arith in z),
-      length-take (length out₂ - (n + w)) (drop (n + w) out₂),
-      length-drop (n + w) out₂,
-    )
-
 module _ (s memory memory' l sub l₂ sub₂ : List ℕ) (z z' : Rings) (c : ℕ) (f : Fed)
     (d : FeedDone start_state 0 s memory memory' z z' l sub f)
     (w : Written 26 0 (closing f.taken f.state.ended (drop f.taken s)) c l₂ sub₂)

@@ -1,10 +1,10 @@
 -- What a call says is what its definition says. Assumes nothing.
 use Prim.Native.Nat.{ℕ, ◌-◌}
 use mathlib.Core.Path.{◌≡◌, refl, sym, ap, ◌∙◌}
-use mathlib.Core.Bool.{true, false}
+use mathlib.Core.Bool.{false}
 use mathlib.Core.List.{List}
 use lib.ListN.{length, drop}
-use borrow.Author.Tests.{ne_eqb}
+use lib.Dec.{eqb}
 use Rattle.definition.specs.Status.{Answer}
 use Rattle.std.specs.declared.result.Result.TheVariants.{Err}
 use Rattle.definition.specs.declared.Status.TheVariants.{InvalidArgs}
@@ -18,7 +18,7 @@ use Rattle.definition.specs.Tests.{first_length}
 use Rattle.definition.specs.Memory.{count_landed}
 use Rattle.definition_script.specs.declared.TransferBody.{TransferBody}
 use Rattle.definition_script.specs.Record.{eight, transfer_of, is_body}
-use Rattle.definition_script.specs.Call.{BASE, fill_answer, filled, write_answer_of, write_leaves, write_call, read_answer_of, read_leaves, read_call, fill_call, Rings, own_ring, own_table, peer_ring, peer_table, with_peer_rings, control_step, control_call, call_of}
+use Rattle.definition_script.specs.Call.{BASE, fill_answer, filled, write_answer_of, write_leaves, write_call, read_answer_of, read_leaves, read_call, fill_call, Rings, own_ring, own_table, peer_ring, peer_table, with_peer_rings, control_step, call_of}
 use Rattle.script_call.proofs.fill.Fills.{never}
 use Rattle.script_call.specs.call.CallDone.{CallDone}
 use Rattle.script_call.proofs.plain_call.Steps.{mk, same_step}
@@ -94,14 +94,11 @@ module _ (memory : List ℕ) (z : Rings) (p : Pair) (tag : ℕ) (b memory' : Lis
   unfolding call_of pick
   fill_call_lem e d = rw e d
 
-plain_is : (memory : List ℕ) (z : Rings) (p : Pair) (tag : ℕ) (b : List ℕ) → (tag ≡ 1 → ⊥) → (tag ≡ 2 → ⊥) → (tag ≡ 11 → ⊥)
-    → call_of memory z p tag b ≡ control_call memory z (control_step z p tag b)
-unfolding call_of pick
-plain_is memory z p tag b f g h = simp (ne_eqb tag 1 f, ne_eqb tag 2 g, ne_eqb tag 11 h)
-
-pub plain_call : (memory : List ℕ) (z : Rings) (p : Pair) (tag : ℕ) (b : List ℕ) (r : Step) → (tag ≡ 1 → ⊥) → (tag ≡ 2 → ⊥) → (tag ≡ 11 → ⊥)
+-- a call that changes neither memory nor a ring
+pub plain_made : (memory : List ℕ) (z : Rings) (p : Pair) (tag : ℕ) (b : List ℕ) (r : Step) → eqb tag 1 ≡ false → eqb tag 2 ≡ false → eqb tag 11 ≡ false
     → r ≡ control_step z p tag b → CallDone (call_of memory z p tag b) memory z r
-plain_call memory z p tag b r f g h e = rw (plain_is memory z p tag b f g h) (record { step = e; memory = refl; lent = refl })
+unfolding call_of pick
+plain_made memory z p tag b r f g h e = rw (f, g, h) (record { step = e; memory = refl; lent = refl })
 
 -- a fill, from what its function says
 pub fill_done : (memory memory' : List ℕ) (z : Rings) (p : Pair) (address : ℕ) (bs : List ℕ) (a : Answer)
@@ -109,11 +106,7 @@ pub fill_done : (memory memory' : List ℕ) (z : Rings) (p : Pair) (address : �
 unfolding fill_call
 fill_done memory memory' z p address bs a w = record { step = ap (λ (x : Answer). mk p x) w.0; memory = w.1; lent = refl }
 
--- a body that is right, and one that is not
-module _ {memory : List ℕ} {z : Rings} {p : Pair} {tag : ℕ} {b : List ℕ} where
-  pub made : {memory' : List ℕ} {z' : Rings} {r : Step} → is_body tag (length b) ≡ true → CallDone (call_of memory z p tag b) memory' z' r
-      → CallMade memory z p tag b memory' z' r
-  made e d = record { made = λ f. d; none = λ f. absurd (never (sym f ∙ e)) }
-
-  pub no_call : {r : Step} → is_body tag (length b) ≡ false → r ≡ mk p (Err InvalidArgs) → CallMade memory z p tag b memory z r
-  no_call e g = record { made = λ f. absurd (never (sym e ∙ f)); none = λ f. (g, refl, refl) }
+-- a body that is not right for its tag
+pub no_call : {memory : List ℕ} {z : Rings} {p : Pair} {tag : ℕ} {b : List ℕ} {r : Step} → is_body tag (length b) ≡ false → r ≡ mk p (Err InvalidArgs)
+    → CallMade memory z p tag b memory z r
+no_call e g = record { made = λ f. absurd (never (sym e ∙ f)); none = λ f. (g, refl, refl) }

@@ -1,17 +1,16 @@
 -- What a call that changes neither memory nor a ring says is what its definition says. Assumes nothing.
-use Prim.Native.Nat.{ℕ, ◌+◌, ◌≤◌}
-use native.Mathlib.Omega.{arith}
+use Prim.Native.Nat.{ℕ}
 use mathlib.Core.Path.{◌≡◌, ap, ◌∙◌}
 use mathlib.Core.Bool.{Bool, true, false}
 use mathlib.Core.List.{List}
-use borrow.Author.Tests.{le-ltb, eq-eqb, ne_eqb}
+use borrow.Author.Tests.{eq-eqb, ne_eqb}
 use Rattle.definition.specs.Status.{Answer}
 use Rattle.definition.specs.Status.{pick, is_done}
 use Rattle.definition.specs.declared.Pair.{Pair}
 use Rattle.definition.specs.declared.Step.{Step}
 use Rattle.definition.specs.Pair.{is_one}
 use Rattle.definition.specs.Tests.{Steps}
-use Rattle.definition_script.specs.Call.{Rings, rings, own_ring, own_table, peer_ring, peer_table, with_peer_rings, step_of, cancel_step, control_step}
+use Rattle.definition_script.specs.Call.{Rings, rings, own_ring, own_table, peer_ring, peer_table, with_peer_rings, step_of}
 
 abbrev pub mk : Pair → Answer → Step
 mk p a = record { pair = p; answer = a }
@@ -72,18 +71,3 @@ module _ (z : Rings) (h : ℕ) where
   pub with_peer-two : (ring table : List ℕ) → (h ≡ 1 → ⊥) → with_peer_rings (is_one h) ring table z ≡ rings ring table z.ring2 z.table2
   unfolding with_peer_rings
   with_peer-two ring table e = ap (λ (b : Bool). with_peer_rings b ring table z) (two_is h e)
-
--- ---- tags, one after the other
-
-pub up : (tag n : ℕ) → n ≤ tag → (tag ≡ n → ⊥) → n + 1 ≤ tag
-up tag n h f = omega arith
-
-pub from_eleven : (tag : ℕ) → 4 ≤ tag → (tag ≡ 4 → ⊥) → (tag ≡ 5 → ⊥) → (tag ≡ 6 → ⊥) → (tag ≡ 7 → ⊥) → (tag ≡ 8 → ⊥) → (tag ≡ 9 → ⊥) → (tag ≡ 10 → ⊥)
-    → 11 ≤ tag
-from_eleven tag h n4 n5 n6 n7 n8 n9 n10 = up tag 10 (up tag 9 (up tag 8 (up tag 7 (up tag 6 (up tag 5 (up tag 4 h n4) n5) n6) n7) n8) n9) n10
-
-pub cancel-tag : (z : Rings) (p : Pair) (tag : ℕ) (b : List ℕ) (r : Step) → 11 ≤ tag → r ≡ cancel_step p b → r ≡ control_step z p tag b
-unfolding control_step pick
-cancel-tag z p tag b r h e =
-    simp (le-ltb tag 1 (omega arith), le-ltb tag 4 (omega arith), le-ltb tag 5 (omega arith), le-ltb tag 6 (omega arith), le-ltb tag 7 (omega arith), le-ltb tag 8 (omega arith), le-ltb tag 9 (omega arith), le-ltb tag 10 (omega arith), le-ltb tag 11 h)
-    e

@@ -4,55 +4,52 @@ ghost use Rattle.definition_script.specs.Record.{two, four, eight, transfer_of};
 
 use definition_script::TransferBody;
 
-fn byte_at(s: &[u8], at: usize) -> u32
-    ensures { (result ≡ get_or s.now at 0) × (result ≤ 255) }
+fn byte_at(s: &[u8], at: usize) -> u8
+    ensures { result ≡ get_or s.now at 0 }
 {
-    if at < s.len() {
-        return s[at] as u32;
-    }
-    0
+    if at < s.len() { s[at] } else { 0 }
 }
 
-// Numbers of one, two, four and eight bytes at a place, the lowest byte first. What lies past the end reads as 0.
+// Numbers of one, two, four and eight bytes at a place, the lowest byte first.
 pub fn u8_at(s: &[u8], at: u8) -> u8
     ensures { result ≡ get_or s.now at 0 }
 {
-    byte_at(s, at as usize) as u8
+    byte_at(s, at as usize)
 }
 
 pub fn u16_at(s: &[u8], at: u8) -> usize
     ensures { result ≡ two s.now at }
 {
     let i = at as usize;
-    let a = byte_at(s, i);
-    let b = byte_at(s, i + 1);
-    (a + 256 * b) as usize
-}
-
-fn read_four(s: &[u8], i: usize) -> u32
-    requires { i ≤ 1000 }
-    ensures { result ≡ four s.now i }
-{
-    let a = byte_at(s, i);
-    let b = byte_at(s, i + 1);
-    let c = byte_at(s, i + 2);
-    let d = byte_at(s, i + 3);
-    a + 256 * (b + 256 * (c + 256 * d))
+    u16::from_le_bytes([byte_at(s, i), byte_at(s, i + 1)]) as usize
 }
 
 pub fn u32_at(s: &[u8], at: u8) -> u32
     ensures { result ≡ four s.now at }
 {
-    read_four(s, at as usize)
+    let i = at as usize;
+    u32::from_le_bytes([
+        byte_at(s, i),
+        byte_at(s, i + 1),
+        byte_at(s, i + 2),
+        byte_at(s, i + 3),
+    ])
 }
 
 pub fn u64_at(s: &[u8], at: u8) -> u64
     ensures { result ≡ eight s.now at }
 {
     let i = at as usize;
-    let low = read_four(s, i) as u64;
-    let high = read_four(s, i + 4) as u64;
-    low + 4294967296 * high
+    u64::from_le_bytes([
+        byte_at(s, i),
+        byte_at(s, i + 1),
+        byte_at(s, i + 2),
+        byte_at(s, i + 3),
+        byte_at(s, i + 4),
+        byte_at(s, i + 5),
+        byte_at(s, i + 6),
+        byte_at(s, i + 7),
+    ])
 }
 
 // The body of a write or a read.

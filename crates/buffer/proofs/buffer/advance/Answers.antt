@@ -1,48 +1,27 @@
-use Prim.Native.Nat.{ℕ, ◌+◌, ◌-◌, ◌<◌}
-use lib.ListN.{take}
-use mathlib.Core.Path.{◌≡◌, ap}
+use Prim.Native.Nat.{◌+◌, ◌<◌}
+use mathlib.Core.Path.{refl}
 use native.Mathlib.Omega.{arith}
-use Rattle.definition_script.specs.Call.{rings}
+use Rattle.script_call.specs.Lent.{rings_of}
 use Rattle.buffer.proofs.buffer.Fronts.{advance_short, advance_done, no_wrap}
 use Rattle.buffer.proofs.buffer.advance.Goals as goal
 
-pub returns-then-buffer-used : goal.returns-then-buffer-used
-returns-then-buffer-used c =
+pub returns-then-buffer-p-clause-done : goal.returns-then-buffer-p-clause-done
+returns-then-buffer-p-clause-done c =
     let a = c.args in
-    advance_short a.p a.buffer.now a.memory.now (rings a.ring_one.now a.table_one.now a.ring_two.now a.table_two.now) a.out.now c.standing.result c.if-buffer-used.true c.standing.ensures
+    advance_short a.p a.buffer.now a.lent.now.memory.now (rings_of a.lent.now) a.out.now _ c.if-buffer-p.true refl
 
 pub overflow_add-offset : goal.overflow_add-offset
 overflow_add-offset c =
     let a = c.args in
     let h : a.p.offset < 18446744073709551616 = omega (arith, c.well_formed) in
     let f = c.feed-f in
-    let n : a.p.offset + f.result.taken < 18446744073709551616 =
-    no_wrap {z = rings a.ring_one.now a.table_one.now a.ring_two.now a.table_two.now} {z' = rings f.new.ring_one f.new.table_one f.new.ring_two f.new.table_two} f.ensures h in
+    let n : a.p.offset + f.result.taken < 18446744073709551616 = no_wrap {z = rings_of a.lent.now} {z' = rings_of f.new.lent} f.ensures.done h in
     omega (arith, n)
 
-pub shape_of-memory : goal.shape_of-memory
-shape_of-memory c = c.feed-f.auto.memory
-
-pub shape_of-ring_one : goal.shape_of-ring_one
-shape_of-ring_one c = c.feed-f.auto.ring_one
-
-pub shape_of-table_one : goal.shape_of-table_one
-shape_of-table_one c = c.feed-f.auto.table_one
-
-pub shape_of-ring_two : goal.shape_of-ring_two
-shape_of-ring_two c = c.feed-f.auto.ring_two
-
-pub shape_of-table_two : goal.shape_of-table_two
-shape_of-table_two c = c.feed-f.auto.table_two
-
-pub shape_of-out : goal.shape_of-out
-shape_of-out c = c.feed-f.auto.out
-
-pub returns : goal.returns
-returns c =
+pub returns-clause-done : goal.returns-clause-done
+returns-clause-done c =
     let a = c.args in
     let f = c.feed-f in
-    advance_done a.p _ a.buffer.now _ a.memory.now f.new.memory (rings a.ring_one.now a.table_one.now a.ring_two.now a.table_two.now) (rings f.new.ring_one f.new.table_one f.new.ring_two f.new.table_two) a.out.now f.new.out f.result c.standing-2.result
-    (omega (arith, c.if-buffer-used.false))
-    (let e : a.p.used - 0 ≡ a.p.used = omega arith in ap (λ (n : ℕ). take n a.buffer.now) e)
-    f.ensures c.shift.ensures c.standing-2.ensures
+    advance_done a.p _ a.buffer.now _ a.lent.now.memory.now f.new.lent.memory.now (rings_of a.lent.now) (rings_of f.new.lent) a.out.now f.new.out f.result _
+    (omega (arith, c.if-buffer-p.false))
+    refl f.ensures.done c.shift.ensures refl

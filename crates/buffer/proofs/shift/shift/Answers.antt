@@ -1,16 +1,24 @@
-use borrow.Author.Tests.{le-leb, lt-leb}
-use Rattle.buffer.specs.shift.Shift.{shifted}
+use Prim.Native.Nat.{ℕ, ◌+◌, ◌-◌}
+use borrow.Author.Rules.{rules}
+use borrow.Author.Tests.{le-leb}
+use lib.ListN.{length, take, drop}
+use mathlib.Core.List.{◌++◌}
+use mathlib.Core.Path.{◌≡◌, ap, ◌∙◌}
+use native.Mathlib.Omega.{arith}
+use Rattle.buffer.specs.shift.Shift.{shifted, moved}
 use Rattle.definition.specs.Status.{pick, ◌and◌}
 use Rattle.buffer.proofs.shift.shift.Goals as goal
 
-pub returns-then-to-from : goal.returns-then-to-from
-unfolding shifted pick ◌and◌
-returns-then-to-from c = simp (lt-leb _ _ c.if-to-from.true)
+pub returns-then-to-buffer : goal.returns-then-to-buffer
+unfolding shifted pick ◌and◌ moved
+returns-then-to-buffer c =
+    let a = c.args in
+    let b = a.buffer.now in
+    let n = a.to - a.from in
+    let e : 0 + n ≡ n = omega arith in
+    rw (le-leb a.from a.to c.if-from-to.true, le-leb a.to (length b) c.if-to-buffer.true)
+    (c.copy_within.ensures.after ∙ ap (λ (k : ℕ). take n (drop a.from b) ++ drop k b) e)
 
-pub returns-then-buffer-to : goal.returns-then-buffer-to
+pub returns-else-from-to : goal.returns-else-from-to
 unfolding shifted pick ◌and◌
-returns-then-buffer-to c = simp (le-leb _ _ c.if-to-from.false, lt-leb _ _ c.if-buffer-to.true)
-
-pub returns : goal.returns
-unfolding shifted pick ◌and◌
-returns c = simp (le-leb _ _ c.if-to-from.false, le-leb _ _ c.if-buffer-to.false) c.move_front.ensures
+returns-else-from-to c = search rules

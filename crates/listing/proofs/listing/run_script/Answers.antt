@@ -4,4 +4,4 @@ use Rattle.listing.proofs.listing.run_script.Goals as goal
 
 pub returns : goal.returns
 unfolding start_machine
-returns c = c.run_on.ensures.0
+returns c = c.run_on.ensures.text

@@ -1,11 +1,15 @@
+use borrow.Author.Rules.{rules}
 use Rattle.listing.proofs.script.Closings.{closing-none, closing_over, closing-stop, nothing_put}
+use Rattle.listing.proofs.script.finish.Goals.{then-is_empty-via-then-is_empty, then-is_empty-via-else-is_empty+then-st}
 use Rattle.listing.proofs.script.finish.Goals as goal
 
-pub returns-then-left-eq0 : goal.returns-then-left-eq0
-returns-then-left-eq0 c = nothing_put 26 _ _ (closing-none c.args.offset c.args.st.ended c.args.left.now c.if-left-eq0.true)
-
-pub returns-then-st : goal.returns-then-st
-returns-then-st c = nothing_put 26 _ _ (closing_over c.args.offset c.args.st.ended c.args.left.now c.if-st.true)
+pub returns-then-is_empty : goal.returns-then-is_empty
+returns-then-is_empty c =
+    let a = c.args in
+    nothing_put 26 _ _ (elim c.then-is_empty.branch [
+      | then-is_empty-via-then-is_empty w ↦ closing-none a.offset a.st.ended a.left.now (search rules)
+      | then-is_empty-via-else-is_empty+then-st w ↦ closing_over a.offset a.st.ended a.left.now w.if-st.true
+    ])
 
 pub returns : goal.returns
-returns c = rw (← closing-stop c.args.offset c.args.st.ended c.args.left.now c.if-left-eq0.false c.if-st.false) c.stop.ensures
+returns c = rw (← closing-stop c.args.offset c.args.st.ended c.args.left.now (search rules) c.if-st.false) c.stop.ensures

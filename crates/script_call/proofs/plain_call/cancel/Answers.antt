@@ -7,4 +7,4 @@ pub returns : goal.returns
 unfolding cancel_step
 returns c =
     rw (← c.u32_at-handle.ensures, ← c.u64_at-key.ensures)
-    (c.inner_step.ensures ∙ steps_are c.cancel.ensures)
+    (c.into.ensures ∙ steps_are c.cancel.ensures)

@@ -7,4 +7,4 @@ pub returns : goal.returns
 unfolding close_step
 returns c =
     rw (← c.u32_at-handle.ensures)
-    (c.inner_step.ensures ∙ steps_are c.close.ensures)
+    (c.into.ensures ∙ steps_are c.close.ensures)

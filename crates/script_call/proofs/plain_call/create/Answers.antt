@@ -7,4 +7,4 @@ pub returns : goal.returns
 unfolding create_step
 returns c =
     rw (← c.u32_at-kind.ensures, ← c.u32_at-capacity.ensures, ← c.u8_at-one.ensures, ← c.u8_at-two.ensures)
-    (c.inner_step.ensures ∙ steps_are c.create.ensures)
+    (c.into.ensures ∙ steps_are c.create.ensures)

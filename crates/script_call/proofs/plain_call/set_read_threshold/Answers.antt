@@ -7,4 +7,4 @@ pub returns : goal.returns
 unfolding read_threshold_step
 returns c =
     rw (← c.u32_at-handle.ensures, ← c.u64_at-threshold.ensures)
-    (c.inner_step.ensures ∙ steps_are c.set_read_threshold.ensures)
+    (c.into.ensures ∙ steps_are c.set_read_threshold.ensures)

@@ -6,4 +6,4 @@ use Rattle.script_call.proofs.plain_call.take.Goals as goal
 pub returns : goal.returns
 unfolding take_step
 returns c =
-    c.inner_step.ensures ∙ steps_are c.take.ensures
+    c.into.ensures ∙ steps_are c.take.ensures

@@ -7,4 +7,4 @@ pub returns : goal.returns
 unfolding wait_step
 returns c =
     rw (← c.u32_at-handle.ensures, ← c.u64_at-key.ensures, ← c.u32_at-mask.ensures, ← c.u8_at-edge.ensures)
-    (c.inner_step.ensures ∙ steps_are c.wait.ensures)
+    (c.into.ensures ∙ steps_are c.wait.ensures)
