@@ -13,6 +13,19 @@ use crate::plain_call;
 use crate::record::{fields, takes};
 use definition::{Pair, Status, Step};
 use definition_script::{Tag, TransferBody};
+use user_answers::lookup::Buffer;
+
+// Where the bytes and the count of a write or a read lie.
+fn buffer_of(t: TransferBody) -> Buffer
+    ensures { result ≡ record { base = BASE; address = t.address; count = t.count; count_at = t.count_at } }
+{
+    Buffer {
+        base: BASE,
+        address: t.address,
+        count: t.count,
+        count_at: t.count_at,
+    }
+}
 
 // A write is lent the ring and the table of the peer. Each end has a call of its own: of a reference that is one of two, by the handle, a caller could not
 // say what is left in either.
@@ -24,15 +37,11 @@ fn write(p: Pair, t: TransferBody, lent: &mut Lent) -> Step
     if t.handle == 1 {
         let ring = &mut *lent.ring_two;
         let table = &mut *lent.table_two;
-        return syscall::write(
-            p, t.handle, t.options, BASE, memory, t.address, t.count, t.count_at, ring, table,
-        );
+        return syscall::write(p, t.handle, t.options, buffer_of(t), memory, ring, table);
     }
     let ring = &mut *lent.ring_one;
     let table = &mut *lent.table_one;
-    syscall::write(
-        p, t.handle, t.options, BASE, memory, t.address, t.count, t.count_at, ring, table,
-    )
+    syscall::write(p, t.handle, t.options, buffer_of(t), memory, ring, table)
 }
 
 // A read is lent the ring and the table of its own end. Its count does not land yet.
@@ -44,15 +53,11 @@ fn read(p: Pair, t: TransferBody, lent: &mut Lent) -> Step
     if t.handle == 1 {
         let ring = &mut *lent.ring_one;
         let table = &mut *lent.table_one;
-        return syscall::read_bytes(
-            p, t.handle, t.options, BASE, memory, t.address, t.count, t.count_at, ring, table,
-        );
+        return syscall::read_bytes(p, t.handle, t.options, buffer_of(t), memory, ring, table);
     }
     let ring = &mut *lent.ring_two;
     let table = &mut *lent.table_two;
-    syscall::read_bytes(
-        p, t.handle, t.options, BASE, memory, t.address, t.count, t.count_at, ring, table,
-    )
+    syscall::read_bytes(p, t.handle, t.options, buffer_of(t), memory, ring, table)
 }
 
 // A fill is no call on the pair.

@@ -9,7 +9,7 @@ returns-then-t-eq1-clause-made c =
     let one = c.if-t-eq1.true in
     let z = rings_of c.args.lent.now in
     got _ _ _ _ z _ t _ (own_ring-one z t.handle one) (own_table-one z t.handle one)
-    c.read_bytes.ensures
+    (rw c.buffer_of.ensures at c.read_bytes.ensures)
 
 pub returns-clause-made : goal.returns-clause-made
 returns-clause-made c =
@@ -17,4 +17,4 @@ returns-clause-made c =
     let one = c.if-t-eq1.false in
     let z = rings_of c.args.lent.now in
     got _ _ _ _ z _ t _ (own_ring-two z t.handle one) (own_table-two z t.handle one)
-    c.read_bytes-2.ensures
+    (rw c.buffer_of-2.ensures at c.read_bytes-2.ensures)

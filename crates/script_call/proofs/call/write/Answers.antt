@@ -9,7 +9,7 @@ returns-then-t-eq1-clause-made c =
     let one = c.if-t-eq1.true in
     let z = rings_of c.args.lent.now in
     wrote _ _ _ _ _ _ z _ _ t _ (peer_ring-one z t.handle one) (peer_table-one z t.handle one) (with_peer-one z t.handle _ _ one)
-    c.write.ensures
+    (rw c.buffer_of.ensures at c.write.ensures)
 
 pub returns-clause-made : goal.returns-clause-made
 returns-clause-made c =
@@ -17,4 +17,4 @@ returns-clause-made c =
     let one = c.if-t-eq1.false in
     let z = rings_of c.args.lent.now in
     wrote _ _ _ _ _ _ z _ _ t _ (peer_ring-two z t.handle one) (peer_table-two z t.handle one) (with_peer-two z t.handle _ _ one)
-    c.write-2.ensures
+    (rw c.buffer_of-2.ensures at c.write-2.ensures)
