@@ -1,7 +1,7 @@
 // The answer of a call: the record of a done call, or the status of a refused one.
 // After error.rs, `SocketInfo` of ipc/socket.rs and `PacketSignal` of signal/port_packet.rs.
 ghost use Rattle.std.specs.Prelude.{◌≡◌};
-ghost use Rattle.definition.specs.Status.{answer_word, count_of, is_done, status_number};
+ghost use Rattle.definition.specs.Status.{answer_word, count_of, status_number};
 
 use definition::{Answer, Record, Status};
 
@@ -31,11 +31,4 @@ pub fn count_of(a: Answer) -> u32
         Ok(Record::Count(n)) => n,
         _ => 0,
     }
-}
-
-// Whether the call was done.
-pub fn is_done(a: Answer) -> bool
-    ensures { result ≡ is_done a }
-{
-    a.is_ok()
 }

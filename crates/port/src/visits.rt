@@ -13,8 +13,10 @@ use endpoint::signal::changed;
 fn is_due(t: Places, a: Pending) -> bool
     ensures { result ≡ due a t }
 {
-    !endpoint::ends::keeps_word(a)
-        && crate::firing::fires(t, a.one, changed(a.word, a.clear, a.set))
+    if endpoint::ends::keeps_word(a) {
+        return false;
+    }
+    crate::firing::fires(t, a.one, changed(a.word, a.clear, a.set))
 }
 
 // All changes of a call, in their order.

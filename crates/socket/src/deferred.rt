@@ -23,7 +23,13 @@ pub fn needs_visit(p: Pair, r: EndsOutcome) -> bool
     ensures needed { result ≡ needs_visit r p.places }
     ensures size { length p.places.table ≡ 128 }
 {
-    r.fires && (has_only_wait(p) || port::visits::any_due(p.places, r))
+    if !r.fires {
+        return false;
+    }
+    if has_only_wait(p) {
+        return true;
+    }
+    port::visits::any_due(p.places, r)
 }
 
 // Visits the waits of all changes of a call.

@@ -37,7 +37,7 @@ pub use create::new_pair;
 pub use deferred::{
     close_waits, has_only_wait, needs_visit, settle, visit_each, visit_only, with_outcome,
 };
-pub use parts::{ends_of, inner_step};
+pub use parts::ends_of;
 pub use wait::{
     appends_few, has_only_packet, is_unused, registered, registered_first, registered_last,
     take_answer, taken, taken_only,

@@ -88,10 +88,3 @@ impl From<SocketStep> for Step {
         }
     }
 }
-
-// The same for callers that know it by this name.
-pub fn inner_step(s: SocketStep) -> Step
-    ensures { result ≡ inner_step s }
-{
-    s.into()
-}

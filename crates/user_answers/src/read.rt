@@ -40,9 +40,10 @@ pub fn read_answer(
         return Err(Status::InvalidArgs);
     }
     lookup(p, handle, RIGHT_READ)?;
-    if !crate::memory::fits(b.base, size, b.address, b.count)
-        || !crate::memory::count_fits(b.base, size, b.count_at)
-    {
+    if !crate::memory::fits(b.base, size, b.address, b.count) {
+        return Err(Status::InvalidArgs);
+    }
+    if !crate::memory::count_fits(b.base, size, b.count_at) {
         return Err(Status::InvalidArgs);
     }
     let first = endpoint::end::first_length(q, p.datagram, table);

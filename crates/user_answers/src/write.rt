@@ -18,9 +18,10 @@ fn write_ranges(b: Buffer, size: usize, a: Answer) -> Answer
         return a;
     }
     let m = endpoint::answer::count_of(a) as u64;
-    if !crate::memory::fits(b.base, size, b.address, m)
-        || !crate::memory::count_fits(b.base, size, b.count_at)
-    {
+    if !crate::memory::fits(b.base, size, b.address, m) {
+        return Err(Status::InvalidArgs);
+    }
+    if !crate::memory::count_fits(b.base, size, b.count_at) {
         return Err(Status::InvalidArgs);
     }
     a
