@@ -9,7 +9,7 @@ use definition::Places;
 use endpoint::ends::{EndsOutcome, Pending};
 use endpoint::signal::changed;
 
-// Whether a change fires a wait. The table is only read.
+// Whether a change fires a wait. The table is only read. The first test returns by itself: behind `&&` the table that is handed on is copied once more.
 fn is_due(t: Places, a: Pending) -> bool
     ensures { result ≡ due a t }
 {
@@ -43,19 +43,23 @@ pub fn any_due(t: Places, r: EndsOutcome) -> bool
 pub fn visited(t: Places, a: Pending) -> Places
     ensures { result ≡ visited a t }
 {
-    change(t, a).places
+    let c = change(t, a);
+    let places = c.places;
+    places
 }
 
-// Visits the waits of all changes of a call. They stand one by one: gone over as an array they take a twentieth longer. It is inlined where it is
-// called: as a function of its own it copies the table once more.
+// Visits the waits of all changes of a call. They stand one by one, each into the same variable: gone over as an array they take a twentieth longer, and
+// with a variable for each, or as a function that is not inlined, a call takes two tables more of stack.
 #[inline(always)]
 pub fn visited_all(t: Places, r: EndsOutcome) -> Places
     ensures { result ≡ visited_each r t }
 {
-    let mut u = visited(t, r.visits.first);
+    let mut u = t;
+    u = visited(u, r.visits.first);
     u = visited(u, r.visits.second);
     u = visited(u, r.more.first);
-    visited(u, r.more.second)
+    u = visited(u, r.more.second);
+    u
 }
 
 // Visits the waits of all changes of a call, in a table whose only place used is a wait. Any other table stays as it is. The four stand one by one:

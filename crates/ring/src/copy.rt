@@ -16,7 +16,7 @@ fn fits(capacity: usize, at: usize, n: usize, size: usize) -> bool
 }
 
 // Copies all of src, at most BLOCK bytes, to the start of dst. The bytes pass through a local array, which neither slice can overlap, so that
-// the compiler makes one `memmove` of the two loops and drops the array. A loop from src to dst, which it must take for overlapping, stays a
+// the compiler makes one `memmove` of the two copies and drops the array. A loop from src to dst, which it must take for overlapping, stays a
 // loop of 16-byte moves, at 4 KiB less than half as fast.
 fn copy_block(dst: &mut [u8], src: &[u8])
     requires { (length src.now ≤ 4096) × (length src.now ≤ length dst.old) }

@@ -1,5 +1,4 @@
-// Calls over user memory: one slice that the caller lends, at a 64-bit base. After zircon-syscall's socket.rs. The base, the memory and the places in it
-// stand one by one, as `murgwethan_user_write` and `murgwethan_user_read` have them for C, and `UserWrites` and `UserReads` of the definition.
+// Calls over user memory: one slice that the caller lends, at a 64-bit base. After zircon-syscall's socket.rs.
 #![tactic(auto)]
 
 ghost use Rattle.definition.specs.Disposition.{UserDisposes};
