@@ -48,20 +48,6 @@ pub fn visited(t: Places, a: Pending) -> Places
     places
 }
 
-// Visits the waits of all changes of a call. They stand one by one, each into the same variable: gone over as an array they take a twentieth longer, and
-// with a variable for each, or as a function that is not inlined, a call takes two tables more of stack.
-#[inline(always)]
-pub fn visited_all(t: Places, r: EndsOutcome) -> Places
-    ensures { result ≡ visited_each r t }
-{
-    let mut u = t;
-    u = visited(u, r.visits.first);
-    u = visited(u, r.visits.second);
-    u = visited(u, r.more.first);
-    u = visited(u, r.more.second);
-    u
-}
-
 // Visits the waits of all changes of a call, in a table whose only place used is a wait. Any other table stays as it is. The four stand one by one:
 // in a loop the table is copied once more.
 pub fn visited_alone(t: Places, r: EndsOutcome) -> Places

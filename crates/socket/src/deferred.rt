@@ -33,11 +33,17 @@ pub fn needs_visit(p: Pair, r: EndsOutcome) -> bool
     port::visits::any_due(p.places, r)
 }
 
-// Visits the waits of all changes of a call.
+// Visits the waits of all changes of a call. Here and in `close_waits` the four stand one by one, each into the same variable: as a function of its own,
+// inlined or not, they take a table more of stack, and gone over as an array a twentieth longer.
 pub fn visit_each(p: Pair, r: EndsOutcome) -> Pair
     ensures { result ≡ visited_all r p }
 {
-    parts::with_places(p, port::visits::visited_all(p.places, r))
+    let mut t = p.places;
+    t = port::visits::visited(t, r.visits.first);
+    t = port::visits::visited(t, r.visits.second);
+    t = port::visits::visited(t, r.more.first);
+    t = port::visits::visited(t, r.more.second);
+    parts::with_places(p, t)
 }
 
 // The same for a pair whose only place used is a wait. It stands apart for speed: the first place alone is stored, and not the table.
@@ -126,5 +132,10 @@ pub fn close_waits(p: Pair, handle: u32, r: EndsOutcome) -> Pair
     ensures { result ≡ visited_all r (without_waits (is_one handle) p) }
 {
     let n = port::waits::drop_waits(p.places, handle == 1);
-    parts::with_places(p, port::visits::visited_all(n.places, r))
+    let mut t = n.places;
+    t = port::visits::visited(t, r.visits.first);
+    t = port::visits::visited(t, r.visits.second);
+    t = port::visits::visited(t, r.more.first);
+    t = port::visits::visited(t, r.more.second);
+    parts::with_places(p, t)
 }
