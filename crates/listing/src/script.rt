@@ -8,6 +8,7 @@ use definition_script::ScriptState;
 use text::Writer;
 
 // The first line of every listing.
+#[tactic(auto, unfolding(definition_script::specs::Listing::header))]
 pub fn header(out: &mut [u8]) -> usize
     ensures { Written 22 0 Listing·header result out.old out.new }
 {

@@ -2,7 +2,7 @@ use Prim.Native.Nat.{◌+◌, ◌≤◌, ◌<◌}
 use borrow.Author.Rules.{rules}
 use lib.ListN.{length}
 use mathlib.Core.Bool.{Bool}
-use mathlib.Core.Path.{refl, sym, ◌∙◌, subst}
+use mathlib.Core.Path.{refl, sym, subst}
 use native.Mathlib.Omega.{arith}
 use Rattle.feed.proofs.Feeding.{ready, SoFar, begins, next, left, falls, done_full, done-stay, fed_into}
 use Rattle.line.specs.line.LineDone.{LINE}
