@@ -1,7 +1,7 @@
 -- What the loop of a block keeps. Assumes nothing.
 use Prim.Native.Nat.{ℕ, ◌+◌, ◌-◌, ◌≤◌, ◌<◌}
 use native.Mathlib.Omega.{arith}
-use mathlib.Core.Path.{◌≡◌, refl, sym, ap, ◌∙◌}
+use mathlib.Core.Path.{◌≡◌, refl, sym, ap, ◌∙◌, subst}
 use mathlib.Core.Bool.{Bool, true, false, cond}
 use mathlib.Core.List.{List, ◌++◌, append_assoc, append-nil}
 use lib.ListN.{length, take, drop, length-drop, take-append-drop}
@@ -10,8 +10,10 @@ use borrow.Author.Tests.{leb-true}
 use Rattle.definition.specs.Status.{◌and◌}
 use Rattle.definition_script.specs.Line.{stop_of}
 use Rattle.definition_script.specs.Call.{written_at, Rings}
+use Rattle.text.specs.declared.Writer.{Writer}
 use Rattle.text.proofs.Place.{place_none, place-length, place-front, place-behind}
 use Rattle.definition_script.specs.declared.ScriptState.{ScriptState}
+use Rattle.feed.specs.declared.Fed.{Fed}
 use Rattle.feed.specs.declared.turn.Turned.{Turned}
 use Rattle.line.specs.line.LineDone.{LINE}
 use Rattle.definition_script.specs.Listing.{Machine, machine, Move, stay, halt, go, move_of}
@@ -151,12 +153,15 @@ module _ (m₀ m : Machine) (offset : ℕ) (input out₀ out : List ℕ) (from a
         idle = λ x. absurd (never x);
       }
 
-  pub next : (memory' : List ℕ) (z' : Rings) (out' : List ℕ) (r : Turned) → TurnDone m (move_of m (drop from input)) offset from at memory' z' out out' r
-      → at + LINE ≤ length out → SoFar m₀ offset input out₀ (machine r.state memory' z') out' r.from r.at r.more
-  next memory' z' out' r d h =
-      let mv : Move = move_of m (drop from input) in
-      let p = d.text.put h in
-      rw (d.memory, d.lent, p.out, d.state, d.next, p.next, d.more) (next_by mv refl h (omega (arith, p.next, p.fits)))
+-- a turn from there on
+pub next : (m₀ m : Machine) (offset : ℕ) (input out₀ : List ℕ) (from : ℕ) (memory' : List ℕ) (z' : Rings) (w w' : Writer) (r : Turned)
+    → SoFar m₀ offset input out₀ m w.out.now from w.at true → TurnDone m (move_of m (drop from input)) offset from memory' z' w w' r
+    → w.at + LINE ≤ length w.out.now → SoFar m₀ offset input out₀ (machine r.state memory' z') w'.out.now r.from w'.at r.more
+next m₀ m offset input out₀ from memory' z' w w' r f d h =
+    let mv : Move = move_of m (drop from input) in
+    let p = d.text.fit.put h in
+    rw (d.memory, d.lent, p.out, d.state, d.next, p.next, d.more)
+    (next_by m₀ m offset input out₀ w.out.now from w.at f mv refl h (omega (arith, p.next, p.fits)))
 
 -- the measure falls
 pub left : (input : List ℕ) (from : ℕ) (more : Bool) → ℕ
@@ -172,10 +177,10 @@ falls_by m input from (go m' l n) w e =
     let d : length (drop from input) ≡ length input - from = length-drop from input in
     omega (arith, g.within, g.some)
 
-pub falls : (m : Machine) (offset : ℕ) (input : List ℕ) (from at : ℕ) (memory' : List ℕ) (z' : Rings) (out out' : List ℕ) (r : Turned) → from ≤ length input
-    → TurnDone m (move_of m (drop from input)) offset from at memory' z' out out' r
+pub falls : (m : Machine) (offset : ℕ) (input : List ℕ) (from : ℕ) (memory' : List ℕ) (z' : Rings) (w w' : Writer) (r : Turned) → from ≤ length input
+    → TurnDone m (move_of m (drop from input)) offset from memory' z' w w' r
     → left input r.from r.more < left input from true
-falls m offset input from at memory' z' out out' r w d = rw (d.next, d.more) (falls_by m input from (move_of m (drop from input)) w refl)
+falls m offset input from memory' z' w w' r h d = rw (d.next, d.more) (falls_by m input from (move_of m (drop from input)) h refl)
 
 -- ---- the end of a block
 
@@ -226,6 +231,12 @@ pub done-stay : (m₀ : Machine) (offset : ℕ) (input out₀ : List ℕ) (st : 
 done-stay m₀ offset input out₀ st memory z out from at more f h g =
     done_by m₀ offset input out₀ st memory z out from at more f
     (fed-stay LINE (offset + from) (length out₀ - at) (machine st memory z) (drop from input) (f.idle h)) g
+
+-- said of a list that is the output
+pub fed_into : {st : ScriptState} {offset : ℕ} {input memory memory' : List ℕ} {z z' : Rings} {out out' out'' : List ℕ} {r : Fed} → out'' ≡ out'
+    → FeedDone st offset input memory memory' z z' out out' r → FeedDone st offset input memory memory' z z' out out'' r
+fed_into {st} {offset} {input} {memory} {memory'} {z} {z'} {out} {out'} {out''} {r} e d =
+    subst (λ (x : List ℕ). FeedDone st offset input memory memory' z z' out x r) (sym e) d
 
 -- a block that cannot be fed is left whole
 pub unready : (st : ScriptState) (offset : ℕ) (input memory : List ℕ) (z : Rings) (out : List ℕ) → is_ready st offset (length input) (length memory) ≡ false

@@ -10,18 +10,20 @@ use Rattle.definition.specs.Status.{Answer}
 use Rattle.definition.specs.Status.{pick, ◌or◌}
 use Rattle.definition.specs.Signal.{SignalWord}
 use Rattle.definition.specs.Pair.{shown, is_handle, shown_by}
-use Rattle.text.proofs.Place.{nothing, up_to, same}
+use Rattle.text.specs.declared.Writer.{Writer}
+use Rattle.text.specs.Writes.{Appends}
+use Rattle.text.proofs.Writers.{appends_nothing, appends_up_to, appends_same}
 use Rattle.definition.specs.declared.Pair.{Pair}
 use Rattle.definition.specs.declared.Step.{Step}
 use Rattle.script_call.proofs.fill.Fills.{part_all}
 use Rattle.definition_script.specs.declared.ScriptState.{ScriptState}
-use Rattle.feed.specs.declared.turn.Stepped.{Stepped}
 use Rattle.feed.specs.declared.turn.Turned.{Turned}
 use Rattle.definition_script.specs.declared.Decoded.{Decoded}
 use Rattle.definition_script.specs.declared.Decoded.TheVariants.{Whole, Bad, Cut}
 use Rattle.definition_script.specs.Record.{is_body, record_of, is_misplaced, is_last}
 use Rattle.script_call.proofs.record.Records.{cases, Full, full}
-use Rattle.line.specs.line.LineDone.{LINE, LineDone}
+use Rattle.line.specs.line.LineDone.{LINE}
+use Rattle.line.specs.line.LineWritten.{LineWritten}
 use Rattle.definition_script.specs.Line.{line_of}
 use Rattle.definition_script.specs.Call.{Rings, rings, delivered, after_count, call_of}
 use Rattle.script_call.specs.call.CallDone.{CallDone}
@@ -114,34 +116,33 @@ body_at from n l =
     let e : from + 3 + n - (from + 3) ≡ n = omega arith in
     ap (λ (k : ℕ). take k (drop (from + 3) l)) e ∙ ap (λ (z : List ℕ). take n z) (sym (drop-drop 3 from l))
 
-module _ (m : Machine) (mv : Move) (offset from at : ℕ) (out : List ℕ) where
-  pub turn_stay : mv ≡ stay → TurnDone m mv offset from at m.memory m.lent out out (record { state = m.state; from = from; at = at; more = false })
+module _ (m : Machine) (mv : Move) (offset from : ℕ) (w : Writer) where
+  pub turn_stay : mv ≡ stay → TurnDone m mv offset from m.memory m.lent w w (record { state = m.state; from = from; more = false })
   unfolding machine_after text_of taken_by goes_on
   turn_stay e =
-      subst (λ (v : Move). TurnDone m v offset from at m.memory m.lent out out (record { state = m.state; from = from; at = at; more = false })) (sym e)
-      (record { state = refl; memory = refl; lent = refl; next = omega arith; more = refl; text = nothing LINE at out })
+      subst (λ (v : Move). TurnDone m v offset from m.memory m.lent w w (record { state = m.state; from = from; more = false })) (sym e)
+      (record { state = refl; memory = refl; lent = refl; next = omega arith; more = refl; text = appends_nothing LINE w })
 
-  pub turn_stop : (out' : List ℕ) (r : Turned) → mv ≡ halt → StopDone m.state offset from at out out' r
-      → TurnDone m mv offset from at m.memory m.lent out out' r
+  pub turn_stop : (w' : Writer) (r : Turned) → mv ≡ halt → StopDone m.state offset from w w' r → TurnDone m mv offset from m.memory m.lent w w' r
   unfolding machine_after text_of taken_by goes_on
-  turn_stop out' r e h =
-      subst (λ (v : Move). TurnDone m v offset from at m.memory m.lent out out' r) (sym e)
+  turn_stop w' r e h =
+      subst (λ (v : Move). TurnDone m v offset from m.memory m.lent w w' r) (sym e)
       (record {
         state = h.state;
         memory = refl;
         lent = refl;
         next = h.next ∙ (let z : from ≡ from + 0 = omega arith in z);
         more = h.more;
-        text = up_to LINE (omega arith) h.text;
+        text = appends_up_to LINE (omega arith) h.text;
       })
 
-  pub turn_step : (tag n : ℕ) (body body' memory' : List ℕ) (z' : Rings) (out' : List ℕ) (q : Stepped)
-      → mv ≡ go (stepped m tag body') (step_line m tag body') (3 + n) → body ≡ body' → StepDone m tag body at memory' z' out out' q
-      → TurnDone m mv offset from at memory' z' out out' (record { state = q.state; from = from + 3 + n; at = q.at; more = true })
+  pub turn_step : (tag n : ℕ) (body body' memory' : List ℕ) (z' : Rings) (w' : Writer) (q : ScriptState)
+      → mv ≡ go (stepped m tag body') (step_line m tag body') (3 + n) → body ≡ body' → StepDone m tag body memory' z' w w' q
+      → TurnDone m mv offset from memory' z' w w' (record { state = q; from = from + 3 + n; more = true })
   unfolding machine_after text_of taken_by goes_on
-  turn_step tag n body body' memory' z' out' q e b d =
-      let f : StepDone m tag body' at memory' z' out out' q = subst (λ (x : List ℕ). StepDone m tag x at memory' z' out out' q) b d in
-      subst (λ (v : Move). TurnDone m v offset from at memory' z' out out' (record { state = q.state; from = from + 3 + n; at = q.at; more = true })) (sym e)
+  turn_step tag n body body' memory' z' w' q e b d =
+      let f : StepDone m tag body' memory' z' w w' q = subst (λ (x : List ℕ). StepDone m tag x memory' z' w w' q) b d in
+      subst (λ (v : Move). TurnDone m v offset from memory' z' w w' (record { state = q; from = from + 3 + n; more = true })) (sym e)
       (record {
         state = f.state;
         memory = f.memory;
@@ -153,6 +154,11 @@ module _ (m : Machine) (mv : Move) (offset from at : ℕ) (out : List ℕ) where
 
 -- ---- one step
 
+-- a line whose bytes are no more than a read delivers
+line_appends : {number : ℕ} {a : Answer} {one two : SignalWord} {bs : List ℕ} {w w' : Writer} → LineWritten number a one two bs w w' → length bs ≤ 4096
+    → Appends LINE (line_of number a one two bs) w w'
+line_appends p h = record { fit = (p.done.put h).fit; same_slice = p.same_slice }
+
 -- the words that both ends show
 shown-one : (p : Pair) → shown p.one ≡ shown_by p 1
 unfolding shown_by is_handle pick ◌or◌
@@ -162,10 +168,10 @@ shown-two : (p : Pair) → shown p.two ≡ shown_by p 2
 unfolding shown_by is_handle pick ◌or◌
 shown-two p = refl
 
-module _ (st : ScriptState) (tag at to : ℕ) (b memory memory₁ memory₂ out out' : List ℕ) (z z₁ : Rings) (r : Step) (last : Bool)
+module _ (st : ScriptState) (tag : ℕ) (b memory memory₁ memory₂ : List ℕ) (z z₁ : Rings) (r : Step) (last : Bool) (to to' : Writer)
     (w : CallDone (call_of memory z st.pair tag b) memory₁ z₁ r)
     (small : length memory ≤ 4096) (kept : length memory₁ ≡ length memory)
-    (f : LineDone st.number r.answer (shown r.pair.one) (shown r.pair.two) (delivered tag b r.answer memory₁) at to out out')
+    (f : LineWritten st.number r.answer (shown r.pair.one) (shown r.pair.two) (delivered tag b r.answer memory₁) to to')
     (l : memory₂ ≡ after_count tag b r.answer memory₁) (i : last ≡ is_last tag r.answer) where
   -- the answer and the pair are those of the call
   answer-is : r.answer ≡ (call_of memory z st.pair tag b).step.answer
@@ -200,7 +206,6 @@ module _ (st : ScriptState) (tag at to : ℕ) (b memory memory₁ memory₂ out 
       called : Pair
       called = (call_of memory z st.pair tag b).step.pair
 
-  pub step-done : StepDone (machine st memory z) tag b at memory₂ z₁ out out'
-      (record { state = mk_state r.pair (st.number + 1) last; at = to })
+  pub step-done : StepDone (machine st memory z) tag b memory₂ z₁ to to' (mk_state r.pair (st.number + 1) last)
   unfolding stepped step_line
-  step-done = record { state = step-state; memory = step-memory; lent = w.lent; text = same _ step-text (f.put (delivered-small tag b r.answer memory₁ (omega arith))).fit }
+  step-done = record { state = step-state; memory = step-memory; lent = w.lent; text = appends_same _ step-text (line_appends f (delivered-small tag b r.answer memory₁ (omega arith))) }

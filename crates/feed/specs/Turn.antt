@@ -1,12 +1,12 @@
 -- What the functions say that make one move of the machine, which crates/definition_script/specs/Listing defines.
 use Rattle.std.specs.Prelude.{ℕ, ◌+◌, ◌≤◌, ◌≡◌, true, false, Bool, List, [], length}
 use Rattle.definition_script.specs.declared.ScriptState.{ScriptState}
-use Rattle.feed.specs.declared.turn.Stepped.{Stepped}
 use Rattle.feed.specs.declared.turn.Turned.{Turned}
 use Rattle.definition_script.specs.declared.Decoded.{Decoded}
 use Rattle.definition_script.specs.declared.Decoded.TheVariants.{Whole, Bad, Cut}
 use Rattle.definition_script.specs.Record.{is_body, is_misplaced, record_of}
-use Rattle.text.specs.Put.{Fit}
+use Rattle.text.specs.declared.Writer.{Writer}
+use Rattle.text.specs.Writes.{Appends}
 use Rattle.line.specs.line.LineDone.{LINE}
 use Rattle.definition_script.specs.Call.{Rings}
 use Rattle.definition_script.specs.Listing.{Machine, stepped, step_line, stopped_state, machine, Move, stay, halt, go}
@@ -26,18 +26,18 @@ pub record StepMay (st : ScriptState) (tag : ℕ) (b memory : List ℕ) : Type 0
   pub number : st.number ≤ LIMIT + LIMIT
 
 -- a step: state, memory and what is lent are those after the record, and its line is put out
-pub record StepDone (m : Machine) (tag : ℕ) (body : List ℕ) (at : ℕ) (memory' : List ℕ) (z' : Rings) (out out' : List ℕ) (r : Stepped) : Type 0 where
-  pub state : r.state ≡ (stepped m tag body).state
+pub record StepDone (m : Machine) (tag : ℕ) (body : List ℕ) (memory' : List ℕ) (z' : Rings) (w w' : Writer) (r : ScriptState) : Type 0 where
+  pub state : r ≡ (stepped m tag body).state
   pub memory : memory' ≡ (stepped m tag body).memory
   pub lent : z' ≡ (stepped m tag body).lent
-  pub text : Fit LINE at (step_line m tag body) r.at out out'
+  pub text : Appends LINE (step_line m tag body) w w'
 
 -- the line that stops a script
-pub record StopDone (st : ScriptState) (offset from at : ℕ) (out out' : List ℕ) (r : Turned) : Type 0 where
+pub record StopDone (st : ScriptState) (offset from : ℕ) (w w' : Writer) (r : Turned) : Type 0 where
   pub state : r.state ≡ stopped_state st
   pub next : r.from ≡ from
   pub more : r.more ≡ false
-  pub text : Fit 26 at (stop_of (offset + from)) r.at out out'
+  pub text : Appends 26 (stop_of (offset + from)) w w'
 
 -- 01 "Script program": a record out of its place is as bad as one of a wrong length
 unfoldable pub placed : (number : ℕ) → Decoded → Decoded
@@ -84,10 +84,10 @@ pub record TurnMay (st : ScriptState) (o : ℕ) (s : List ℕ) (from : ℕ) (mem
   pub number : st.number ≤ LIMIT + LIMIT
 
 -- a turn: the move that the bytes make from a place of the input on
-pub record TurnDone (m : Machine) (mv : Move) (offset from at : ℕ) (memory' : List ℕ) (z' : Rings) (out out' : List ℕ) (r : Turned) : Type 0 where
+pub record TurnDone (m : Machine) (mv : Move) (offset from : ℕ) (memory' : List ℕ) (z' : Rings) (w w' : Writer) (r : Turned) : Type 0 where
   pub state : r.state ≡ (machine_after m mv).state
   pub memory : memory' ≡ (machine_after m mv).memory
   pub lent : z' ≡ (machine_after m mv).lent
   pub next : r.from ≡ from + taken_by mv
   pub more : r.more ≡ goes_on mv
-  pub text : Fit LINE at (text_of (offset + from) mv) r.at out out'
+  pub text : Appends LINE (text_of (offset + from) mv) w w'

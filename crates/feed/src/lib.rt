@@ -8,6 +8,7 @@ ghost use Rattle.feed.specs.Feed.{is_ready, FeedDone};
 use crate::turn::Turned;
 use definition_script::ScriptState;
 use script_call::lent::Lent;
+use text::Writer;
 
 pub mod state;
 mod turn;
@@ -35,19 +36,19 @@ fn feed_ready(st: ScriptState, offset: u64, input: &[u8], lent: &mut Lent, out: 
     ensures same { SameLent lent.old lent.new }
     ensures done { FeedDone st offset input.now lent.old.memory.now lent.new.memory.now (rings_of lent.old) (rings_of lent.new) out.old out.new result }
 {
+    let mut to = Writer { out, at: 0 };
     let mut t = Turned {
         state: st,
         from: 0,
-        at: 0,
         more: true,
     };
-    while t.more && out.len() - t.at >= 8254 {
-        t = turn::turn(t.state, offset, input, t.from, lent, out, t.at);
+    while t.more && to.has_room(8254) {
+        t = turn::turn(t.state, offset, input, t.from, lent, &mut to);
     }
     Fed {
         state: t.state,
         taken: t.from,
-        written: t.at,
+        written: to.at,
     }
 }
 

@@ -6,64 +6,46 @@ ghost use Rattle.feed.specs.Turn.{LIMIT, next_of, StepMay, StepDone, StopDone, T
 
 use definition_script::{Decoded, ScriptState};
 use script_call::lent::Lent;
+use text::Writer;
 
-// After a step: the state, and the place in the output.
-#[derive(Clone, Copy)]
-pub struct Stepped {
-    pub state: ScriptState,
-    pub at: usize,
-}
-
-// After a move: the state, the place in the input, the place in the output, and whether another move may follow, which `TurnDone` says of each move. All
-// four are there after every move, so that no case has more or less than another.
+// After a move: the state, the place in the input, and whether another move may follow, which `TurnDone` says of each move. All three are there after
+// every move, so that no case has more or less than another.
 #[derive(Clone, Copy)]
 pub struct Turned {
     pub state: ScriptState,
     pub from: usize,
-    pub at: usize,
     pub more: bool,
 }
 
 // Runs a record and puts out its line.
-fn step(
-    st: ScriptState,
-    tag: u8,
-    body: &[u8],
-    lent: &mut Lent,
-    out: &mut [u8],
-    at: usize,
-) -> Stepped
+fn step(st: ScriptState, tag: u8, body: &[u8], lent: &mut Lent, to: &mut Writer) -> ScriptState
     requires { StepMay st tag body.now lent.old.memory.now }
     ensures same { SameLent lent.old lent.new }
-    ensures done { StepDone (machine_with st lent.old) tag body.now at lent.new.memory.now (rings_of lent.new) out.old out.new result }
+    ensures done { StepDone (machine_with st lent.old) tag body.now lent.new.memory.now (rings_of lent.new) to.old to.new result }
 {
     let r = script_call::call::call(st.pair, tag, body, lent);
     let memory = &mut *lent.memory;
-    let to = line::call_line::print(
-        out, at, st.number, tag, body, r.answer, r.pair.one, r.pair.two, memory,
+    line::call_line::put(
+        to, st.number, tag, body, r.answer, r.pair.one, r.pair.two, memory,
     );
     script_call::delivered::settle(tag, body, r.answer, memory);
     let number = st.number + 1;
-    Stepped {
-        state: ScriptState {
-            pair: r.pair,
-            number,
-            ended: script_call::record::is_last(tag, r.answer),
-        },
-        at: to,
+    ScriptState {
+        pair: r.pair,
+        number,
+        ended: script_call::record::is_last(tag, r.answer),
     }
 }
 
 // The line that stops the script.
-fn stop(st: ScriptState, offset: u64, from: usize, out: &mut [u8], at: usize) -> Turned
+fn stop(st: ScriptState, offset: u64, from: usize, to: &mut Writer) -> Turned
     requires { (offset ≤ LIMIT) × (from ≤ LIMIT) }
-    ensures { StopDone st offset from at out.old out.new result }
+    ensures { StopDone st offset from to.old to.new result }
 {
-    let to = text::stop(out, at, offset + from as u64);
+    to.stop(offset + from as u64);
     Turned {
         state: ScriptState { ended: true, ..st },
         from,
-        at: to,
         more: false,
     }
 }
@@ -92,29 +74,26 @@ pub(crate) fn turn(
     input: &[u8],
     from: usize,
     lent: &mut Lent,
-    out: &mut [u8],
-    at: usize,
+    to: &mut Writer,
 ) -> Turned
     requires { TurnMay st offset input.now from lent.old.memory.now }
     ensures same { SameLent lent.old lent.new }
-    ensures done { TurnDone (machine_with st lent.old) (move_of (machine_with st lent.old) (drop from input.now)) offset from at lent.new.memory.now (rings_of lent.new) out.old out.new result }
+    ensures done { TurnDone (machine_with st lent.old) (move_of (machine_with st lent.old) (drop from input.now)) offset from lent.new.memory.now (rings_of lent.new) to.old to.new result }
 {
     match next(st.ended, st.number, input, from) {
         Decoded::Cut => Turned {
             state: st,
             from,
-            at,
             more: false,
         },
-        Decoded::Bad => stop(st, offset, from, out, at),
+        Decoded::Bad => stop(st, offset, from, to),
         Decoded::Whole(tag, n) => {
             let b = from + 3;
             let e = b + n;
-            let s = step(st, tag, &input[b..e], lent, out, at);
+            let state = step(st, tag, &input[b..e], lent, to);
             Turned {
-                state: s.state,
+                state,
                 from: e,
-                at: s.at,
                 more: true,
             }
         }

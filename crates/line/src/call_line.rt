@@ -1,6 +1,5 @@
 // The line of the call that a record makes.
 ghost use Rattle.definition.specs.Pair.{shown};
-ghost use Rattle.line.specs.line.LineDone.{LineDone};
 ghost use Rattle.line.specs.line.LineWritten.{LineWritten};
 ghost use Rattle.definition_script.specs.Call.{delivered};
 
@@ -27,23 +26,4 @@ pub fn put(
     let n = script_call::delivered::count(tag, a);
     let bytes = script_call::delivered::part(memory, from, n);
     crate::line::line(to, number, a, one, two, bytes);
-}
-
-// `put` at a place of a slice; the answer is the place behind the line.
-pub fn print(
-    out: &mut [u8],
-    at: usize,
-    number: u64,
-    tag: u8,
-    body: &[u8],
-    a: Answer,
-    e: Endpoint,
-    f: Endpoint,
-    memory: &[u8],
-) -> usize
-    ensures { LineDone number a (shown e) (shown f) (delivered tag body.now a memory.now) at result out.old out.new }
-{
-    let mut to = Writer { out, at };
-    put(&mut to, number, tag, body, a, e, f, memory);
-    to.at
 }

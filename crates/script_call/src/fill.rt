@@ -19,10 +19,11 @@ fn put(memory: &mut [u8], address: u64, bytes: &[u8]) -> Answer
         return Err(Status::InvalidArgs);
     }
     let at = (address - BASE) as usize;
-    if !text::has_room(memory.len(), at, bytes.len()) {
+    let end = at + bytes.len();
+    if end > memory.len() {
         return Err(Status::InvalidArgs);
     }
-    text::copy(memory, at, bytes);
+    memory[at..end].copy_from_slice(bytes);
     Ok(Record::Count(bytes.len() as u32))
 }
 

@@ -5,7 +5,7 @@ use native.Mathlib.Omega.{arith}
 use mathlib.Core.List.{List, [], ◌++◌}
 use lib.ListN.{length}
 use Rattle.text.specs.declared.Writer.{Writer}
-use Rattle.text.specs.Put.{Put}
+use Rattle.text.specs.Put.{Put, Written}
 use Rattle.text.specs.Writes.{Appends, Writes}
 use Rattle.text.proofs.Place.{seq, up_to, nothing, same}
 
@@ -33,3 +33,7 @@ writes h p = record { appends = p; kept = λ g. absurd (let z : ⊥ = omega arit
 pub writes_put : {k : ℕ} {xs : List ℕ} {w w' : Writer} → w.at + k ≤ length w.out.now → Put k w.at xs w'.at w.out.now w'.out.now
     → w'.out.ghost_name ≡ w.out.ghost_name → Writes k xs w w'
 writes_put h p e = writes h (record { fit = record { put = λ g. p }; same_slice = e })
+
+-- what a method says, of the lists and the places alone
+pub written : {k : ℕ} {xs : List ℕ} {w w' : Writer} → Writes k xs w w' → Written k w.at xs w'.at w.out.now w'.out.now
+written p = record { fit = p.appends.fit; kept = p.kept }

@@ -4,18 +4,11 @@
 
 ghost use Rattle.std.specs.Prelude.{◌+◌, ◌*◌, ◌≤◌, ◌<◌, ◌≡◌, [], ◌∷◌, length};
 ghost use Rattle.definition_script.specs.Call.{written_at};
-ghost use Rattle.text.specs.Put.{Written, Room};
+ghost use Rattle.text.specs.Put.{Room};
 ghost use Rattle.text.specs.Writes.{Writes, Appends};
 ghost use Rattle.definition_script.specs.Line.{digit_of, digits_of, width_of, decimal_of, hex_of, hex_bytes_of, signed_of, word_of, stop_of};
 
 use definition::Answer;
-
-// Whether k bytes have room at a place of a slice that is so long.
-pub fn has_room(len: usize, at: usize, k: usize) -> bool
-    ensures { Room len at k result }
-{
-    k <= len && at <= len - k
-}
 
 #[tactic(auto, unfolding(definition::specs::Status::pick, definition_script::specs::Line::digit_of))]
 fn digit(d: u64) -> u8
@@ -49,7 +42,8 @@ impl Writer<'_> {
     pub fn has_room(&self, k: usize) -> bool
         ensures { Room (length self.now.out.now) self.now.at k result }
     {
-        has_room(self.out.len(), self.at, k)
+        let len = self.out.len();
+        k <= len && self.at <= len - k
     }
 
     pub fn byte(&mut self, b: u8)
@@ -145,22 +139,4 @@ impl Writer<'_> {
             self.byte(b'\n');
         }
     }
-}
-
-// `Writer::copy` at a place of a slice; the answer is the place behind the bytes.
-pub fn copy(out: &mut [u8], at: usize, src: &[u8]) -> usize
-    ensures { Written (length src.now) at src.now result out.old out.new }
-{
-    let mut writer = Writer { out, at };
-    writer.copy(src);
-    writer.at
-}
-
-// `Writer::stop` at a place of a slice; the answer is the place behind the line.
-pub fn stop(out: &mut [u8], at: usize, n: u64) -> usize
-    ensures { Written 26 at (stop_of n) result out.old out.new }
-{
-    let mut writer = Writer { out, at };
-    writer.stop(n);
-    writer.at
 }

@@ -7,6 +7,6 @@ returns-clause-done c =
     let a = c.args in
     let may = c.requires in
     let d = c.call-r in
-    step-done a.st a.tag a.at c.print-to.result a.body.now a.lent.now.memory.now d.new.lent.memory.now c.settle.new.memory a.out.now c.print-to.new.out
-    (rings_of a.lent.now) (rings_of d.new.lent) d.result c.is_last.result
-    (d.ensures.made.made may.body) may.size d.ensures.same.memory.size c.print-to.ensures c.settle.ensures c.is_last.ensures
+    step-done a.st a.tag a.body.now a.lent.now.memory.now d.new.lent.memory.now c.settle.new.memory
+    (rings_of a.lent.now) (rings_of d.new.lent) d.result c.is_last.result a.to.now c.put.new.to
+    (d.ensures.made.made may.body) may.size d.ensures.same.memory.size c.put.ensures c.settle.ensures c.is_last.ensures

@@ -4,4 +4,4 @@ use Rattle.feed.proofs.turn.stop.Goals as goal
 
 pub returns : goal.returns
 unfolding stopped_state
-returns c = record { state = refl; next = refl; more = refl; text = c.stop-to.ensures.fit }
+returns c = record { state = refl; next = refl; more = refl; text = c.stop.ensures.appends }

@@ -1,5 +1,6 @@
 use borrow.Author.Rules.{rules}
-use Rattle.listing.proofs.script.Closings.{closing-none, closing_over, closing-stop, nothing_put}
+use Rattle.text.proofs.Writers.{written}
+use Rattle.listing.proofs.script.Closings.{closing-none, closing_over, closing-stop, nothing_put, put_into}
 use Rattle.listing.proofs.script.finish.Goals.{then-is_empty-via-then-is_empty, then-is_empty-via-else-is_empty+then-st}
 use Rattle.listing.proofs.script.finish.Goals as goal
 
@@ -12,4 +13,5 @@ returns-then-is_empty c =
     ])
 
 pub returns : goal.returns
-returns c = rw (← closing-stop c.args.offset c.args.st.ended c.args.left.now (search rules) c.if-st.false) c.stop.ensures
+returns c =
+    put_into (closing-stop c.args.offset c.args.st.ended c.args.left.now (search rules) c.if-st.false) (written c.stop.ensures) (search rules)

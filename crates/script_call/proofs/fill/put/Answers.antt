@@ -1,16 +1,17 @@
 use mathlib.Core.Path.{◌∙◌}
+use native.Mathlib.Omega.{arith}
+use Rattle.text.proofs.Place.{place-mid}
 use Rattle.script_call.proofs.fill.Fills.{fits-no, fits_not, fits-yes, fill-no, fill-yes}
 use Rattle.script_call.proofs.fill.put.Goals as goal
 
 pub returns-then-address-lt-BASE : goal.returns-then-address-lt-BASE
 returns-then-address-lt-BASE c = fill-no c.args.address c.args.bytes.now c.args.memory.now (fits-no _ _ _ c.requires.0 c.if-address-lt-BASE.true)
 
-pub returns-then-not-has_room : goal.returns-then-not-has_room
-returns-then-not-has_room c =
-    fill-no c.args.address c.args.bytes.now c.args.memory.now (fits_not _ _ _ c.requires.0 c.if-address-lt-BASE.false (c.has_room.ensures.no c.if-not-has_room.true))
+pub returns-then-end-memory : goal.returns-then-end-memory
+returns-then-end-memory c =
+    fill-no c.args.address c.args.bytes.now c.args.memory.now (fits_not _ _ _ c.requires.0 c.if-address-lt-BASE.false c.if-end-memory.true)
 
 pub returns : goal.returns
 returns c =
-    let r = c.has_room.ensures.yes c.if-not-has_room.false in
-    let w = fill-yes c.args.address c.args.bytes.now c.args.memory.now (fits-yes _ _ _ c.requires.0 c.if-address-lt-BASE.false r) in
-    (w.0, (c.copy.ensures.fit.put r).out ∙ w.1)
+    let w = fill-yes c.args.address c.args.bytes.now c.args.memory.now (fits-yes _ _ _ c.requires.0 c.if-address-lt-BASE.false c.if-end-memory.false) in
+    (w.0, place-mid _ _ _ _ _ (omega arith) c.copy_from_slice.ensures.after ∙ w.1)
