@@ -2,7 +2,7 @@
 ghost use Rattle.std.specs.Prelude.{◌≡◌, length};
 ghost use Rattle.definition_script.specs.Listing.{start_state};
 ghost use Rattle.buffer.specs.buffer.Buffer.{front_of, Advanced};
-ghost use Rattle.script_call.specs.Lent.{SameLent, rings_of};
+ghost use Rattle.script_call.specs.Lent.{SameLent, lent_rings};
 
 use definition_script::ScriptState;
 use script_call::lent::Lent;
@@ -32,7 +32,7 @@ pub fn first() -> Progress
 // Feeds the bytes in use, moves those that are not done with to the front, and counts the others. A buffer that is shorter is left as it is.
 pub fn advance(p: Progress, buffer: &mut [u8], lent: &mut Lent, out: &mut [u8]) -> Progress
     ensures same { SameLent lent.old lent.new }
-    ensures done { Advanced (front_of p (length out.old) buffer.old lent.old.memory.now (rings_of lent.old)) p buffer.old buffer.new lent.new.memory.now (rings_of lent.new) out.old out.new result }
+    ensures done { Advanced (front_of p (length out.old) buffer.old lent.old.memory.now (lent_rings lent.old)) p buffer.old buffer.new lent.new.memory.now (lent_rings lent.new) out.old out.new result }
 {
     if buffer.len() < p.used {
         return Progress { written: 0, ..p };

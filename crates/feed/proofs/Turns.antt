@@ -11,7 +11,7 @@ use Rattle.definition.specs.Status.{pick, ◌or◌}
 use Rattle.definition.specs.Signal.{SignalWord}
 use Rattle.definition.specs.Pair.{shown, is_handle, shown_by}
 use Rattle.text.specs.declared.Writer.{Writer}
-use Rattle.text.specs.Writes.{Appends}
+use Rattle.text.specs.Puts.{Appends}
 use Rattle.text.proofs.Writers.{appends_nothing, appends_up_to, appends_same}
 use Rattle.definition.specs.declared.Pair.{Pair}
 use Rattle.definition.specs.declared.Step.{Step}

@@ -6,7 +6,7 @@ use Rattle.definition_script.specs.declared.Decoded.{Decoded}
 use Rattle.definition_script.specs.declared.Decoded.TheVariants.{Whole, Bad, Cut}
 use Rattle.definition_script.specs.Record.{is_body, is_misplaced, record_of}
 use Rattle.text.specs.declared.Writer.{Writer}
-use Rattle.text.specs.Writes.{Appends}
+use Rattle.text.specs.Puts.{Appends}
 use Rattle.line.specs.line.LineDone.{LINE}
 use Rattle.definition_script.specs.Call.{Rings}
 use Rattle.definition_script.specs.Listing.{Machine, stepped, step_line, stopped_state, machine, Move, stay, halt, go}

@@ -2,7 +2,7 @@
 #![tactic(auto)]
 
 ghost use Rattle.std.specs.Prelude.{◌≡◌, true, length};
-ghost use Rattle.script_call.specs.Lent.{SameLent, rings_of};
+ghost use Rattle.script_call.specs.Lent.{SameLent, lent_rings};
 ghost use Rattle.feed.specs.Feed.{is_ready, FeedDone};
 
 use crate::turn::Turned;
@@ -34,7 +34,7 @@ fn is_ready(st: ScriptState, offset: u64, input: usize, memory: usize) -> bool
 fn feed_ready(st: ScriptState, offset: u64, input: &[u8], lent: &mut Lent, out: &mut [u8]) -> Fed
     requires { is_ready st offset (length input.now) (length lent.old.memory.now) ≡ true }
     ensures same { SameLent lent.old lent.new }
-    ensures done { FeedDone st offset input.now lent.old.memory.now lent.new.memory.now (rings_of lent.old) (rings_of lent.new) out.old out.new result }
+    ensures done { FeedDone st offset input.now lent.old.memory.now lent.new.memory.now (lent_rings lent.old) (lent_rings lent.new) out.old out.new result }
 {
     let mut to = Writer { out, at: 0 };
     let mut t = Turned {
@@ -56,7 +56,7 @@ fn feed_ready(st: ScriptState, offset: u64, input: &[u8], lent: &mut Lent, out: 
 // if there was text, else with more bytes behind.
 pub fn feed(st: ScriptState, offset: u64, input: &[u8], lent: &mut Lent, out: &mut [u8]) -> Fed
     ensures same { SameLent lent.old lent.new }
-    ensures done { FeedDone st offset input.now lent.old.memory.now lent.new.memory.now (rings_of lent.old) (rings_of lent.new) out.old out.new result }
+    ensures done { FeedDone st offset input.now lent.old.memory.now lent.new.memory.now (lent_rings lent.old) (lent_rings lent.new) out.old out.new result }
 {
     if is_ready(st, offset, input.len(), lent.memory.len()) {
         return feed_ready(st, offset, input, lent, out);

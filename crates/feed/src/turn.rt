@@ -1,7 +1,7 @@
 // One move of the machine that a script drives: a record is run and its line put out, or the script stops.
 ghost use Rattle.std.specs.Prelude.{◌+◌, ◌≤◌, ◌≡◌, length, drop};
 ghost use Rattle.definition_script.specs.Listing.{move_of};
-ghost use Rattle.script_call.specs.Lent.{SameLent, machine_with, rings_of};
+ghost use Rattle.script_call.specs.Lent.{SameLent, machine_with, lent_rings};
 ghost use Rattle.feed.specs.Turn.{LIMIT, next_of, StepMay, StepDone, StopDone, TurnMay, TurnDone};
 
 use definition_script::{Decoded, ScriptState};
@@ -21,7 +21,7 @@ pub struct Turned {
 fn step(st: ScriptState, tag: u8, body: &[u8], lent: &mut Lent, to: &mut Writer) -> ScriptState
     requires { StepMay st tag body.now lent.old.memory.now }
     ensures same { SameLent lent.old lent.new }
-    ensures done { StepDone (machine_with st lent.old) tag body.now lent.new.memory.now (rings_of lent.new) to.old to.new result }
+    ensures done { StepDone (machine_with st lent.old) tag body.now lent.new.memory.now (lent_rings lent.new) to.old to.new result }
 {
     let r = script_call::call::call(st.pair, tag, body, lent);
     let memory = &mut *lent.memory;
@@ -78,7 +78,7 @@ pub(crate) fn turn(
 ) -> Turned
     requires { TurnMay st offset input.now from lent.old.memory.now }
     ensures same { SameLent lent.old lent.new }
-    ensures done { TurnDone (machine_with st lent.old) (move_of (machine_with st lent.old) (drop from input.now)) offset from lent.new.memory.now (rings_of lent.new) to.old to.new result }
+    ensures done { TurnDone (machine_with st lent.old) (move_of (machine_with st lent.old) (drop from input.now)) offset from lent.new.memory.now (lent_rings lent.new) to.old to.new result }
 {
     match next(st.ended, st.number, input, from) {
         Decoded::Cut => Turned {

@@ -1,6 +1,6 @@
 // One line of the listing.
 ghost use Rattle.std.specs.Prelude.{◌+◌, ◌≤◌, length};
-ghost use Rattle.text.specs.Writes.{Appends};
+ghost use Rattle.text.specs.Puts.{Appends};
 ghost use Rattle.definition_script.specs.Line.{number_text, hex_text, signal_text, info_text, packet_text, bytes_text, added_text, front_text, signals_text};
 ghost use Rattle.line.specs.line.LineWritten.{LineWritten};
 

@@ -2,7 +2,7 @@
 ghost use Rattle.std.specs.Prelude.{◌≤◌, length};
 ghost use Rattle.definition_script.specs.Listing.{start_state, start_machine};
 ghost use Rattle.listing.specs.listing.Ran.{Ran, RanLent};
-ghost use Rattle.script_call.specs.Lent.{SameLent, machine_with, rings_of};
+ghost use Rattle.script_call.specs.Lent.{SameLent, machine_with, lent_rings};
 
 use script_call::lent::Lent;
 
@@ -11,7 +11,7 @@ fn run_on(script: &[u8], lent: &mut Lent, out: &mut [u8]) -> usize
     requires { length lent.old.memory.now ≤ 4096 }
     ensures same { SameLent lent.old lent.new }
     ensures text { Ran (machine_with start_state lent.old) script.now result out.old out.new }
-    ensures left { RanLent (length out.old) (machine_with start_state lent.old) script.now lent.new.memory.now (rings_of lent.new) }
+    ensures left { RanLent (length out.old) (machine_with start_state lent.old) script.now lent.new.memory.now (lent_rings lent.new) }
 {
     let n = crate::script::header(out);
     let f = feed::feed(feed::state::start(), 0, script, lent, &mut out[n..]);

@@ -1,7 +1,7 @@
 // What the program `replay` prints of its tally, put as text into a lent slice.
 ghost use Rattle.std.specs.Prelude.{◌+◌, length};
 ghost use Rattle.text.specs.Put.{Written};
-ghost use Rattle.text.specs.Writes.{Appends, Writes};
+ghost use Rattle.text.specs.Puts.{Appends, Puts};
 ghost use Rattle.report.specs.report.Report.{REPORT, numbered_text, entry_text, first_text, cut_text, full_text, counts_text, report_text};
 
 use crate::tally::{Miss, MissedEntry, Tally};
@@ -65,7 +65,7 @@ fn counts(to: &mut Writer, agree: u64, total: u64)
 
 // The whole report. It asks for the room of the name and of 190 bytes, the most that the rest takes; with less it puts nothing.
 fn whole(to: &mut Writer, t: Tally, name: &[u8], cut: bool, full: bool)
-    ensures { Writes (length name.now + REPORT) (report_text t name.now cut full) to.old to.new }
+    ensures { Puts (length name.now + REPORT) (report_text t name.now cut full) to.old to.new }
 {
     if to.has_room(name.len() + 190) {
         first(to, t.first, name);

@@ -7,12 +7,12 @@ use Rattle.definition_script.specs.Call.{Rings, rings}
 use Rattle.definition_script.specs.Listing.{Machine, machine}
 
 -- the rings and the tables
-abbrev pub rings_of : Lent → Rings
-rings_of l = rings l.ring_one.now l.table_one.now l.ring_two.now l.table_two.now
+abbrev pub lent_rings : Lent → Rings
+lent_rings l = rings l.ring_one.now l.table_one.now l.ring_two.now l.table_two.now
 
 -- the machine that a script drives which stands so
 abbrev pub machine_with : ScriptState → Lent → Machine
-machine_with st l = machine st l.memory.now (rings_of l)
+machine_with st l = machine st l.memory.now (lent_rings l)
 
 -- the same slice, as long as before
 pub record SameSlice (s s' : MutBor (List ℕ)) : Type 0 where

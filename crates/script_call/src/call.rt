@@ -5,7 +5,7 @@ ghost use Rattle.definition_script.specs.Record.{is_body};
 ghost use Rattle.definition_script.specs.Tag.{tag_number};
 ghost use Rattle.script_call.specs.call.CallDone.{CallDone};
 ghost use Rattle.script_call.specs.call.CallMade.{CallMade};
-ghost use Rattle.script_call.specs.Lent.{rings_of, SameLent};
+ghost use Rattle.script_call.specs.Lent.{lent_rings, SameLent};
 
 use crate::fill::{BASE, fill};
 use crate::lent::Lent;
@@ -31,7 +31,7 @@ fn buffer_of(t: TransferBody) -> Buffer
 // say what is left in either.
 fn write(p: Pair, t: TransferBody, lent: &mut Lent) -> Step
     ensures same { SameLent lent.old lent.new }
-    ensures made { CallDone (write_call lent.old.memory.now (rings_of lent.old) p t) lent.new.memory.now (rings_of lent.new) result }
+    ensures made { CallDone (write_call lent.old.memory.now (lent_rings lent.old) p t) lent.new.memory.now (lent_rings lent.new) result }
 {
     let memory = &mut *lent.memory;
     if t.handle == 1 {
@@ -47,7 +47,7 @@ fn write(p: Pair, t: TransferBody, lent: &mut Lent) -> Step
 // A read is lent the ring and the table of its own end. Its count does not land yet.
 fn read(p: Pair, t: TransferBody, lent: &mut Lent) -> Step
     ensures same { SameLent lent.old lent.new }
-    ensures made { CallDone (read_call lent.old.memory.now (rings_of lent.old) p t) lent.new.memory.now (rings_of lent.new) result }
+    ensures made { CallDone (read_call lent.old.memory.now (lent_rings lent.old) p t) lent.new.memory.now (lent_rings lent.new) result }
 {
     let memory = &mut *lent.memory;
     if t.handle == 1 {
@@ -64,7 +64,7 @@ fn read(p: Pair, t: TransferBody, lent: &mut Lent) -> Step
 fn fill_step(p: Pair, body: &[u8], lent: &mut Lent) -> Step
     requires { is_body 11 (length body.now) ≡ true }
     ensures same { SameLent lent.old lent.new }
-    ensures made { CallDone (call_of lent.old.memory.now (rings_of lent.old) p 11 body.now) lent.new.memory.now (rings_of lent.new) result }
+    ensures made { CallDone (call_of lent.old.memory.now (lent_rings lent.old) p 11 body.now) lent.new.memory.now (lent_rings lent.new) result }
 {
     let memory = &mut *lent.memory;
     let answer = fill(memory, body);
@@ -75,7 +75,7 @@ fn fill_step(p: Pair, body: &[u8], lent: &mut Lent) -> Step
 fn make(p: Pair, tag: Tag, body: &[u8], lent: &mut Lent) -> Step
     requires { is_body (tag_number tag) (length body.now) ≡ true }
     ensures same { SameLent lent.old lent.new }
-    ensures made { CallDone (call_of lent.old.memory.now (rings_of lent.old) p (tag_number tag) body.now) lent.new.memory.now (rings_of lent.new) result }
+    ensures made { CallDone (call_of lent.old.memory.now (lent_rings lent.old) p (tag_number tag) body.now) lent.new.memory.now (lent_rings lent.new) result }
 {
     match tag {
         Tag::Create => plain_call::create(body, lent),
@@ -98,7 +98,7 @@ fn make(p: Pair, tag: Tag, body: &[u8], lent: &mut Lent) -> Step
 // right for the tag no call is made.
 pub fn call(p: Pair, tag: u8, body: &[u8], lent: &mut Lent) -> Step
     ensures same { SameLent lent.old lent.new }
-    ensures made { CallMade lent.old.memory.now (rings_of lent.old) p tag body.now lent.new.memory.now (rings_of lent.new) result }
+    ensures made { CallMade lent.old.memory.now (lent_rings lent.old) p tag body.now lent.new.memory.now (lent_rings lent.new) result }
 {
     match Tag::try_from(tag) {
         Ok(tag) if takes(tag, body.len()) => make(p, tag, body, lent),

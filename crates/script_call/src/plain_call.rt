@@ -1,7 +1,7 @@
 // The call that a record makes where it changes neither memory nor a ring: every call but write, read and fill.
 ghost use Rattle.std.specs.Prelude.{◌≡◌};
 ghost use Rattle.definition_script.specs.Call.{create_step, disposition_step, shutdown_step, read_threshold_step, write_threshold_step, info_step, close_step, wait_step, take_step, cancel_step};
-ghost use Rattle.script_call.specs.Lent.{rings_of};
+ghost use Rattle.script_call.specs.Lent.{lent_rings};
 
 use crate::lent::Lent;
 use crate::record::fields;
@@ -9,7 +9,7 @@ use definition::{Pair, Step};
 use socket::SocketPair;
 
 pub(crate) fn create(body: &[u8], lent: &Lent) -> Step
-    ensures { result ≡ create_step (rings_of lent.now) body.now }
+    ensures { result ≡ create_step (lent_rings lent.now) body.now }
 {
     let kind = fields::u32_at(body, 0);
     let capacity = fields::u32_at(body, 4);
@@ -65,7 +65,7 @@ pub(crate) fn set_write_threshold(p: Pair, body: &[u8]) -> Step
 
 // Info is lent the table of its own end.
 pub(crate) fn get_info(p: Pair, body: &[u8], lent: &Lent) -> Step
-    ensures { result ≡ info_step (rings_of lent.now) p body.now }
+    ensures { result ≡ info_step (lent_rings lent.now) p body.now }
 {
     let handle = fields::u32_at(body, 0);
     let table: &[u32] = match handle {

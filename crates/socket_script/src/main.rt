@@ -5,7 +5,7 @@ ghost use Rattle.std.specs.Prelude.{◌≤◌, ◌≡◌, length, take};
 ghost use Rattle.std.specs.Io.{ReadsAtMost};
 ghost use Rattle.definition_script.specs.Call.{written_at};
 ghost use Rattle.definition_script.specs.Listing.{header, closing};
-ghost use Rattle.script_call.specs.Lent.{SameLent, rings_of};
+ghost use Rattle.script_call.specs.Lent.{SameLent, lent_rings};
 ghost use Rattle.buffer.specs.blocks.Drain.{ReadIn, DrainMay, held, Drained};
 ghost use Rattle.buffer.specs.blocks.BlocksRun.{RunMay, RunDone};
 
@@ -73,7 +73,7 @@ fn drain(
 ) -> Progress
     requires { DrainMay p buffer.old lent.old.memory.now out.old }
     ensures same { SameLent lent.old lent.new }
-    ensures done { Drained (held p buffer.old lent.old.memory.now (rings_of lent.old) out.old) (held result buffer.new lent.new.memory.now (rings_of lent.new) out.new) }
+    ensures done { Drained (held p buffer.old lent.old.memory.now (lent_rings lent.old) out.old) (held result buffer.new lent.new.memory.now (lent_rings lent.new) out.new) }
 {
     let mut q = p;
     loop {
@@ -107,9 +107,9 @@ fn finish(rt: &HostRuntime, p: Progress, buffer: &[u8], out: &mut [u8], failed: 
 
 // The whole script, from the header to the end of the input.
 fn run(rt: &HostRuntime, lent: &mut Lent, buffer: &mut [u8], out: &mut [u8], failed: &mut bool)
-    requires { RunMay lent.old.memory.now (rings_of lent.old) buffer.old out.old }
+    requires { RunMay lent.old.memory.now (lent_rings lent.old) buffer.old out.old }
     ensures same { SameLent lent.old lent.new }
-    ensures done { RunDone lent.old.memory.now (rings_of lent.old) buffer.old out.old lent.new.memory.now (rings_of lent.new) buffer.new out.new }
+    ensures done { RunDone lent.old.memory.now (lent_rings lent.old) buffer.old out.old lent.new.memory.now (lent_rings lent.new) buffer.new out.new }
 {
     let mut p = buffer::buffer::first();
     begin(rt, out, failed);

@@ -6,7 +6,7 @@ use mathlib.Core.List.{List, [], ◌++◌}
 use lib.ListN.{length}
 use Rattle.text.specs.declared.Writer.{Writer}
 use Rattle.text.specs.Put.{Put, Written}
-use Rattle.text.specs.Writes.{Appends, Writes}
+use Rattle.text.specs.Puts.{Appends, Puts}
 use Rattle.text.proofs.Place.{seq, up_to, nothing, same}
 
 -- one method, then another
@@ -26,14 +26,14 @@ pub appends_same : {k : ℕ} {xs : List ℕ} {w w' : Writer} (ys : List ℕ) →
 appends_same ys e p = record { fit = same ys e p.fit; same_slice = p.same_slice }
 
 -- a method that had room
-pub writes : {k : ℕ} {xs : List ℕ} {w w' : Writer} → w.at + k ≤ length w.out.now → Appends k xs w w' → Writes k xs w w'
+pub writes : {k : ℕ} {xs : List ℕ} {w w' : Writer} → w.at + k ≤ length w.out.now → Appends k xs w w' → Puts k xs w w'
 writes h p = record { appends = p; kept = λ g. absurd (let z : ⊥ = omega arith in z) }
 
 -- a text that was put where it had room
 pub writes_put : {k : ℕ} {xs : List ℕ} {w w' : Writer} → w.at + k ≤ length w.out.now → Put k w.at xs w'.at w.out.now w'.out.now
-    → w'.out.ghost_name ≡ w.out.ghost_name → Writes k xs w w'
+    → w'.out.ghost_name ≡ w.out.ghost_name → Puts k xs w w'
 writes_put h p e = writes h (record { fit = record { put = λ g. p }; same_slice = e })
 
 -- what a method says, of the lists and the places alone
-pub written : {k : ℕ} {xs : List ℕ} {w w' : Writer} → Writes k xs w w' → Written k w.at xs w'.at w.out.now w'.out.now
+pub written : {k : ℕ} {xs : List ℕ} {w w' : Writer} → Puts k xs w w' → Written k w.at xs w'.at w.out.now w'.out.now
 written p = record { fit = p.appends.fit; kept = p.kept }

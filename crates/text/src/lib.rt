@@ -5,7 +5,7 @@
 ghost use Rattle.std.specs.Prelude.{◌+◌, ◌*◌, ◌≤◌, ◌<◌, ◌≡◌, [], ◌∷◌, length};
 ghost use Rattle.definition_script.specs.Call.{written_at};
 ghost use Rattle.text.specs.Put.{Room};
-ghost use Rattle.text.specs.Writes.{Writes, Appends};
+ghost use Rattle.text.specs.Puts.{Puts, Appends};
 ghost use Rattle.definition_script.specs.Line.{digit_of, digits_of, width_of, decimal_of, hex_of, hex_bytes_of, signed_of, word_of, stop_of};
 
 use definition::Answer;
@@ -47,7 +47,7 @@ impl Writer<'_> {
     }
 
     pub fn byte(&mut self, b: u8)
-        ensures { Writes 1 (b ∷ []) self.old self.new }
+        ensures { Puts 1 (b ∷ []) self.old self.new }
     {
         if self.has_room(1) {
             self.out[self.at] = b;
@@ -57,7 +57,7 @@ impl Writer<'_> {
 
     // Bytes as they are.
     pub fn copy(&mut self, src: &[u8])
-        ensures { Writes (length src.now) src.now self.old self.new }
+        ensures { Puts (length src.now) src.now self.old self.new }
     {
         if self.has_room(src.len()) {
             let end = self.at + src.len();
@@ -69,7 +69,7 @@ impl Writer<'_> {
     // The last k digits of a number in a base.
     fn digits(&mut self, base: u64, k: usize, n: u64)
         requires { (0 < base) × (base ≤ 16) }
-        ensures { Writes k (digits_of base k n []) self.old self.new }
+        ensures { Puts k (digits_of base k n []) self.old self.new }
     {
         if self.has_room(k) {
             let mut rest = n;
@@ -83,7 +83,7 @@ impl Writer<'_> {
 
     // A number in decimal. It asks for the room of the longest.
     pub fn decimal(&mut self, n: u64)
-        ensures { Writes 20 (decimal_of n) self.old self.new }
+        ensures { Puts 20 (decimal_of n) self.old self.new }
     {
         if self.has_room(20) {
             self.digits(10, width(n), n);
@@ -93,14 +93,14 @@ impl Writer<'_> {
     // The last k hexadecimal digits of a number, in lower case.
     #[tactic(auto, unfolding(definition_script::specs::Line::hex_of))]
     pub fn hex(&mut self, k: usize, n: u64)
-        ensures { Writes k (hex_of k n) self.old self.new }
+        ensures { Puts k (hex_of k n) self.old self.new }
     {
         self.digits(16, k, n);
     }
 
     // Bytes, two hexadecimal digits each.
     pub fn hex_bytes(&mut self, src: &[u8])
-        ensures { Writes (2 * length src.now) (hex_bytes_of src.now) self.old self.new }
+        ensures { Puts (2 * length src.now) (hex_bytes_of src.now) self.old self.new }
     {
         if self.has_room(2 * src.len()) {
             for b in src {
@@ -111,7 +111,7 @@ impl Writer<'_> {
 
     // A signed number in decimal.
     fn signed(&mut self, n: i64)
-        ensures { Writes 21 (signed_of n) self.old self.new }
+        ensures { Puts 21 (signed_of n) self.old self.new }
     {
         if self.has_room(21) {
             if n < 0 {
@@ -124,14 +124,14 @@ impl Writer<'_> {
     // An answer's word: the count, or the status with its sign.
     #[tactic(auto, unfolding(definition_script::specs::Line::word_of))]
     pub fn word(&mut self, a: Answer)
-        ensures { Writes 21 (word_of a) self.old self.new }
+        ensures { Puts 21 (word_of a) self.old self.new }
     {
         self.signed(endpoint::answer::word(a));
     }
 
     // The line that ends a script at a byte.
     pub fn stop(&mut self, n: u64)
-        ensures { Writes 26 (stop_of n) self.old self.new }
+        ensures { Puts 26 (stop_of n) self.old self.new }
     {
         if self.has_room(26) {
             self.copy(b"stop ");

@@ -11,7 +11,7 @@ use lib.ListN.{length}
 use Rattle.definition.specs.Status.{Answer}
 use Rattle.definition.specs.Signal.{SignalWord}
 use Rattle.text.specs.declared.Writer.{Writer}
-use Rattle.text.specs.Writes.{Writes}
+use Rattle.text.specs.Puts.{Puts}
 use Rattle.definition_script.specs.Line.{hex_bytes_of, bytes_text, line_of}
 use Rattle.line.specs.line.LineDone.{LINE}
 use Rattle.line.specs.line.LineWritten.{LineWritten}
@@ -29,7 +29,7 @@ bytes-some (b ∷ bs) h = refl
 
 -- a line that was put, or for which there was no room
 pub line_written : {number : ℕ} {a : Answer} {one two : SignalWord} {bs : List ℕ} {w w' : Writer} → length bs ≤ 4096
-    → Writes LINE (line_of number a one two bs) w w' → LineWritten number a one two bs w w'
+    → Puts LINE (line_of number a one two bs) w w' → LineWritten number a one two bs w w'
 line_written h p =
     record {
       done = record { put = λ g. record { fit = p.appends.fit; kept = p.kept }; none = λ g. absurd (let z : ⊥ = omega arith in z) };

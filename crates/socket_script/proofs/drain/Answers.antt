@@ -1,6 +1,6 @@
 -- Each call of `advance` leaves less to do and takes bytes, but the last, after which no move is left.
 use Rattle.std.proofs.Common.{rules, arith, ◌≤◌, length, take, refl, ◌∙◌}
-use Rattle.script_call.specs.Lent.{machine_with, rings_of}
+use Rattle.script_call.specs.Lent.{machine_with, lent_rings}
 use Rattle.buffer.specs.blocks.Drain.{held, none, more}
 use Rattle.buffer.proofs.blocks.Drains.{stands, onwards, ends, drained}
 use Rattle.socket_script.proofs.drain.Goals as goal
@@ -21,12 +21,12 @@ loop-q-preserved c =
     let s = take a.p.used a.buffer.now in
     let used : l.q.used ≤ length l.buffer = omega (arith, i.0.within, i.1.used, i.2) in
     let size : length l.lent.memory.now ≤ 4096 = omega (arith, i.1.size, i.3.memory.size) in (
-      onwards a.p m s l.q l.buffer n.buffer l.lent.memory.now n.lent.memory.now (rings_of l.lent) (rings_of n.lent) l.out n.out k.result i.0 k.ensures.done used i.1.total size,
+      onwards a.p m s l.q l.buffer n.buffer l.lent.memory.now n.lent.memory.now (lent_rings l.lent) (lent_rings n.lent) l.out n.out k.result i.0 k.ensures.done used i.1.total size,
       i.1,
       k.auto.buffer ∙ i.2,
       search rules,
       k.auto.out ∙ i.4,
-      more {z = held k.result n.buffer n.lent.memory.now (rings_of n.lent) n.out} i.5 k.ensures.done c.if-q-used.false,
+      more {z = held k.result n.buffer n.lent.memory.now (lent_rings n.lent) n.out} i.5 k.ensures.done c.if-q-used.false,
     )
 
 pub returns-clause-done : goal.returns-clause-done
@@ -41,8 +41,8 @@ returns-clause-done c =
     let used : l.q.used ≤ length l.buffer = omega (arith, i.0.within, i.1.used, i.2) in
     let size : length l.lent.memory.now ≤ 4096 = omega (arith, i.1.size, i.3.memory.size) in
     let room : 8254 ≤ length l.out = omega (arith, i.1.room, i.4) in
-    drained (held a.p a.buffer.now a.lent.now.memory.now (rings_of a.lent.now) a.out.now) (held k.result n.buffer n.lent.memory.now (rings_of n.lent) n.out)
-    (held l.q l.buffer l.lent.memory.now (rings_of l.lent) l.out, i.5, k.ensures.done, c.if-q-used.true)
-    (onwards a.p m s l.q l.buffer n.buffer l.lent.memory.now n.lent.memory.now (rings_of l.lent) (rings_of n.lent) l.out n.out k.result i.0 k.ensures.done used i.1.total size)
-    (ends a.p m s l.q l.buffer n.buffer l.lent.memory.now n.lent.memory.now (rings_of l.lent) (rings_of n.lent) l.out n.out k.result i.0 k.ensures.done used i.1.total size room
+    drained (held a.p a.buffer.now a.lent.now.memory.now (lent_rings a.lent.now) a.out.now) (held k.result n.buffer n.lent.memory.now (lent_rings n.lent) n.out)
+    (held l.q l.buffer l.lent.memory.now (lent_rings l.lent) l.out, i.5, k.ensures.done, c.if-q-used.true)
+    (onwards a.p m s l.q l.buffer n.buffer l.lent.memory.now n.lent.memory.now (lent_rings l.lent) (lent_rings n.lent) l.out n.out k.result i.0 k.ensures.done used i.1.total size)
+    (ends a.p m s l.q l.buffer n.buffer l.lent.memory.now n.lent.memory.now (lent_rings l.lent) (lent_rings n.lent) l.out n.out k.result i.0 k.ensures.done used i.1.total size room
     c.if-q-used.true)

@@ -1,7 +1,7 @@
 -- The header is made, then each block that is read is fed, and what the loop stops at makes the whole a run.
 use Rattle.std.proofs.Common.{rules, arith, ◌≡◌, ◌≤◌, ◌<◌, ◌+◌, ◌-◌, ℕ, refl, sym, ap, ◌∙◌}
 use Rattle.feed.specs.Turn.{LIMIT}
-use Rattle.script_call.specs.Lent.{rings_of}
+use Rattle.script_call.specs.Lent.{lent_rings}
 use Rattle.definition_script.specs.Listing.{start_state}
 use Rattle.buffer.specs.declared.buffer.Progress.{Progress}
 use Rattle.buffer.specs.blocks.Drain.{held}
@@ -62,7 +62,7 @@ loop-buffer-preserved c =
     let d = c.drain-p.ensures.done in
     let a = c.drain-p.auto in
     let n = c.drain-p.new in
-    let z = held c.drain-p.result n.buffer n.lent.memory.now (rings_of n.lent) n.out in
+    let z = held c.drain-p.result n.buffer n.lent.memory.now (lent_rings n.lent) n.out in
     let on = sym c.reads_on.ensures ∙ c.loop-buffer-test.true in
     let below = reads_below _ _ on in (
       omega (arith, d.within, r.within, i.3),
@@ -80,7 +80,7 @@ returns-clause-done c =
     let l = c.loop-buffer in
     let i = l.invariant in
     let b = begun c.args.out.now c.first-p.ensures c.begin.ensures i.7 in
-    let last = held l.p l.buffer l.lent.memory.now (rings_of l.lent) l.out in
+    let last = held l.p l.buffer l.lent.memory.now (lent_rings l.lent) l.out in
     let s : Stops last c.loop-buffer-test.buffer =
     elim c.loop-buffer-test.branch [
       | else-loop-buffer-test w ↦ stops-reading (sym c.reads_on.ensures ∙ w.loop-buffer-test.false) w.buffer-is

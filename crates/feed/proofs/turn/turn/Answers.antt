@@ -1,7 +1,7 @@
 use lib.ListN.{take, drop}
 use native.Mathlib.Omega.{arith}
 use Rattle.feed.proofs.Turns.{body_at, record-within, record-body, next-cut, next-bad, next-whole, turn_stay, turn_stop, turn_step}
-use Rattle.script_call.specs.Lent.{machine_with, rings_of}
+use Rattle.script_call.specs.Lent.{machine_with, lent_rings}
 use Rattle.definition_script.specs.Listing.{move_of}
 use Rattle.feed.proofs.turn.turn.Goals as goal
 
@@ -40,5 +40,5 @@ returns-in-Whole-clause-done c =
     let m = machine_with a.st a.lent.now in
     let s = drop a.from a.input.now in
     let k = c.step-state in
-    turn_step m (move_of m s) a.offset a.from a.to.now c.in-Whole.tag c.in-Whole.n _ (take c.in-Whole.n (drop 3 s)) k.new.lent.memory.now (rings_of k.new.lent) k.new.to k.result
+    turn_step m (move_of m s) a.offset a.from a.to.now c.in-Whole.tag c.in-Whole.n _ (take c.in-Whole.n (drop 3 s)) k.new.lent.memory.now (lent_rings k.new.lent) k.new.to k.result
     (next-whole m s c.next.result c.next.ensures c.in-Whole.tag c.in-Whole.n c.in-Whole.is).1 (body_at a.from c.in-Whole.n a.input.now) k.ensures.done

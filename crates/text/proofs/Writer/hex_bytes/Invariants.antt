@@ -1,7 +1,7 @@
 use Prim.Native.Nat.{◌*◌}
 use lib.ListN.{take}
 use Rattle.definition_script.specs.Line.{hex_bytes_of}
-use Rattle.text.specs.Writes.{Appends}
+use Rattle.text.specs.Puts.{Appends}
 use Rattle.text.proofs.Writer.hex_bytes.Given as goal
 
 abbrev pub invariant-loop-b : goal.invariant-loop-b

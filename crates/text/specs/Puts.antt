@@ -9,6 +9,6 @@ pub record Appends (k : ℕ) (xs : List ℕ) (w w' : Writer) : Type 0 where
   pub same_slice : w'.out.ghost_name ≡ w.out.ghost_name
 
 -- with room for k bytes it puts xs, else it puts nothing and leaves the place
-pub record Writes (k : ℕ) (xs : List ℕ) (w w' : Writer) : Type 0 where
+pub record Puts (k : ℕ) (xs : List ℕ) (w w' : Writer) : Type 0 where
   pub appends : Appends k xs w w'
   pub kept : length w.out.now < w.at + k → (w'.at ≡ w.at) × (w'.out.now ≡ w.out.now)
