@@ -3,7 +3,6 @@
 #![tactic(auto)]
 
 ghost use Rattle.std.specs.Prelude.{◌+◌, ◌*◌, ◌≤◌, ◌<◌, ◌≡◌, [], ◌∷◌, length};
-ghost use Rattle.definition_script.specs.Call.{written_at};
 ghost use Rattle.text.specs.Put.{Room};
 ghost use Rattle.text.specs.Puts.{Puts, Appends};
 ghost use Rattle.definition_script.specs.Line.{digit_of, digits_of, width_of, decimal_of, hex_of, hex_bytes_of, signed_of, word_of, stop_of};
