@@ -95,7 +95,7 @@ pub struct Endpoint {
 // What an end shows: its signal word; none once it is closed.
 pub type SignalWord = Option<u32>;
 
-// What a disposition does to one end's writing. The Rust has an `Option<bool>`.
+// What a disposition does to one end's writing. The Rust has an `Option<bool>`, whose three cases have names here.
 #[derive(Clone, Copy)]
 pub enum Disposition {
     Unchanged,

@@ -185,7 +185,7 @@ fn enables_over(d: Disposition, backlog: bool) -> bool
     enables(d) && backlog
 }
 
-// Both checks of a disposition, which come before any change.
+// Both checks of a disposition, which come before any change. The ends come one by one, as the definition `dispose_checks` takes them.
 pub fn dispose_checks(
     own: Endpoint,
     peer: Endpoint,

@@ -63,7 +63,7 @@ pub fn is_only_packet(packets: usize, waits: usize) -> bool
     packets == 1 && waits == 0
 }
 
-// The number of an end in a place.
+// The number of an end in a place: C's record holds 1, 2 or 0, so it is a number and no enum.
 pub fn end_number(one: bool) -> u64
     ensures { result ≡ end_number one }
 {

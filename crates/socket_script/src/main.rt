@@ -76,6 +76,7 @@ fn drain(
     ensures done { Drained (held p buffer.old lent.old.memory.now (lent_rings lent.old) out.old) (held result buffer.new lent.new.memory.now (lent_rings lent.new) out.new) }
 {
     let mut q = p;
+    // A step tells by what is left in use whether it was the last, so the test stands behind it: a `while` would have to be told before the first.
     loop {
         let used = q.used;
         q = buffer::buffer::advance(q, buffer, lent, out);

@@ -28,7 +28,7 @@ pub fn changed_end(e: Endpoint, a: Pending) -> Endpoint
     endpoint::end::with_signals(e, changed(a.word, a.clear, a.set))
 }
 
-// The two ends after a call with two changes.
+// The two ends after a call with two changes. The ends come one by one, here and in `first_only`: a `Moved` is made of them.
 pub fn with_visits(own: Endpoint, peer: Endpoint, first: Pending, second: Pending) -> Moved
     ensures { result ≡ record { own = own; peer = peer; visits = record { first = first; second = second } } }
 {

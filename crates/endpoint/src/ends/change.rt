@@ -53,7 +53,7 @@ pub fn put_back(waits: usize, one: bool, answer: Answer, moved: Moved, more: Vis
     }
 }
 
-// A call that changes no end.
+// A call that changes no end. The ends come one by one, as the definition `kept_ends` takes them.
 pub fn kept_ends(own: Endpoint, peer: Endpoint) -> Moved
     ensures { result ≡ kept_ends own peer }
 {
