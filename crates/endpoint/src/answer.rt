@@ -6,7 +6,7 @@ ghost use Rattle.definition.specs.Status.{answer_word, count_of, status_number};
 use definition::{Answer, Record, Status};
 
 // A status' number without its sign.
-pub fn status_number(s: Status) -> u64
+fn status_number(s: Status) -> u64
     ensures { result ≡ status_number s }
 {
     s as u64

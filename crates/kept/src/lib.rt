@@ -4,7 +4,7 @@
 definition::specs::Status::pick, definition::specs::Status::is_done,
 // the next pair of a call
 socket::specs::Deferred::closed_waits, socket::specs::Deferred::settled_step, socket::specs::Deferred::taken_pair,
-// and more of them
+// continued
 socket::specs::Deferred::registered_pair, socket::specs::Deferred::with_ends,
 // what this crate says by itself
 crate::specs::transferred::Transferred::transferred_pair))]

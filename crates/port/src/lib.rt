@@ -4,17 +4,17 @@
 #![tactic(auto, using(endpoint::proofs::answer::Rules::chain), unfolding(
 // the definitions of a call
 definition::specs::Status::pick, definition::specs::Status::refuse_unless, definition::specs::Signal::meets, definition::specs::Port::end_number,
-// and more of them
+// continued
 definition::specs::Port::new_places, definition::specs::Port::matches, definition::specs::Port::fires, definition::specs::Port::any,
-// and more of them
+// continued
 definition::specs::Port::any_fires, definition::specs::Port::fires_of, definition::specs::Port::observe, definition::specs::Port::packets_of,
-// and more of them
+// continued
 definition::specs::Port::packet_of, definition::specs::Port::refused, definition::specs::Port::take_of,
 // what this crate says by itself
 crate::specs::places::Table::unused, crate::specs::places::Table::only_wait, crate::specs::places::Table::only_packet,
-// and more of them
+// continued
 crate::specs::visits::Visits::changes_of, crate::specs::visits::Visits::due, crate::specs::visits::Visits::visited,
-// and more of them
+// continued
 crate::specs::visits::Visits::visited_each))]
 
 pub mod cancel;

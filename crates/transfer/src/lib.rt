@@ -3,19 +3,19 @@
 #![tactic(auto, unfolding(
 // the definitions of a call
 definition::specs::Status::pick, definition::specs::Status::is_done, definition::specs::Write::fed_queue, definition::specs::Write::write_effect,
-// and more of them
+// continued
 definition::specs::Read::leaving, definition::specs::Read::drained_queue, definition::specs::Read::read_effect,
-// and more of them
+// continued
 definition::specs::Effect::keeping_waits, definition::specs::Effect::if_open, definition::specs::Pair::with_queue,
 // both ends, and the changes of their words
 endpoint::specs::ends::AtOnce::moved_by, endpoint::specs::ends::AtOnce::own_after, endpoint::specs::ends::AtOnce::peer_after,
-// and more of them
+// continued
 endpoint::specs::ends::AtOnce::own_changed, endpoint::specs::ends::AtOnce::peer_changed, endpoint::specs::ends::AtOnce::visits_of,
-// and more of them
+// continued
 endpoint::specs::ends::AtOnce::visit_of, endpoint::specs::ends::AtOnce::first_two,
 // what this crate says by itself
 crate::specs::change::Changes::kept_transfer, crate::specs::change::Changes::transfer_outcome, crate::specs::write::WriteChange::fed_effect,
-// and more of them
+// continued
 crate::specs::write::WriteChange::wrote_by, crate::specs::read::ReadChange::drained_effect, crate::specs::read::ReadChange::read_by))]
 
 pub mod change;

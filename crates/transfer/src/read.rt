@@ -149,7 +149,7 @@ fn drained_moved(p: Ends, one: bool, x: Exchange) -> Moved
     }
 }
 
-// The outcome of a read that changes this.
+// The outcome of a read that gives this.
 pub fn read_outcome(p: Ends, handle: u32, t: Transfer) -> EndsOutcome
     ensures { result ≡ read_by p handle t }
 {

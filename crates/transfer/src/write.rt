@@ -116,7 +116,7 @@ fn fed_moved(p: Ends, one: bool, x: Exchange) -> Moved
     }
 }
 
-// The outcome of a write that changes this.
+// The outcome of a write that gives this.
 pub fn write_outcome(p: Ends, handle: u32, t: Transfer) -> EndsOutcome
     ensures { result ≡ wrote_by p handle t }
 {

@@ -1,7 +1,7 @@
 // The answers of the calls over user memory that move no bytes, disposition and shutdown: their tests in their order, over both ends of a pair. With
 // the lookup of a handle and its right, and the buffer of a write or read. After zircon-syscall's socket.rs.
 ghost use Rattle.std.specs.Prelude.{◌≡◌};
-ghost use Rattle.definition.specs.Disposition.{user_dispose_answer};
+ghost use Rattle.definition.specs.Disposition.{disposition_of, user_dispose_answer};
 ghost use Rattle.definition.specs.Shutdown.{user_shutdown_answer};
 ghost use Rattle.definition.specs.Memory.{lookup};
 ghost use Rattle.definition.specs.Memory;
@@ -37,6 +37,13 @@ pub fn lookup(p: Ends, handle: u32, right: u16) -> Answer
         return Err(Status::AccessDenied);
     }
     Ok(Record::Empty)
+}
+
+// What a number asks for an end's writing. A number above 2 asks for nothing: each call by numbers refuses it.
+pub fn disposition_of(n: u32) -> Disposition
+    ensures { result ≡ disposition_of n }
+{
+    Disposition::try_from(n).unwrap_or(Disposition::Unchanged)
 }
 
 // The tests of a disposition: both numbers come before the lookup.

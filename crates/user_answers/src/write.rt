@@ -15,9 +15,7 @@ use definition::{Answer, Ends, Status};
 fn write_ranges(b: Buffer, size: usize, a: Answer) -> Answer
     ensures { result ≡ write_ranges b.base size b.address b.count_at a }
 {
-    if a.is_err() {
-        return a;
-    }
+    a?;
     let m = endpoint::answer::count_of(a) as u64;
     if !crate::memory::fits(b.base, size, b.address, m) {
         return Err(Status::InvalidArgs);

@@ -1,5 +1,0 @@
-use Rattle.socket.proofs.Steps.{steps-same}
-use Rattle.socket.proofs.SocketPair.get_rx_tx_threshold.Goals as goal
-
-pub returns : goal.returns
-returns c = steps-same _ _ _ (rw c.ends_of.ensures.ends at c.thresholds_answer.ensures)
