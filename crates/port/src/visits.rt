@@ -9,7 +9,7 @@ use definition::Places;
 use endpoint::ends::{EndsOutcome, Pending};
 use endpoint::signal::changed;
 
-// Whether a change fires a wait. The table is only read. The first test returns by itself: behind `&&` the table that is handed on is copied once more.
+// Whether a change fires a wait. The table is only read.
 fn is_due(t: Places, a: Pending) -> bool
     ensures { result ≡ due a t }
 {
@@ -48,8 +48,8 @@ pub fn visited(t: Places, a: Pending) -> Places
     places
 }
 
-// Visits the waits of all changes of a call, in a table whose only place used is a wait. Any other table stays as it is. The four stand one by one:
-// in a loop the table is copied once more.
+// Visits the waits of all changes of a call, in a table whose only place used is a wait. Any other table
+// stays as it is.
 pub fn visited_alone(t: Places, r: EndsOutcome) -> Places
     ensures { result ≡ pick (only_wait t) (visited_each r t) t }
 {

@@ -13,8 +13,8 @@ ghost use Rattle.socket.specs.Step.{inner_step};
 use crate::{SocketPair, SocketStep, parts};
 use definition::{Answer, Pair, Record, Status, Step};
 
-// The answer of a cancel, by that of the first tests and by how many waits and packets were removed. The refusal is tested and not left by `?`, with which
-// the compiler makes the table's copies three times, once for each way out.
+// The answer of a cancel, by that of the first tests and by how many waits and packets
+// were removed.
 fn cancel_answer(opened: Answer, removed: u32) -> Answer
     ensures { result ≡ (opened then refuse_if (eqb removed 0) NotFound then Ok (Count removed)) }
 {

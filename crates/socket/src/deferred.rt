@@ -17,8 +17,8 @@ pub fn has_only_wait(p: Pair) -> bool
     port::places::is_only_wait(p.places.packets, p.places.waits)
 }
 
-// Whether the waits are to be visited: where one fires, and where the only place used is a wait, which is as quickly visited as asked. The tests return
-// one by one: behind `&&` and `||` the table that is handed on is copied once more.
+// Whether the waits are to be visited: where one fires, and where the only place used is a wait, which is as quickly
+// visited as asked.
 // The second clause says of the pair what a caller that keeps it behind a reference cannot read off it.
 pub fn needs_visit(p: Pair, r: EndsOutcome) -> bool
     ensures needed { result ≡ needs_visit r p.places }

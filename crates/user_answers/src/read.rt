@@ -20,7 +20,7 @@ fn has_read_options(options: u32) -> bool
     options == 0 || options == SOCKET_PEEK
 }
 
-// The tests of a read or peek over user memory of `size` bytes. Each range returns by itself, so that the second is not looked at where the first fails.
+// The tests of a read or peek over user memory of `size` bytes.
 // The range of all the bytes asked for is tested, also where fewer are queued.
 pub fn read_answer(
     p: Ends,

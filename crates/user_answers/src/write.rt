@@ -9,8 +9,8 @@ use answers::tests::{slices_test, sound_test};
 use answers::write_size::write_size;
 use definition::{Answer, Ends, Status};
 
-// The range of the bytes that a write of this size takes, then the count's. It is inlined, so that the size's answer is not stored to be read again,
-// and each range returns by itself, so that the second is not looked at where the first fails.
+// The range of the bytes that a write of this size takes, then the count's. It is inlined, so that the size's answer
+// is not stored to be read again.
 #[inline(always)]
 fn write_ranges(b: Buffer, size: usize, a: Answer) -> Answer
     ensures { result ≡ write_ranges b.base size b.address b.count_at a }
