@@ -54,6 +54,11 @@ place-cons at v ys l h =
 pub place-one : (at v : ℕ) (l : List ℕ) → at < length l → set l at v ≡ written_at at (v ∷ []) l
 place-one at v l h = ap (λ (z : List ℕ). set z at v) (sym (place_none (suc at) l)) ∙ place-cons at v [] l (omega arith)
 
+-- one byte stored behind a text
+pub place-snoc : (at v : ℕ) (xs l : List ℕ) → at + length xs < length l → set (written_at at xs l) (at + length xs) v ≡ written_at at (xs ++ (v ∷ [])) l
+place-snoc at v xs l h =
+    place-one (at + length xs) v (written_at at xs l) (rw (place-length at xs l (omega arith)) h) ∙ place-place at xs (v ∷ []) l (omega arith)
+
 -- a text copied over a part of a list that is as long
 pub place-mid : (at k : ℕ) (xs ys l : List ℕ) → k ≡ length xs → ys ≡ xs → put_mid at k l ys ≡ written_at at xs l
 unfolding written_at

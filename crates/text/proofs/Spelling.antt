@@ -6,9 +6,9 @@ use Rattle.std.specs.Prelude.{max}
 use native.Mathlib.Nat.{pow-succ', one-le-pow, le-mul_of_pos_right, mul_assoc}
 use mathlib.Core.Path.{◌≡◌, refl, sym, ap, ◌∙◌}
 use mathlib.Core.Bool.{Bool, true, false}
-use mathlib.Core.List.{List, [], ◌∷◌, ◌++◌}
-use lib.ListN.{length, take, get_or, set}
-use lib.Seq.{take-suc}
+use mathlib.Core.List.{List, [], ◌∷◌, ◌++◌, append_assoc}
+use lib.ListN.{length, take, get_or, set, length-append}
+use lib.Seq.{take-suc, length-take-le}
 use lib.Dec.{ltb}
 use borrow.Author.Tests.{lt-ltb, le-ltb, ltb-true}
 use Rattle.definition.specs.Status.{pick}
@@ -16,8 +16,8 @@ use Rattle.definition_script.specs.Call.{written_at}
 use Rattle.std.proofs.lemmas.Bool.{false≢true}
 use lib.IntN.{ℤ, pos, negsuc, nat_abs}
 use lib.Signed.{lt_z}
-use Rattle.definition_script.specs.Line.{digit_of, digits_of, width_by, width_of, decimal_of, hex_of, hex_bytes_of, signed_of}
-use Rattle.text.proofs.Place.{place_none, place-cons}
+use Rattle.definition_script.specs.Line.{digit_of, digits_of, width_by, width_of, decimal_of, hex_bytes_of, signed_of}
+use Rattle.text.proofs.Place.{place_none, place-cons, place-snoc}
 
 -- what the loop still does to a list, with i digits of n left to be put from a place on
 pub back : (base at i n : ℕ) → List ℕ → List ℕ
@@ -96,15 +96,27 @@ unfolding hex_bytes_of
 hex_bytes-append [] ys = refl
 hex_bytes-append (x ∷ xs) ys = ap (λ (z : List ℕ). digit_of (x / 16) ∷ digit_of (x % 16) ∷ z) (hex_bytes-append xs ys)
 
--- a byte more, in two digits
-pub hex_bytes_more : (i : ℕ) (bs : List ℕ) → i < length bs → get_or bs i 0 < 256 → hex_bytes_of (take i bs) ++ hex_of 2 (get_or bs i 0) ≡ hex_bytes_of (take (i + 1) bs)
-unfolding hex_bytes_of hex_of digits_of
-hex_bytes_more i bs h g =
-    let b : ℕ = get_or bs i 0 in
-    let e : b / 16 % 16 ≡ b / 16 = omega arith in
-    ap (λ (x : ℕ). hex_bytes_of (take i bs) ++ (digit_of x ∷ digit_of (b % 16) ∷ [])) e
-    ∙ sym (hex_bytes-append (take i bs) (b ∷ []))
-    ∙ ap hex_bytes_of (sym (rw add-one (take-suc bs i 0 h)))
+-- a turn of the loop that puts two digits for a byte
+pub hex_bytes_turn : (at i to : ℕ) (src l : List ℕ) → i < length src → at + 2 * length src ≤ length l → to ≡ at + 2 * i
+    → set (set (written_at at (hex_bytes_of (take i src)) l) to (digit_of (get_or src i 0 / 16))) (to + 1) (digit_of (get_or src i 0 % 16))
+    ≡ written_at at (hex_bytes_of (take (i + 1) src)) l
+unfolding hex_bytes_of
+hex_bytes_turn at i to src l h g e =
+    let b : ℕ = get_or src i 0 in
+    let x : List ℕ = hex_bytes_of (take i src) in
+    let u : ℕ = digit_of (b / 16) in
+    let v : ℕ = digit_of (b % 16) in
+    let lx : length x ≡ 2 * i = hex_bytes-length (take i src) ∙ ap (λ (k : ℕ). 2 * k) (length-take-le i src (omega arith)) in
+    let y : List ℕ = x ++ (u ∷ []) in
+    let ly : length y ≡ 2 * i + 1 = length-append x (u ∷ []) ∙ (omega arith) in
+    let e₁ : to ≡ at + length x = omega arith in
+    let e₂ : to + 1 ≡ at + length y = omega arith in
+    let t : take (i + 1) src ≡ take i src ++ (b ∷ []) = rw add-one (take-suc src i 0 h) in
+    ap (λ (k : ℕ). set (set (written_at at x l) k u) (to + 1) v) e₁
+    ∙ ap (λ (z : List ℕ). set z (to + 1) v) (place-snoc at u x l (omega arith))
+    ∙ ap (λ (k : ℕ). set (written_at at y l) k v) e₂
+    ∙ place-snoc at v y l (omega arith)
+    ∙ ap (λ (z : List ℕ). written_at at z l) (append_assoc x (u ∷ []) (v ∷ []) ∙ sym (ap hex_bytes_of t ∙ hex_bytes-append (take i src) (b ∷ [])))
 
 -- a number below zero has a minus sign before its magnitude, another number has none
 pub signed_below : (z y : ℤ) (m : ℕ) → y ≡ z → lt_z y (pos 0) ≡ true → m ≡ nat_abs y → 45 ∷ decimal_of m ≡ signed_of z

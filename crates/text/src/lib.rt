@@ -3,11 +3,19 @@
 #![tactic(auto)]
 
 ghost use Rattle.std.specs.Prelude.{◌+◌, ◌*◌, ◌≤◌, ◌<◌, ◌≡◌, [], ◌∷◌, length};
+ghost use Rattle.definition_script.specs.Call.{written_at};
 ghost use Rattle.text.specs.Put.{Room};
 ghost use Rattle.text.specs.Puts.{Puts, Appends};
 ghost use Rattle.definition_script.specs.Line.{digit_of, digits_of, width_of, decimal_of, hex_of, hex_bytes_of, signed_of, word_of, stop_of};
 
 use definition::Answer;
+
+// Whether k bytes have room at a place of a slice that is so long.
+pub fn has_room(len: usize, at: usize, k: usize) -> bool
+    ensures { Room len at k result }
+{
+    k <= len && at <= len - k
+}
 
 #[tactic(auto, unfolding(definition::specs::Status::pick, definition_script::specs::Line::digit_of))]
 fn digit(d: u64) -> u8
@@ -29,6 +37,20 @@ fn width(n: u64) -> usize
     n.max(1).ilog10() as usize + 1
 }
 
+// Puts two digits for each byte. The slice and the place are no writer here, so that a turn tests no room and stores no place: over a writer's methods a
+// byte takes twelve times as many instructions.
+fn put_hex_bytes(out: &mut [u8], at: usize, src: &[u8])
+    requires { at + 2 * length src.now ≤ length out.old }
+    ensures { out.new ≡ written_at at (hex_bytes_of src.now) out.old }
+{
+    for i in 0..src.len() {
+        let b = src[i] as u64;
+        let to = at + 2 * i;
+        out[to] = digit(b / 16);
+        out[to + 1] = digit(b % 16);
+    }
+}
+
 // A lent slice, and the place in it where the next text goes.
 #[derive(Drop)]
 pub struct Writer<'a> {
@@ -41,8 +63,7 @@ impl Writer<'_> {
     pub fn has_room(&self, k: usize) -> bool
         ensures { Room (length self.now.out.now) self.now.at k result }
     {
-        let len = self.out.len();
-        k <= len && self.at <= len - k
+        has_room(self.out.len(), self.at, k)
     }
 
     pub fn byte(&mut self, b: u8)
@@ -102,9 +123,8 @@ impl Writer<'_> {
         ensures { Puts (2 * length src.now) (hex_bytes_of src.now) self.old self.new }
     {
         if self.has_room(2 * src.len()) {
-            for b in src {
-                self.hex(2, *b as u64);
-            }
+            put_hex_bytes(self.out, self.at, src);
+            self.at += 2 * src.len();
         }
     }
 
