@@ -22,7 +22,7 @@ pub fn wrote(p: &mut Pair, handle: u32, t: Transfer) -> i64
 {
     let e = ends_of(*p);
     match t.change {
-        Some(x) if is_write_without_visit(e, handle, x) => {
+        Some(x) if is_write_without_visit(e, handle, t) => {
             *p = with_write(*p, handle, x);
             endpoint::answer::word(t.answer)
         }
@@ -37,7 +37,7 @@ pub fn read(p: &mut Pair, handle: u32, t: Transfer) -> i64
 {
     let e = ends_of(*p);
     match t.change {
-        Some(x) if is_read_without_visit(e, handle, x) => {
+        Some(x) if is_read_without_visit(e, handle, t) => {
             *p = with_read(*p, handle, x);
             endpoint::answer::word(t.answer)
         }

@@ -16,7 +16,9 @@ endpoint::specs::ends::AtOnce::visit_of, endpoint::specs::ends::AtOnce::first_tw
 // what this crate says by itself
 crate::specs::change::Changes::kept_transfer, crate::specs::change::Changes::transfer_outcome, crate::specs::write::WriteChange::fed_effect,
 // continued
-crate::specs::write::WriteChange::wrote_by, crate::specs::read::ReadChange::drained_effect, crate::specs::read::ReadChange::read_by))]
+crate::specs::write::WriteChange::wrote_by, crate::specs::write::WriteChange::write_visits_none,
+// continued
+crate::specs::read::ReadChange::drained_effect, crate::specs::read::ReadChange::read_by, crate::specs::read::ReadChange::read_visits_none))]
 
 pub mod change;
 pub mod read;

@@ -1,14 +1,12 @@
 // Read and peek over both ends of a pair: the bytes go from the ring to the caller, and the waits are visited later.
 // After `Socket::read` of ipc/socket.rs.
-ghost use Rattle.std.specs.Prelude.{◌≡◌, not, ◌≤◌, ◌<◌, length};
+ghost use Rattle.std.specs.Prelude.{◌≡◌, ◌≤◌, ◌<◌, length};
 ghost use Rattle.std.proofs.Math.Seq.{paste};
-ghost use Rattle.definition.specs.Status.{◌and◌};
 ghost use Rattle.definition.specs.Ring.{front};
-ghost use Rattle.definition.specs.Pair.{is_one, own, peer};
+ghost use Rattle.definition.specs.Pair.{own, peer};
 ghost use Rattle.definition.specs.Read.{read_effect, leaving, drained_queue};
 ghost use Rattle.endpoint.specs.ends.AtOnce.{moved_by};
-ghost use Rattle.endpoint.specs.ends.Outcome.{can_fire};
-ghost use Rattle.transfer.specs.read.ReadChange.{drained_effect, read_by, DrainChanges, Drain, Read};
+ghost use Rattle.transfer.specs.read.ReadChange.{drained_effect, read_by, read_visits_none, DrainChanges, Drain, Read};
 
 use crate::change::{Exchange, Transfer, kept};
 use answers::read::read_answer;
@@ -161,14 +159,16 @@ pub fn read_outcome(p: Ends, handle: u32, t: Transfer) -> EndsOutcome
     endpoint::ends::put_back(p.waits, one, t.answer, moved, endpoint::ends::no_visits())
 }
 
-// Whether the peer is open, and no wait can fire by a read that changes this.
-pub fn is_read_without_visit(p: Ends, handle: u32, x: Exchange) -> bool
-    ensures { result ≡ (not (peer (is_one handle) p).closed
-        and not (can_fire p.waits (moved_by (is_one handle) (drained_effect (own (is_one handle) p) (peer (is_one handle) p) x)).visits)) }
+// Whether a read that gives this changes something, its peer is open, and no wait can fire by it.
+pub fn is_read_without_visit(p: Ends, handle: u32, t: Transfer) -> bool
+    ensures { result ≡ read_visits_none p handle t.change }
 {
     let one = handle == 1;
-    if endpoint::ends::peer(p, one).closed {
-        return false;
+    match t.change {
+        None => false,
+        Some(x) => {
+            !endpoint::ends::peer(p, one).closed
+                && !endpoint::ends::can_fire(p.waits, drained_visits(p, one, x))
+        }
     }
-    !endpoint::ends::can_fire(p.waits, drained_visits(p, one, x))
 }

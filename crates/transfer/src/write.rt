@@ -1,11 +1,10 @@
 // Write over both ends of a pair: the bytes go from the caller into the peer's ring, and the waits are visited later.
 // After `Socket::write` of ipc/socket.rs.
-ghost use Rattle.std.specs.Prelude.{◌≡◌, true, not, ◌+◌, ◌≤◌, ◌<◌, ◌^◌};
-ghost use Rattle.definition.specs.Pair.{is_one, own, peer};
+ghost use Rattle.std.specs.Prelude.{◌≡◌, true, ◌+◌, ◌≤◌, ◌<◌, ◌^◌};
+ghost use Rattle.definition.specs.Pair.{own, peer};
 ghost use Rattle.definition.specs.Write.{write_effect, fed_queue, ring_fed, table_fed};
 ghost use Rattle.endpoint.specs.ends.AtOnce.{moved_by};
-ghost use Rattle.endpoint.specs.ends.Outcome.{can_fire};
-ghost use Rattle.transfer.specs.write.WriteChange.{fed_effect, wrote_by, Feed, Wrote};
+ghost use Rattle.transfer.specs.write.WriteChange.{fed_effect, wrote_by, write_visits_none, Feed, Wrote};
 
 use crate::change::{Exchange, Transfer, kept};
 use answers::write::write_answer;
@@ -128,9 +127,12 @@ pub fn write_outcome(p: Ends, handle: u32, t: Transfer) -> EndsOutcome
     endpoint::ends::put_back(p.waits, one, t.answer, moved, endpoint::ends::no_visits())
 }
 
-// Whether no wait can fire by a write that changes this.
-pub fn is_write_without_visit(p: Ends, handle: u32, x: Exchange) -> bool
-    ensures { result ≡ not (can_fire p.waits (moved_by (is_one handle) (fed_effect (own (is_one handle) p) (peer (is_one handle) p) x)).visits) }
+// Whether a write that gives this changes something, and no wait can fire by it.
+pub fn is_write_without_visit(p: Ends, handle: u32, t: Transfer) -> bool
+    ensures { result ≡ write_visits_none p handle t.change }
 {
-    !endpoint::ends::can_fire(p.waits, fed_visits(p, handle == 1, x))
+    match t.change {
+        None => false,
+        Some(x) => !endpoint::ends::can_fire(p.waits, fed_visits(p, handle == 1, x)),
+    }
 }

@@ -1,17 +1,19 @@
 -- How the code goes: a read by what it changes, the queue and the bits of the two words, which are put into the two ends later. What it does is in
 -- crates/definition/specs/Read. 01 "Delivered bytes", read.
-use Rattle.std.specs.Prelude.{ℕ, ◌≤◌, ◌<◌, Bool, true, ◌≡◌, List, [], ◌∷◌, eqb, length}
+use Rattle.std.specs.Prelude.{ℕ, ◌≤◌, ◌<◌, Bool, true, false, not, ◌≡◌, List, [], ◌∷◌, Some, None, eqb, length}
 use Rattle.definition.specs.declared.Endpoint.{Endpoint}
 use Rattle.definition.specs.declared.Ends.{Ends}
 use Rattle.definition.specs.declared.Queue.{Queue}
 use Rattle.definition.specs.Effect.{Effect, own_word, peer_word, if_open, keeping_waits}
 use Rattle.definition.specs.Pair.{own, peer, is_one, with_queue}
 use Rattle.definition.specs.Read.{read_effect, leaving, read_answer, buffer_read}
-use Rattle.definition.specs.Status.{◌or◌, count_of}
+use Rattle.definition.specs.Status.{◌and◌, ◌or◌, count_of}
 use Rattle.definition.specs.Tests.{first_length, lent_of}
 use Rattle.std.specs.Option.{option_map}
 use Rattle.std.specs.declared.option.Option.{Option}
 use Rattle.endpoint.specs.declared.ends.EndsOutcome.{EndsOutcome}
+use Rattle.endpoint.specs.ends.AtOnce.{moved_by}
+use Rattle.endpoint.specs.ends.Outcome.{can_fire}
 use Rattle.transfer.specs.declared.change.Exchange.{Exchange}
 use Rattle.transfer.specs.declared.change.Transfer.{Transfer}
 use Rattle.transfer.specs.change.Changes.{transfer_outcome, Changes}
@@ -23,6 +25,13 @@ drained_effect own peer x = keeping_waits (with_queue x.queue own) peer (own_wor
 -- the outcome of a read by the end of handle h that gives t
 unfoldable pub read_by : Ends → (h : ℕ) → Transfer → EndsOutcome
 read_by e h t = transfer_outcome e h t.answer (option_map (drained_effect (own (is_one h) e) (peer (is_one h) e)) t.change)
+
+-- whether a read by the end of handle h changes something, c, its peer is open, and no wait can fire by it
+unfoldable pub read_visits_none : Ends → (h : ℕ) → (c : Option Exchange) → Bool
+read_visits_none e h None = false
+read_visits_none e h (Some x) =
+    not (peer (is_one h) e).closed
+    and not (can_fire e.waits (moved_by (is_one h) (drained_effect (own (is_one h) e) (peer (is_one h) e) x)).visits)
 
 -- c is what a read or peek by end `own` that delivered k bytes changes; first is the first queued length
 abbrev pub DrainChanges : (datagram : Bool) → (C : ℕ) → (own peer : Endpoint) → (peek : Bool) → (first k : ℕ) → (c : Option Exchange) → Type 0

@@ -1,6 +1,6 @@
 -- How the code goes: a write by what it changes, the queue and the bits of the two words, which are put into the two ends later. What it does is in
 -- crates/definition/specs/Write. 01 "Delivered bytes", write.
-use Rattle.std.specs.Prelude.{ℕ, ◌+◌, ◌≤◌, ◌<◌, Bool, true, ◌≡◌, List, [], ◌∷◌, eqb, length}
+use Rattle.std.specs.Prelude.{ℕ, ◌+◌, ◌≤◌, ◌<◌, Bool, true, false, not, ◌≡◌, List, [], ◌∷◌, Some, None, eqb, length}
 use Rattle.definition.specs.declared.Endpoint.{Endpoint}
 use Rattle.definition.specs.declared.Ends.{Ends}
 use Rattle.definition.specs.declared.Queue.{Queue}
@@ -12,6 +12,8 @@ use Rattle.definition.specs.Write.{write_effect, write_answer, ring_written, tab
 use Rattle.std.specs.Option.{option_map}
 use Rattle.std.specs.declared.option.Option.{Option}
 use Rattle.endpoint.specs.declared.ends.EndsOutcome.{EndsOutcome}
+use Rattle.endpoint.specs.ends.AtOnce.{moved_by}
+use Rattle.endpoint.specs.ends.Outcome.{can_fire}
 use Rattle.transfer.specs.declared.change.Exchange.{Exchange}
 use Rattle.transfer.specs.declared.change.Transfer.{Transfer}
 use Rattle.transfer.specs.change.Changes.{transfer_outcome, Changes}
@@ -23,6 +25,11 @@ fed_effect own peer x = keeping_waits own (with_queue x.queue peer) (peer_word 0
 -- the outcome of a write by the end of handle h that gives t
 unfoldable pub wrote_by : Ends → (h : ℕ) → Transfer → EndsOutcome
 wrote_by e h t = transfer_outcome e h t.answer (option_map (fed_effect (own (is_one h) e) (peer (is_one h) e)) t.change)
+
+-- whether a write by the end of handle h changes something, c, and no wait can fire by it
+unfoldable pub write_visits_none : Ends → (h : ℕ) → (c : Option Exchange) → Bool
+write_visits_none e h None = false
+write_visits_none e h (Some x) = not (can_fire e.waits (moved_by (is_one h) (fed_effect (own (is_one h) e) (peer (is_one h) e) x)).visits)
 
 -- c is what a write of m bytes by end `own` changes
 abbrev pub FeedChanges : (datagram : Bool) → (C : ℕ) → (own peer : Endpoint) → (m : ℕ) → (c : Option Exchange) → Type 0

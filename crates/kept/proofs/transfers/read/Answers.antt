@@ -5,15 +5,16 @@ use mir.Val.{to_z, of_z}
 use Rattle.definition.specs.Status.{answer_word}
 use Rattle.endpoint.proofs.answer.Rules.{via}
 use Rattle.kept.specs.transferred.Transferred.{read_without_visit}
+use Rattle.transfer.specs.read.ReadChange.{read_visits_none}
 use Rattle.kept.proofs.transferred.NoVisit.{no_visit-read}
 use Rattle.kept.proofs.transfers.Stored.{read_answer}
 use Rattle.kept.proofs.transfers.read.Goals as goal
 
 pub returns-in-Some : goal.returns-in-Some
-unfolding read_without_visit
+unfolding read_without_visit read_visits_none
 returns-in-Some c =
     let a = c.args in
-    let test = rw c.ends_of-e.ensures.ends at c.is_read_without_visit.ensures in
+    let test = rw (c.ends_of-e.ensures.ends, c.in-Some.is) at c.is_read_without_visit.ensures in
     (search rules, no_visit-read a.handle a.t c.in-Some.x a.p.now _ c.in-Some.is (via test c.if-is_read_without_visit.true) c.with_read.ensures)
 
 pub returns-in_default : goal.returns-in_default

@@ -5,15 +5,16 @@ use mir.Val.{to_z, of_z}
 use Rattle.definition.specs.Status.{answer_word}
 use Rattle.endpoint.proofs.answer.Rules.{via}
 use Rattle.kept.specs.transferred.Transferred.{write_without_visit}
+use Rattle.transfer.specs.write.WriteChange.{write_visits_none}
 use Rattle.kept.proofs.transferred.NoVisit.{no_visit-wrote}
 use Rattle.kept.proofs.transfers.Stored.{wrote-answer}
 use Rattle.kept.proofs.transfers.wrote.Goals as goal
 
 pub returns-in-Some : goal.returns-in-Some
-unfolding write_without_visit
+unfolding write_without_visit write_visits_none
 returns-in-Some c =
     let a = c.args in
-    let test = rw c.ends_of-e.ensures.ends at c.is_write_without_visit.ensures in
+    let test = rw (c.ends_of-e.ensures.ends, c.in-Some.is) at c.is_write_without_visit.ensures in
     (search rules, no_visit-wrote a.handle a.t c.in-Some.x a.p.now _ c.in-Some.is (via test c.if-is_write_without_visit.true) c.with_write.ensures)
 
 pub returns-in_default : goal.returns-in_default
