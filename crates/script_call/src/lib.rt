@@ -5,5 +5,5 @@ pub mod call;
 pub mod delivered;
 pub mod fill;
 pub mod lent;
-mod plain_call;
+pub mod plain_call;
 pub mod record;

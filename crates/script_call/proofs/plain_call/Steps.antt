@@ -1,16 +1,17 @@
 -- What a call that changes neither memory nor a ring says is what its definition says. Assumes nothing.
-use Prim.Native.Nat.{ℕ}
+use Prim.Native.Nat.{ℕ, ◌≤◌}
+use native.Mathlib.Omega.{arith}
 use mathlib.Core.Path.{◌≡◌, ap, ◌∙◌}
 use mathlib.Core.Bool.{Bool, true, false}
 use mathlib.Core.List.{List}
-use borrow.Author.Tests.{eq-eqb, ne_eqb}
+use borrow.Author.Tests.{le-ltb, eq-eqb, ne_eqb}
 use Rattle.definition.specs.Status.{Answer}
 use Rattle.definition.specs.Status.{pick, is_done}
 use Rattle.definition.specs.declared.Pair.{Pair}
 use Rattle.definition.specs.declared.Step.{Step}
 use Rattle.definition.specs.Pair.{is_one}
 use Rattle.definition.specs.Tests.{Steps}
-use Rattle.definition_script.specs.Call.{Rings, rings, own_ring, own_table, peer_ring, peer_table, with_peer_rings, step_of}
+use Rattle.definition_script.specs.Call.{Rings, rings, own_ring, own_table, peer_ring, peer_table, with_peer_rings, step_of, cancel_step, control_step}
 
 abbrev pub mk : Pair → Answer → Step
 mk p a = record { pair = p; answer = a }
@@ -71,3 +72,11 @@ module _ (z : Rings) (h : ℕ) where
   pub with_peer-two : (ring table : List ℕ) → (h ≡ 1 → ⊥) → with_peer_rings (is_one h) ring table z ≡ rings ring table z.ring2 z.table2
   unfolding with_peer_rings
   with_peer-two ring table e = ap (λ (b : Bool). with_peer_rings b ring table z) (two_is h e)
+
+-- ---- by the tag
+
+pub cancel-tag : (z : Rings) (p : Pair) (tag : ℕ) (b : List ℕ) (r : Step) → 11 ≤ tag → r ≡ cancel_step p b → r ≡ control_step z p tag b
+unfolding control_step pick
+cancel-tag z p tag b r h e =
+    simp (le-ltb tag 1 (omega arith), le-ltb tag 4 (omega arith), le-ltb tag 5 (omega arith), le-ltb tag 6 (omega arith), le-ltb tag 7 (omega arith), le-ltb tag 8 (omega arith), le-ltb tag 9 (omega arith), le-ltb tag 10 (omega arith), le-ltb tag 11 h)
+    e

@@ -1,7 +1,7 @@
 use mathlib.Core.Path.{◌∙◌}
 use Rattle.definition_script.specs.Call.{create_step}
 use Rattle.script_call.proofs.plain_call.Steps.{steps_are}
-use Rattle.script_call.proofs.plain_call.create.Goals as goal
+use Rattle.script_call.proofs.plain_call.create_over.Goals as goal
 
 pub returns : goal.returns
 unfolding create_step
