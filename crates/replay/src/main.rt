@@ -67,17 +67,29 @@ fn replay(rt: &HostRuntime, input: &[u8], used: usize, out: &mut [u8])
     tell_failed_write(rt, rt.write_all(&out[..n]).is_ok());
 }
 
-// The contract gives only the length, which lending the array needs.
+// Each contract gives only the length, which lending the array needs.
 fn buffer<const N: usize>() -> [u8; N]
     ensures { N ≡ length result }
 {
     [0; N]
 }
 
-// The output has 190 bytes more than the input's buffer, so that a report has room whatever name from the input is in it.
+fn input_buffer() -> [u8; 1048576]
+    ensures { 1048576 ≡ length result }
+{
+    buffer()
+}
+
+// It has 190 bytes more than the input's buffer, so that a report has room whatever name from the input is in it.
+fn output_buffer() -> [u8; 1048766]
+    ensures { 1048766 ≡ length result }
+{
+    buffer()
+}
+
 fn main(rt: HostRuntime) {
-    let mut input_array = buffer::<1048576>();
-    let mut out_array = buffer::<1048766>();
+    let mut input_array = input_buffer();
+    let mut out_array = output_buffer();
     let input: &mut [u8] = &mut input_array;
     let out: &mut [u8] = &mut out_array;
     let used = read_full(&rt, input);

@@ -125,11 +125,23 @@ fn run(rt: &HostRuntime, lent: &mut Lent, buffer: &mut [u8], out: &mut [u8], fai
     finish(rt, p, buffer, out, failed);
 }
 
-// The contract gives only the length, which lending the array needs.
+// Each contract gives only the length, which lending the array needs.
 fn space<const N: usize>() -> [u8; N]
     ensures { N ≡ length result }
 {
     [0; N]
+}
+
+fn input_space() -> [u8; 131072]
+    ensures { 131072 ≡ length result }
+{
+    space()
+}
+
+fn output_space() -> [u8; 262144]
+    ensures { 262144 ≡ length result }
+{
+    space()
 }
 
 fn main(rt: HostRuntime) {
@@ -145,8 +157,8 @@ fn main(rt: HostRuntime) {
         ring_two: &mut ring_two,
         table_two: &mut table_two,
     };
-    let mut buffer = space::<131072>();
-    let mut out = space::<262144>();
+    let mut buffer = input_space();
+    let mut out = output_space();
     let mut failed = false;
     run(&rt, &mut lent, &mut buffer, &mut out, &mut failed);
 }
