@@ -143,8 +143,8 @@ pub(crate) fn cancel(p: Pair, body: &[u8]) -> Step
     q.cancel(handle, key).into()
 }
 
-// By the tag as a number, whatever the body: 0, 3 to 10, and 12. Tags 1 and 2 are taken as 3, 11 and those above 12 as 12. `call` goes by the kind of a
-// record whose body is right, which is none of these.
+// By the tag as a number, whatever the body: 0, 3 to 10, and 12. Tags 1 and 2 are taken as 3, 11 and those above 12 as 12. `call` does not go by it: for 1,
+// 2 and 11 it writes, reads and fills, and above 12 and for a body that is not right it refuses.
 pub fn plain(
     p: Pair,
     tag: u8,
