@@ -17,8 +17,8 @@ use Rattle.endpoint.specs.ends.Outcome.{no_visits, keeps_word, can_fire, any_can
 use Rattle.transfer.specs.declared.change.Exchange.{Exchange}
 use Rattle.transfer.specs.declared.change.Transfer.{Transfer}
 use Rattle.transfer.specs.change.Changes.{transfer_outcome}
-use Rattle.transfer.specs.write.WriteChange.{fed_effect, wrote_by}
-use Rattle.transfer.specs.read.ReadChange.{drained_effect, read_by}
+use Rattle.transfer.specs.write.WriteChange.{fed_effect, wrote_by, write_visits_none}
+use Rattle.transfer.specs.read.ReadChange.{drained_effect, read_by, read_visits_none}
 use Rattle.definition.specs.declared.Pair.{Pair}
 use Rattle.socket.specs.Deferred.{settled_step}
 use Rattle.kept.specs.transferred.Transferred.{transferred_pair, with_moved, wrote_pair, read_pair, write_without_visit, read_without_visit}
@@ -55,7 +55,7 @@ settled_no_visit w t a d p e = pick_off _ _ _ _ _ (none-visited w d.visits e) re
 
 pub no_visit-wrote : (h : ℕ) (t : Transfer) (x : Exchange) (p q : Pair) → t.change ≡ Some x → write_without_visit h x p ≡ true → q ≡ wrote_pair (is_one h) x p
     → q ≡ (settled_step (wrote_by (ends_of p) h t) p).pair
-unfolding wrote_pair wrote_by transfer_outcome write_without_visit
+unfolding wrote_pair wrote_by transfer_outcome write_without_visit write_visits_none
 no_visit-wrote h t x p q s e f =
     rw s
     (f
@@ -64,7 +64,7 @@ no_visit-wrote h t x p q s e f =
 
 pub no_visit-read : (h : ℕ) (t : Transfer) (x : Exchange) (p q : Pair) → t.change ≡ Some x → read_without_visit h x p ≡ true
     → q ≡ transferred_pair (is_one h) (is_one h) x p → q ≡ (settled_step (read_by (ends_of p) h t) p).pair
-unfolding read_pair read_by transfer_outcome read_without_visit
+unfolding read_pair read_by transfer_outcome read_without_visit read_visits_none
 no_visit-read h t x p q s e f =
     let w = both _ _ e in
     rw s

@@ -1,17 +1,16 @@
 -- How the code goes: what a write and a read change, put into the pair. 01 "Delivered bytes", write, read. The
 -- laws of proofs/transferred/NoVisit say that this is the pair of the call, where no wait can fire and, of a read, the peer is open.
-use Rattle.std.specs.Prelude.{ℕ, Bool, not}
+use Rattle.std.specs.Prelude.{ℕ, Bool, not, Some}
 use Rattle.transfer.specs.declared.change.Exchange.{Exchange}
 use Rattle.definition.specs.declared.Pair.{Pair}
 use Rattle.endpoint.specs.declared.ends.Moved.{Moved}
-use Rattle.definition.specs.Status.{pick, ◌and◌}
+use Rattle.definition.specs.Status.{pick}
 use Rattle.definition.specs.Signal.{changed_word}
-use Rattle.definition.specs.Pair.{with_queue, with_signals, own, peer, ends_of, is_one}
+use Rattle.definition.specs.Pair.{with_queue, with_signals, own, peer, ends_of}
 use Rattle.socket.specs.Deferred.{with_ends}
-use Rattle.transfer.specs.write.WriteChange.{fed_effect}
-use Rattle.transfer.specs.read.ReadChange.{drained_effect}
+use Rattle.transfer.specs.write.WriteChange.{fed_effect, write_visits_none}
+use Rattle.transfer.specs.read.ReadChange.{drained_effect, read_visits_none}
 use Rattle.endpoint.specs.ends.AtOnce.{moved_by}
-use Rattle.endpoint.specs.ends.Outcome.{can_fire}
 
 -- the pair after a call by end t, whose end 1 takes the queue if so asked, and else end 2
 unfoldable pub transferred_pair : (t takes : Bool) → Exchange → Pair → Pair
@@ -34,10 +33,7 @@ read_pair t x p = with_moved t (moved_by t (drained_effect (own t (ends_of p)) (
 
 -- whether no wait can fire by a write of the end of handle h that changes this; of a read also whether its peer is open
 unfoldable pub write_without_visit : (h : ℕ) → Exchange → Pair → Bool
-write_without_visit h x p =
-    not (can_fire (ends_of p).waits (moved_by (is_one h) (fed_effect (own (is_one h) (ends_of p)) (peer (is_one h) (ends_of p)) x)).visits)
+write_without_visit h x p = write_visits_none (ends_of p) h (Some x)
 
 unfoldable pub read_without_visit : (h : ℕ) → Exchange → Pair → Bool
-read_without_visit h x p =
-    not (peer (is_one h) (ends_of p)).closed
-    and not (can_fire (ends_of p).waits (moved_by (is_one h) (drained_effect (own (is_one h) (ends_of p)) (peer (is_one h) (ends_of p)) x)).visits)
+read_without_visit h x p = read_visits_none (ends_of p) h (Some x)

@@ -5,13 +5,12 @@ use mir.Val.{to_z, of_z}
 use Rattle.definition.specs.Status.{answer_word}
 use Rattle.endpoint.proofs.answer.Rules.{via}
 use Rattle.kept.specs.transferred.Transferred.{read_without_visit}
-use Rattle.transfer.specs.read.ReadChange.{read_visits_none}
 use Rattle.kept.proofs.transferred.NoVisit.{no_visit-read}
 use Rattle.kept.proofs.transfers.Stored.{read_answer}
 use Rattle.kept.proofs.transfers.read.Goals as goal
 
 pub returns-in-Some : goal.returns-in-Some
-unfolding read_without_visit read_visits_none
+unfolding read_without_visit
 returns-in-Some c =
     let a = c.args in
     let test = rw (c.ends_of-e.ensures.ends, c.in-Some.is) at c.is_read_without_visit.ensures in

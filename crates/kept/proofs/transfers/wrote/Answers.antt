@@ -5,13 +5,12 @@ use mir.Val.{to_z, of_z}
 use Rattle.definition.specs.Status.{answer_word}
 use Rattle.endpoint.proofs.answer.Rules.{via}
 use Rattle.kept.specs.transferred.Transferred.{write_without_visit}
-use Rattle.transfer.specs.write.WriteChange.{write_visits_none}
 use Rattle.kept.proofs.transferred.NoVisit.{no_visit-wrote}
 use Rattle.kept.proofs.transfers.Stored.{wrote-answer}
 use Rattle.kept.proofs.transfers.wrote.Goals as goal
 
 pub returns-in-Some : goal.returns-in-Some
-unfolding write_without_visit write_visits_none
+unfolding write_without_visit
 returns-in-Some c =
     let a = c.args in
     let test = rw (c.ends_of-e.ensures.ends, c.in-Some.is) at c.is_write_without_visit.ensures in
